@@ -1,0 +1,58 @@
+//! Where the search for a ballot number begins.
+#![tactic(auto)]
+
+ghost use Rattle.std.specs.Prelude.{◌≡◌, ℕ, ◌^◌, ◌<◌, ◌≤◌};
+ghost use Rattle.store_spec.specs.Home.{home_of, MULTIPLIER};
+ghost use Rattle.probe_order.specs.Below.{home_of-lt};
+
+/// 2 ^ 64 divided by the golden ratio, the multiplier of a Fibonacci hash.
+const MULTIPLIER: u64 = 0x9E37_79B9_7F4A_7C15;
+
+/// A home for each ballot number: the cell at which the search for it begins.
+pub trait Order {
+    /// How many homes there are.
+    ghost homes: { Self → ℕ };
+
+    /// The home of a number.
+    ghost home: { Self → ℕ → ℕ };
+
+    /// How many homes there are.
+    fn homes(&self) -> usize
+        ensures { result ≡ homes self.now };
+
+    /// The home of a number.
+    fn home(&self, v: u64) -> usize
+        ensures { result ≡ home self.now v };
+
+    /// Each number has one of the homes.
+    ghost below: { (order : Self) (v : ℕ) → v < 2 ^ 64 → home order v < homes order };
+}
+
+/// Homes spread by an election's salt: the top `bits` bits of a multiplicative hash.
+#[derive(Clone, Copy, Debug, PartialEq, Eq)]
+pub struct Salted {
+    /// How many bits a home has, at most 16.
+    pub bits: u8,
+    pub salt: u64,
+    ghost few_bits: { bits ≤ 16 },
+}
+
+impl Order for Salted {
+    ghost homes = { λ order. 2 ^ order.bits };
+
+    ghost home = { λ order v. home_of order.bits order.salt v };
+
+    ghost below = { λ order v fits. home_of-lt order.bits order.salt v order.few_bits };
+
+    fn homes(&self) -> usize {
+        1 << self.bits
+    }
+
+    fn home(&self, v: u64) -> usize {
+        if self.bits == 0 {
+            return 0;
+        }
+        let hash = (v ^ self.salt).wrapping_mul(MULTIPLIER);
+        (hash >> (64 - self.bits)) as usize
+    }
+}

@@ -1,0 +1,33 @@
+-- A cast ballot as the store keeps it, and what a store may hold.
+use Rattle.std.specs.Prelude.{◌≡◌, ◌≢◌, ℕ, ◌+◌, ◌-◌, ◌^◌, ◌<◌, ◌≤◌, ◌==◌, List, length, map, find, All, AllPairs, Option, slice_index}
+use Rattle.store_spec.specs.Election.{Election, choices_on}
+
+-- A number, a style, and the mark sets: in that of contest k bit c - 1 stands for choice c.
+-- A ballot has room for the mark sets of sixteen contests, however many the election has.
+pub record Ballot : Type 0 where
+  pub number : ℕ
+  pub style : ℕ
+  pub marks : List ℕ
+
+-- The number is not 0, the style is one of the election's, and each mark set has only choices of that contest,
+-- none where the contest is not on the style. More marks than allowed are valid: they are an overvote.
+pub record IsValid (e : Election) (b : Ballot) : Type 0 where
+  pub some_number : 1 ≤ b.number
+  pub short_number : b.number < 2 ^ 64
+  pub some_style : 1 ≤ b.style
+  pub known_style : b.style ≤ length e.styles
+  pub sixteen : length b.marks ≡ 16
+  pub marked : (k : ℕ) → 1 ≤ k → k ≤ 16 → slice_index b.marks (k - 1) < 2 ^ choices_on e b.style k
+
+abbrev pub numbers_of : List Ballot → List ℕ
+numbers_of ballots = map (λ b. b.number) ballots
+
+-- valid ballots with distinct numbers, at most as many as the limit, listed in any order
+pub record IsBallotSet (e : Election) (ballots : List Ballot) : Type 0 where
+  pub valid : All (IsValid e) ballots
+  pub distinct : AllPairs (λ a b. a.number ≢ b.number) ballots
+  pub within_limit : length ballots ≤ e.limit
+
+-- the ballot with this number, if there is one
+abbrev pub ballot_of : List Ballot → ℕ → Option Ballot
+ballot_of ballots number = find (λ b. b.number == number) ballots

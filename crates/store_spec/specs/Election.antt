@@ -1,0 +1,85 @@
+-- An election as its store sees it: contests, styles, and how the store is laid out.
+use Rattle.std.specs.Prelude.{ℕ, ◌+◌, ◌-◌, ◌*◌, ◌^◌, ◌<◌, ◌≤◌, Bool, false, if◌then◌else◌, ◌==◌, List, [], ◌∷◌, length, All, slice_get, slice_index, MatchOption, Option, Some, None}
+use Rattle.std.specs.Int.{bit_at}
+use Rattle.std.specs.Option.{option_map_or}
+
+-- how many choices a contest offers, and how many of them a voter may mark
+pub record Contest : Type 0 where
+  pub choices : ℕ
+  pub allowed : ℕ
+
+-- Contests and styles are numbered from 1. A style is a set of contests: bit k - 1 stands for contest k.
+-- The store holds up to `limit` ballots, and has 2 ^ bits homes, which the salt spreads.
+pub record Election : Type 0 where
+  pub contests : List Contest
+  pub styles : List ℕ
+  pub limit : ℕ
+  pub bits : ℕ
+  pub salt : ℕ
+
+-- ---- what is a valid election
+
+pub record IsContest (contest : Contest) : Type 0 where
+  pub some_choice : 1 ≤ contest.choices
+  pub few_choices : contest.choices ≤ 32
+  pub some_mark : 1 ≤ contest.allowed
+  pub few_marks : contest.allowed ≤ contest.choices
+
+-- a set of some of so many contests that is not empty
+pub record IsStyle (contests style : ℕ) : Type 0 where
+  pub some_contest : 1 ≤ style
+  pub of_these : style < 2 ^ contests
+
+pub record IsElection (e : Election) : Type 0 where
+  pub some_contest : 1 ≤ length e.contests
+  pub few_contests : length e.contests ≤ 16
+  pub each_contest : All IsContest e.contests
+  pub some_style : 1 ≤ length e.styles
+  pub few_styles : length e.styles ≤ 255
+  pub each_style : All (IsStyle (length e.contests)) e.styles
+  pub some_ballot : 1 ≤ e.limit
+  pub few_ballots : e.limit ≤ 32768
+  pub few_bits : e.bits ≤ 16
+  pub short_salt : e.salt < 2 ^ 64
+
+-- ---- what its numbers say
+
+-- how many choices contest k offers: none where there is no such contest
+abbrev pub choices_of : Election → ℕ → ℕ
+choices_of e k = if k == 0 then 0 else option_map_or (λ contest. contest.choices) (slice_get e.contests (k - 1)) 0
+
+-- whether contest k is on style s: not where the election lacks one of them
+abbrev pub is_on_style : Election → ℕ → ℕ → Bool
+is_on_style e s k = if s == 0 then false else if k == 0 then false else bit_at (slice_index e.styles (s - 1)) (k - 1) == 1
+
+-- how many choices a ballot of style s has in contest k: none where the contest is not on the style
+abbrev pub choices_on : Election → ℕ → ℕ → ℕ
+choices_on e s k = if is_on_style e s k then choices_of e k else 0
+
+-- ---- sizes, in cells and in bytes
+
+abbrev pub cell_count : Election → ℕ
+cell_count e = 2 ^ e.bits + e.limit
+
+-- a number, a style, and a mark set for each contest
+abbrev pub cell_size : Election → ℕ
+cell_size e = 9 + 4 * length e.contests
+
+-- a header of 32 bytes and the cells
+abbrev pub bank_size : Election → ℕ
+bank_size e = 32 + cell_count e * cell_size e
+
+-- two banks, and a gate byte for each
+abbrev pub medium_size : Election → ℕ
+medium_size e = 2 * bank_size e + 2
+
+-- ---- the example election of the documents
+
+abbrev pub example : Election
+example = record {
+  contests = record { choices = 4; allowed = 1 } ∷ record { choices = 3; allowed = 2 } ∷ [];
+  styles = 3 ∷ [];
+  limit = 8;
+  bits = 3;
+  salt = 0;
+}

@@ -1,0 +1,28 @@
+-- The bytes of a bank: a header, and the cells of the layout in order. All numbers are big-endian.
+use Rattle.std.specs.Prelude.{ℕ, List, [], ◌∷◌, ◌++◌, length, take, replicate, flat_map, codes}
+use Rattle.std.specs.Int.{to_be_bytes, w8, w16, w32, w64}
+use Rattle.std.specs.Option.{option_map_or}
+use Rattle.store_spec.specs.Ballot.{Ballot, ballot_of, numbers_of}
+use Rattle.store_spec.specs.Election.{Election, cell_count, cell_size}
+use Rattle.store_spec.specs.Home.{home_of}
+use Rattle.store_spec.specs.Layout.{layout_of}
+
+-- the mark, the version, and what of the election lays out the store
+abbrev pub header_of : Election → List ℕ
+header_of e = codes "HIBSTORE" ++ to_be_bytes w16 1 ++ to_be_bytes w8 e.bits ++ to_be_bytes w8 (length e.contests) ++ to_be_bytes w32 e.limit ++ to_be_bytes w64 e.salt ++ replicate 8 0
+
+-- a ballot in a cell: its number, its style, and the mark set of each contest
+abbrev pub ballot_bytes : Election → Ballot → List ℕ
+ballot_bytes e b = to_be_bytes w64 b.number ++ to_be_bytes w8 b.style ++ flat_map (to_be_bytes w32) (take (length e.contests) b.marks)
+
+-- the cell of the ballot with this number, or zeros where no ballot has it
+abbrev pub cell_bytes : Election → List Ballot → ℕ → List ℕ
+cell_bytes e ballots number = option_map_or (ballot_bytes e) (ballot_of ballots number) (replicate (cell_size e) 0)
+
+-- the cells of a set of ballots, each a number or 0
+abbrev pub cells_of : Election → List Ballot → List ℕ
+cells_of e ballots = layout_of (home_of e.bits e.salt) (cell_count e) (numbers_of ballots)
+
+-- the image of a set of ballots, listed in any order
+abbrev pub image_of : Election → List Ballot → List ℕ
+image_of e ballots = header_of e ++ flat_map (cell_bytes e ballots) (cells_of e ballots)

@@ -1,0 +1,34 @@
+-- Where the numbers of a set stand: linear probing by priority, which is history-independent
+-- (Blelloch and Golovin, FOCS 2007). A greater number has the higher priority, and 0 is the empty cell.
+use Rattle.std.specs.Prelude.{◌≡◌, ◌≢◌, ℕ, zero, suc, ◌<◌, ◌≤◌, nat_le, ◌==◌, if◌then◌else◌, List, [], ◌∷◌, length, replicate, slice_index}
+
+-- the numbers of a list in ascending order
+abbrev pub put_in_order : ℕ → List ℕ → List ℕ
+put_in_order v [] = v ∷ []
+put_in_order v (w ∷ ws) = if nat_le v w then v ∷ w ∷ ws else w ∷ put_in_order v ws
+
+abbrev pub ascending : List ℕ → List ℕ
+ascending [] = []
+ascending (v ∷ vs) = put_in_order v (ascending vs)
+
+-- cells after v is put into the first empty one at or after a place
+abbrev pub placed : ℕ → ℕ → List ℕ → List ℕ
+placed v place [] = []
+placed v zero (cell ∷ cells) = if cell == 0 then v ∷ cells else cell ∷ placed v zero cells
+placed v (suc place) (cell ∷ cells) = cell ∷ placed v place cells
+
+-- so many cells with these numbers, ascending, each put in after all greater ones
+abbrev pub laid_out : (ℕ → ℕ) → ℕ → List ℕ → List ℕ
+laid_out home count [] = replicate count 0
+laid_out home count (v ∷ greater) = placed v (home v) (laid_out home count greater)
+
+-- The layout of a set of numbers, listed in any order: they are taken from the greatest down, and each goes into
+-- the first empty cell at or after its home.
+abbrev pub layout_of : (ℕ → ℕ) → ℕ → List ℕ → List ℕ
+layout_of home count numbers = laid_out home count (ascending numbers)
+
+-- The ordering invariant (Shun and Blelloch, SPAA 2014): a number stands at its home or after it, and each cell
+-- from its home up to it holds a greater number.
+pub record IsOrdered (home : ℕ → ℕ) (cells : List ℕ) : Type 0 where
+  pub from_home : (place : ℕ) → slice_index cells place ≢ 0 → home (slice_index cells place) ≤ place
+  pub greater_before : (place before : ℕ) → slice_index cells place ≢ 0 → home (slice_index cells place) ≤ before → before < place → slice_index cells place < slice_index cells before

@@ -1,0 +1,10 @@
+pub mod Ballot
+pub mod BallotLine
+pub mod Build
+pub mod Election
+pub mod Fault
+pub mod Figures
+pub mod Home
+pub mod Image
+pub mod Input
+pub mod Layout
