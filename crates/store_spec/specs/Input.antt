@@ -1,5 +1,6 @@
 -- How input is cut into lines, and how much of it is taken.
-use Rattle.std.specs.Prelude.{ℕ, ◌==◌, if◌then◌else◌, List, [], ◌∷◌}
+use Rattle.std.specs.Prelude.{ℕ, ◌<◌, ◌≤◌, nat_le, ◌==◌, if◌then◌else◌, List, [], ◌∷◌, length, map, Option, Some, None}
+use Rattle.std.specs.List.{position_or_len}
 
 -- the byte at the end of a line
 abbrev pub LINE_END : ℕ
@@ -22,3 +23,19 @@ begun_with byte (line ∷ lines) = (byte ∷ line) ∷ lines
 abbrev pub lines_of : List ℕ → List (List ℕ)
 lines_of [] = []
 lines_of (byte ∷ bytes) = if byte == LINE_END then [] ∷ lines_of bytes else begun_with byte (lines_of bytes)
+
+-- how many bytes stand before the first line end, or in all where there is none
+abbrev pub first_width : List ℕ → ℕ
+first_width bytes = position_or_len (λ byte. byte == LINE_END) bytes
+
+-- a line as it is taken: its bytes, or none where it is too wide
+abbrev pub taken_line : List ℕ → Option (List ℕ)
+taken_line line = if nat_le (length line) LINE_LIMIT then Some line else None
+
+abbrev pub taken_lines : List ℕ → List (Option (List ℕ))
+taken_lines bytes = map taken_line (lines_of bytes)
+
+-- there are more bytes than so many, and the first so many hold no line end
+pub record IsTooLong (bytes : List ℕ) (room : ℕ) : Type 0 where
+  pub more : room < length bytes
+  pub no_end : room ≤ first_width bytes
