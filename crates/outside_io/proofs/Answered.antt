@@ -9,8 +9,8 @@ use Rattle.outside_io.specs.Lines.{HandsOut, LooksLike, Answers, AnswersTold, If
 use Rattle.outside_io.specs.declared.lines.NextLine.{NextLine}
 use Rattle.outside_io.specs.declared.lines.NextLine.TheVariants.{Whole, TooWide, End}
 use Rattle.outside_io.specs.Window.{Kept}
-use Rattle.outside_io.proofs.FirstLine.{first_width-le, first_width-append, first_width-more, first_width-same, lines_of-ended, lines_of-last}
-use Rattle.store_spec.specs.Input.{LINE_LIMIT, lines_of, first_width, taken_line, taken_lines, IsTooLong}
+use Rattle.outside_io.proofs.FirstLine.{first_width-le, first_width-append, first_width-more, first_width-same, lines_within-first, lines_within-none, lines_within-too_long}
+use Rattle.store_spec.specs.Input.{LINE_LIMIT, first_width, taken_line, taken_within, IsTooLong}
 
 -- ---- lines as they are taken
 
@@ -20,51 +20,23 @@ taken_line-narrow line narrow = ap (λ test. cond test (Some line) None) (le-leb
 pub taken_line-wide : (line : List ℕ) → LINE_LIMIT < length line → taken_line line ≡ None
 taken_line-wide line wide = ap (λ test. cond test (Some line) None) (lt-leb (length line) LINE_LIMIT wide)
 
-pub taken_lines-ended : (text : List ℕ) → first_width text < length text → taken_lines text ≡ taken_line (take (first_width text) text) ∷ taken_lines (drop (first_width text + 1) text)
-taken_lines-ended text ends = ap (map taken_line) (lines_of-ended text ends)
-
-pub taken_lines-last : (text : List ℕ) → first_width text ≡ length text → 0 < length text → taken_lines text ≡ taken_line text ∷ []
-taken_lines-last text none some = ap (map taken_line) (lines_of-last text none some)
-
 -- ---- texts that look alike
 
 pub looks_same : (text : List ℕ) → LooksLike text text
-looks_same text = record { lines = refl; first = refl; behind = refl; size = refl }
+looks_same text = record { width = refl; line = refl; behind = refl; size = refl }
 
 pub looks_on : (a b c : List ℕ) → LooksLike a b → LooksLike b c → LooksLike a c
 looks_on a b c ab bc = record {
-  lines = bc.lines ∙ ab.lines;
-  first = bc.first ∙ ab.first;
-  behind = ap (λ n. drop n c) (sym ab.first) ∙ bc.behind ∙ ap (λ n. drop n b) ab.first ∙ ab.behind;
+  width = bc.width ∙ ab.width;
+  line = ap (λ n. taken_line (take n c)) (sym ab.width) ∙ bc.line ∙ ap (λ n. taken_line (take n b)) ab.width ∙ ab.line;
+  behind = ap (λ n. drop n c) (sym ab.width) ∙ bc.behind ∙ ap (λ n. drop n b) ab.width ∙ ab.behind;
   size = bc.size ∙ ab.size;
 }
 
--- behind a wide front with no line end
-wide_ended : (front rest : List ℕ) → first_width front ≡ length front → LINE_LIMIT < length front → first_width rest < length rest → taken_lines (front ++ rest) ≡ None ∷ taken_lines (drop (first_width rest + 1) rest)
-wide_ended front rest none wide ends =
-    let text = front ++ rest in
-    let width = first_width-append front rest none in
-    let size = length-append front rest in
-    let place : first_width text + 1 ≡ length front + (first_width rest + 1) = omega arith in
-    let line : LINE_LIMIT < length (take (first_width text) text) = omega (arith, length-take-le (first_width text) text (omega arith)) in
-    taken_lines-ended text (omega arith) ∙ ap (λ first. first ∷ taken_lines (drop (first_width text + 1) text)) (taken_line-wide (take (first_width text) text) line)
-    ∙ ap (λ others. None ∷ taken_lines others) (ap (λ n. drop n text) place ∙ sym (drop-drop (first_width rest + 1) (length front) text) ∙ ap (λ others. drop (first_width rest + 1) others) (drop_at front rest (length front) refl))
-
-wide_last : (front rest : List ℕ) → first_width front ≡ length front → LINE_LIMIT < length front → first_width rest ≡ length rest → taken_lines (front ++ rest) ≡ None ∷ []
-wide_last front rest none wide last =
-    let text = front ++ rest in
-    let width = first_width-append front rest none in
-    let size = length-append front rest in
-    taken_lines-last text (omega arith) (omega arith) ∙ ap (λ first. first ∷ []) (taken_line-wide text (omega arith))
-
--- a wide front with no line end may be another one of its length
-wide_fronts : (a b rest : List ℕ) → first_width a ≡ length a → first_width b ≡ length b → length b ≡ length a → LINE_LIMIT < length a → taken_lines (b ++ rest) ≡ taken_lines (a ++ rest)
-wide_fronts a b rest none_a none_b same wide = elim (cases_lt (first_width rest) (length rest)) [
-  | inl ends ↦ wide_ended b rest none_b (omega arith) ends ∙ sym (wide_ended a rest none_a wide ends)
-  | inr last ↦
-      let whole : first_width rest ≡ length rest = omega (arith, first_width-le rest) in
-      wide_last b rest none_b (omega arith) whole ∙ sym (wide_last a rest none_a wide whole)
-]
+-- the first line with a wide front is too wide
+wide_line : (front rest : List ℕ) (n : ℕ) → LINE_LIMIT < length front → n ≡ length front + first_width rest → taken_line (take n (front ++ rest)) ≡ None
+wide_line front rest n wide is =
+    taken_line-wide (take n (front ++ rest)) (omega (arith, length-take n (front ++ rest), length-append front rest, first_width-le rest))
 
 behind_front : (front rest : List ℕ) (n : ℕ) → n ≡ length front + first_width rest → drop n (front ++ rest) ≡ drop (first_width rest) rest
 behind_front front rest n is =
@@ -77,9 +49,9 @@ looks_forgotten a b rest none_a none_b same narrow = elim (cases_lt LINE_LIMIT (
       let width_a = first_width-append a rest none_a in
       let width_b = first_width-append b rest none_b in
       record {
-        lines = wide_fronts a b rest none_a none_b same wide;
-        first = omega arith;
-        behind = behind_front b rest (first_width (a ++ rest)) (omega arith) ∙ sym (behind_front a rest (first_width (a ++ rest)) (omega arith));
+        width = omega arith;
+        line = wide_line b rest (first_width (a ++ rest)) (omega arith) (omega arith) ∙ sym (wide_line a rest (first_width (a ++ rest)) wide width_a);
+        behind = behind_front b rest (first_width (a ++ rest)) (omega arith) ∙ sym (behind_front a rest (first_width (a ++ rest)) width_a);
         size = omega (arith, length-append a rest, length-append b rest);
       }
   | inr few ↦
@@ -90,7 +62,7 @@ looks_forgotten a b rest none_a none_b same narrow = elim (cases_lt LINE_LIMIT (
 pub too_long_alike : (before now : List ℕ) (room : ℕ) → LooksLike before now → IsTooLong now room → IsTooLong before room
 too_long_alike before now room alike long = record {
   more = omega (arith, alike.size, long.more);
-  no_end = omega (arith, alike.first, long.no_end);
+  no_end = omega (arith, alike.width, long.no_end);
 }
 
 pub too_long_more : (text rest : List ℕ) (room : ℕ) → IsTooLong text room → IsTooLong (text ++ rest) room
@@ -145,11 +117,23 @@ still_ended (Some x) (Some y) piece gives nothing ended =
 
 -- ---- the answers
 
--- what is left of a line's end
-behind_line : (before now : List ℕ) (n : ℕ) → LooksLike before now → n ≡ first_width before + 1 → drop n now ≡ drop n before
-behind_line before now n alike is =
-    let w = first_width before in
-    ap (λ k. drop k now) is ∙ sym (drop-drop 1 w now) ∙ ap (λ rest. drop 1 rest) alike.behind ∙ drop-drop 1 w before ∙ sym (ap (λ k. drop k before) is)
+-- the first line of a text and what stands behind it, from those of a text that looks like it
+hands_alike : (line : Option (List ℕ)) (text all rest : List ℕ) (room room_left : ℕ) → LooksLike text all → 0 < length all → ¬ IsTooLong all room → taken_line (take (first_width all) all) ≡ line → rest ≡ drop (first_width all + 1) all → room + length rest ≡ room_left + length all → HandsOut line text room rest room_left
+hands_alike line text all rest room room_left alike some short taken behind counted =
+    let w = first_width text in
+    let width : first_width all + 1 ≡ w + 1 = ap (λ n. n + 1) alike.width in
+    let behind_text : rest ≡ drop (w + 1) text =
+    behind ∙ ap (λ n. drop n all) width ∙ sym (drop-drop 1 w all) ∙ ap (λ others. drop 1 others) alike.behind ∙ drop-drop 1 w text in
+    let within : ¬ IsTooLong text room = λ long. short (record { more = omega (arith, alike.size, long.more); no_end = omega (arith, alike.width, long.no_end) }) in
+    let first : taken_line (take w text) ≡ line = sym alike.line ∙ ap (λ n. taken_line (take n all)) (sym alike.width) ∙ taken in
+    let counted_text : room + length (drop (w + 1) text) ≡ room_left + length text = omega (arith, counted, alike.size, ap length behind_text) in
+    record {
+      lines = ap (map taken_line) (lines_within-first room room_left text (omega (arith, alike.size)) within counted_text)
+          ∙ ap (λ taken. taken ∷ taken_within room_left (drop (w + 1) text)) first ∙ ap (λ others. line ∷ taken_within room_left others) (sym behind_text);
+      behind = behind_text;
+      counted = omega (arith, counted, alike.size);
+      within = within;
+    }
 
 -- a line was cut off
 cut_hands : (line : Option (List ℕ)) (old now : Kept) (text left : List ℕ) (room : ℕ) → LooksLike text (old.text ++ left) → old.room ≡ room → first_width old.text < length old.text → first_width old.text < old.room → now.text ≡ drop (first_width old.text + 1) old.text → old.room ≡ now.room + (first_width old.text + 1) → taken_line (take (first_width old.text) old.text) ≡ line → HandsOut line text room (now.text ++ left) now.room
@@ -159,33 +143,22 @@ cut_hands line old now text left room alike same ends within rest counted taken 
     let width : first_width all ≡ w = first_width-same old.text left ends in
     let size = length-append old.text left in
     let behind : drop (w + 1) all ≡ now.text ++ left = drop-append-le (w + 1) old.text left (omega arith) ∙ ap (λ front. front ++ left) (sym rest) in
-    let cut : taken_lines all ≡ line ∷ taken_lines (now.text ++ left) =
-    taken_lines-ended all (omega arith)
-    ∙ ap (λ n. taken_line (take n all) ∷ taken_lines (drop (n + 1) all)) width
-    ∙ ap (λ first. taken_line first ∷ taken_lines (drop (w + 1) all)) (take-append-le w old.text left (omega arith))
-    ∙ ap (λ first. first ∷ taken_lines (drop (w + 1) all)) taken
-    ∙ ap (λ others. line ∷ taken_lines others) behind in
-    let left_size : length (now.text ++ left) + (w + 1) ≡ length all = omega (arith, ap length behind, length-drop (w + 1) all) in
-    let place : length text - length (now.text ++ left) ≡ w + 1 = omega (arith, alike.size, left_size) in
-    record {
-      lines = sym alike.lines ∙ cut;
-      behind = sym behind ∙ ap (λ n. drop n all) (sym place) ∙ behind_line text all (length text - length (now.text ++ left)) alike (omega (arith, place, alike.first, width));
-      counted = omega (arith, alike.size, left_size);
-      within = λ long. absurd (omega (arith, long.no_end, alike.first, width));
-    }
+    let first : taken_line (take (first_width all) all) ≡ line =
+    ap (λ n. taken_line (take n all)) width ∙ ap taken_line (take-append-le w old.text left (omega arith)) ∙ taken in
+    hands_alike line text all (now.text ++ left) room now.room alike (omega arith) (λ long. absurd (omega (arith, long.no_end))) first
+    (sym behind ∙ ap (λ n. drop (n + 1) all) (sym width)) (omega (arith, ap length behind, length-drop (w + 1) all))
 
 -- the last line was handed out
 last_hands : (line : Option (List ℕ)) (old now : Kept) (text : List ℕ) (room : ℕ) → LooksLike text (old.text ++ []) → old.room ≡ room → first_width old.text ≡ length old.text → length old.text ≤ old.room → 0 < length old.text → now.text ≡ [] → old.room ≡ now.room + length old.text → taken_line old.text ≡ line → HandsOut line text room (now.text ++ []) now.room
 last_hands line old now text room alike same none within some rest counted taken =
-    let all = append-nil old.text in
+    let all = old.text ++ [] in
+    let is : all ≡ old.text = append-nil old.text in
     let nothing : now.text ++ [] ≡ [] = append-nil now.text ∙ rest in
-    let size : length text ≡ length old.text = sym alike.size ∙ ap length all in
-    record {
-      lines = sym alike.lines ∙ ap taken_lines all ∙ taken_lines-last old.text none some ∙ ap (λ first. first ∷ []) taken ∙ ap (λ others. line ∷ taken_lines others) (sym nothing);
-      behind = nothing ∙ sym (drop_all (length text - length (now.text ++ [])) text (omega (arith, ap length nothing)));
-      counted = omega (arith, ap length nothing);
-      within = λ long. absurd (omega (arith, long.more));
-    }
+    let size : length all ≡ length old.text = ap length is in
+    let width : first_width all ≡ length old.text = ap first_width is ∙ none in
+    hands_alike line text all (now.text ++ []) room now.room alike (omega arith) (λ long. absurd (omega (arith, long.more)))
+    (ap taken_line (take_all (first_width all) all (omega arith) ∙ is) ∙ taken)
+    (nothing ∙ sym (drop_all (first_width all + 1) all (omega arith))) (omega (arith, ap length nothing))
 
 pub answers_line : (answer : NextLine) (old now : Kept) (text left : List ℕ) (room : ℕ) → LooksLike text (old.text ++ left) → old.room ≡ room → CutsOff answer old now → Answers (Ok answer) text room now (now.text ++ left)
 answers_line Whole old now text left room alike same cut =
@@ -202,7 +175,9 @@ answers_end TooWide old now text room alike same none within last =
     last_hands None old now text room alike same none within last.0 last.2 last.3 (taken_line-wide old.text last.1)
 answers_end End old now text room alike same none within last =
     let empty : old.text ++ [] ≡ [] = append-nil old.text ∙ last.0 in
-    (nil_from_length text (omega (arith, alike.size, ap length empty)), append-nil now.text ∙ last.1.text ∙ last.0, last.1.room ∙ same)
+    let nothing : text ≡ [] = nil_from_length text (omega (arith, alike.size, ap length empty)) in
+    let lines : taken_within room text ≡ [] = ap (λ bytes. taken_within room bytes) nothing ∙ ap (map taken_line) (lines_within-none room) in
+    (record { lines = lines; empty = nothing }, append-nil now.text ∙ last.1.text ∙ last.0, last.1.room ∙ same)
 
 pub answers_last : (answer : NextLine) (old now : Kept) (text left : List ℕ) (room : ℕ) → LooksLike text (old.text ++ left) → old.room ≡ room → first_width old.text ≡ length old.text → length old.text ≤ old.room → left ≡ [] → TakesLast answer old now → Answers (Ok answer) text room now (now.text ++ left)
 answers_last answer old now text left room alike same none within ended last =
@@ -227,7 +202,8 @@ told_too_long (Some x) (Some y) old mid now alike same long still =
     let T : List ℕ → Type 0 = λ text. IsTooLong text now.room in
     let long_now : IsTooLong mid.text now.room = subst R (sym still.room) long in
     let long_old : IsTooLong mid.text old.room = subst R same long in
-    (too_long_alike (old.text ++ x) (mid.text ++ y) old.room alike (too_long_more mid.text y old.room long_old), subst P (sym still.text) alike, subst T (sym still.text) long_now, still.room ∙ same)
+    let too_long = too_long_alike (old.text ++ x) (mid.text ++ y) old.room alike (too_long_more mid.text y old.room long_old) in
+    (record { lines = ap (map taken_line) (lines_within-too_long old.room (old.text ++ x) too_long); too_long = too_long }, subst P (sym still.text) alike, subst T (sym still.text) long_now, still.room ∙ same)
 
 pub told_last : (answer : NextLine) (before left : Option (List ℕ)) (old mid now : Kept) → IfTold before left (λ x y. LooksLike (old.text ++ x) (mid.text ++ y)) → mid.room ≡ old.room → first_width mid.text ≡ length mid.text → length mid.text ≤ mid.room → IfSome left (λ rest. rest ≡ []) → TakesLast answer mid now → AnswersTold (Ok answer) old before now left
 told_last answer None None old mid now alike same none within ended last = tt

@@ -58,7 +58,7 @@ measured a buffer width window is size found =
     let searched = window.searched in
     let rest = λ (bytes : List ℕ). take (length (slice_range bytes a.start a.end) - a.searched) (drop a.searched (slice_range bytes a.start a.end)) in
     let behind : width ≡ first_width (drop a.searched (window_of a)) =
-      found ∙ ap (λ bytes. first_width (rest bytes)) is ∙ ap first_width (take_rest (window_of a) a.searched) in
+    found ∙ ap (λ bytes. first_width (rest bytes)) is ∙ ap first_width (take_rest (window_of a) a.searched) in
     let all = searched_width (window_of a) a.searched width window.no_end (omega arith) behind in
     record {
       found = all;
@@ -76,15 +76,15 @@ behind_cut buffer skipped start end length_ n within is =
     let window = slice_range buffer start end in
     let rest : length_ + 1 + (end - (start + (length_ + 1))) ≡ end - start = omega arith in
     sym (ap (λ k. drop k (zeros ++ window)) (is ∙ omega arith)
-      ∙ sym (drop-drop (length_ + 1) skipped (zeros ++ window)) ∙ ap (λ others. drop (length_ + 1) others) (drop_at zeros window skipped (length-replicate skipped 0))
-      ∙ ap (λ k. drop (length_ + 1) (take k (drop start buffer))) (sym rest) ∙ drop-take (length_ + 1) (end - (start + (length_ + 1))) (drop start buffer)
-      ∙ ap (λ others. take (end - (start + (length_ + 1))) others) (drop-drop (length_ + 1) start buffer))
+    ∙ sym (drop-drop (length_ + 1) skipped (zeros ++ window)) ∙ ap (λ others. drop (length_ + 1) others) (drop_at zeros window skipped (length-replicate skipped 0))
+    ∙ ap (λ k. drop (length_ + 1) (take k (drop start buffer))) (sym rest) ∙ drop-take (length_ + 1) (end - (start + (length_ + 1))) (drop start buffer)
+    ∙ ap (λ others. take (end - (start + (length_ + 1))) others) (drop-drop (length_ + 1) start buffer))
 
 pub line_cut : (buffer : List ℕ) (skipped start end length_ n : ℕ) → skipped ≡ 0 → start + length_ ≤ end → n ≡ skipped + length_ → slice_range buffer start (start + length_) ≡ take n (replicate skipped 0 ++ slice_range buffer start end)
 line_cut buffer skipped start end length_ n none within is =
     let window = slice_range buffer start end in
     sym (ap (λ k. take k (replicate skipped 0 ++ window)) (is ∙ ap (λ s. s + length_) none ∙ omega arith) ∙ ap (λ s. take length_ (replicate s 0 ++ window)) none
-      ∙ take-take length_ (end - start) (drop start buffer) (omega arith) ∙ ap (λ k. take k (drop start buffer)) (omega arith))
+    ∙ take-take length_ (end - start) (drop start buffer) (omega arith) ∙ ap (λ k. take k (drop start buffer)) (omega arith))
 
 -- ---- after a piece was read into the buffer behind the window
 
@@ -112,8 +112,8 @@ window_grown a buffer end window size same_size same later within counted =
     let count = end - a.end in
     let whole : a.end + count ≡ end = omega arith in
     let grown : slice_range buffer.items a.start end ≡ window_of a ++ slice_range buffer.items a.end end =
-      ap (λ e. slice_range buffer.items a.start e) (sym whole) ∙ refilled_more a buffer.items count window.ordered same
-      ∙ ap (λ e. window_of a ++ slice_range buffer.items a.end e) whole in
+    ap (λ e. slice_range buffer.items a.start e) (sym whole) ∙ refilled_more a buffer.items count window.ordered same
+    ∙ ap (λ e. window_of a ++ slice_range buffer.items a.end e) whole in
     let front : a.searched ≤ length (window_of a) = omega (arith, window_length a window size, window.searched) in
     record {
       size = same_size ∙ window.size;

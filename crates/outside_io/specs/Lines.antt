@@ -7,20 +7,30 @@ use Rattle.outside_io.specs.declared.lines.LineEndFault.TheVariants.{TooLong, Re
 use Rattle.outside_io.specs.declared.lines.NextLine.{NextLine}
 use Rattle.outside_io.specs.declared.lines.NextLine.TheVariants.{Whole, TooWide, End}
 use Rattle.outside_io.specs.Window.{Kept}
-use Rattle.store_spec.specs.Input.{LINE_LIMIT, first_width, taken_lines, IsTooLong}
+use Rattle.store_spec.specs.Input.{LINE_LIMIT, first_width, taken_line, taken_within, IsTooLong}
 
--- The next line of a text was handed out: it is none where it is too wide. What is left of the text stands behind
--- it, and the line and its end were within the room.
+-- The first line of a text was handed out: it is none where it is too wide. What is left of the text and of the room
+-- stands behind it and its end.
 pub record HandsOut (line : Option (List ℕ)) (text : List ℕ) (room : ℕ) (rest : List ℕ) (room_left : ℕ) : Type 0 where
-  pub lines : taken_lines text ≡ line ∷ taken_lines rest
-  pub behind : rest ≡ drop (length text - length rest) text
+  pub lines : taken_within room text ≡ line ∷ taken_within room_left rest
+  pub behind : rest ≡ drop (first_width text + 1) text
   pub counted : room + length rest ≡ room_left + length text
   pub within : ¬ IsTooLong text room
 
+-- there is nothing to hand out
+pub record HandsNothing (text : List ℕ) (room : ℕ) : Type 0 where
+  pub lines : taken_within room text ≡ []
+  pub empty : text ≡ []
+
+-- no further line ends within the room, and there are more bytes
+pub record HasTooMuch (text : List ℕ) (room : ℕ) : Type 0 where
+  pub lines : taken_within room text ≡ []
+  pub too_long : IsTooLong text room
+
 -- The text is as it was, but that bytes of a first line which is too wide may have been forgotten: its width is kept.
 pub record LooksLike (before now : List ℕ) : Type 0 where
-  pub lines : taken_lines now ≡ taken_lines before
-  pub first : first_width now ≡ first_width before
+  pub width : first_width now ≡ first_width before
+  pub line : taken_line (take (first_width before) now) ≡ taken_line (take (first_width before) before)
   pub behind : drop (first_width before) now ≡ drop (first_width before) before
   pub size : length now ≡ length before
 
@@ -28,8 +38,8 @@ pub record LooksLike (before now : List ℕ) : Type 0 where
 abbrev pub Answers : Result NextLine LineEndFault → List ℕ → ℕ → Kept → List ℕ → Type 0
 Answers (Ok Whole) text room now rest = HandsOut (Some now.line) text room rest now.room
 Answers (Ok TooWide) text room now rest = HandsOut None text room rest now.room
-Answers (Ok End) text room now rest = (text ≡ []) × (rest ≡ []) × (now.room ≡ room)
-Answers (Err TooLong) text room now rest = IsTooLong text room × LooksLike text rest × IsTooLong now.text now.room × (now.room ≡ room)
+Answers (Ok End) text room now rest = HandsNothing text room × (rest ≡ []) × (now.room ≡ room)
+Answers (Err TooLong) text room now rest = HasTooMuch text room × LooksLike text rest × IsTooLong now.text now.room × (now.room ≡ room)
 Answers (Err ReadFault) text room now rest = LooksLike text rest × (now.room ≡ room)
 
 -- a relation of the bytes that a source has left before and after, which it tells both times or never

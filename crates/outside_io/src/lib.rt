@@ -16,3 +16,6 @@ pub use sink::Sink;
 pub use source::Source;
 pub use standard::{StdinSource, StdoutSink};
 pub use sure::{SureSink, SureSource};
+
+#[cfg(test)]
+mod tests;

@@ -1,4 +1,4 @@
-ghost use Rattle.std.specs.Prelude.{◌≡◌, ◌==◌, ℕ, ◌+◌, position, ◌≤◌, ◌<◌, [], ◌++◌, length, take, slice_range, Some, Err, IfOk, IfSome, OnErr};
+ghost use Rattle.std.specs.Prelude.{◌≡◌, ◌≢◌, ◌==◌, ℕ, ◌+◌, position, ◌≤◌, ◌<◌, [], ◌++◌, length, take, slice_range, Some, Err, IfOk, IfSome, OnErr};
 ghost use Rattle.store_spec.specs.Fault.{Rose};
 ghost use Rattle.outside_io.specs.Stream.{Gives};
 ghost use Rattle.store_spec.specs.Input.{first_width, SCRIPT_LIMIT};
@@ -266,6 +266,7 @@ impl Lines {
     /// After `ReadFault` a further call goes on from what was read; after `TooLong` it answers `TooLong` again.
     pub fn next_line<S: Source>(&mut self, source: &mut S) -> Result<NextLine, LineEndFault>
         ensures answers { AnswersTold result self.old (S.left source.old) self.new (S.left source.new) }
+        ensures progress { IfOk result (λ answer. answer ≢ NextLine.End → self.new.room < self.old.room) }
         ensures failed { result ≡ Err LineEndFault.ReadFault → Rose (S.faults source.old) (S.faults source.new) }
         ensures faults { S.faults source.old ≤ S.faults source.new }
     {

@@ -35,8 +35,8 @@ returns-then-width-self c =
     let long : length line ≡ width = length-take-le (first_width text) text (omega (arith, m.text_length)) ∙ is in
     let kept_line = slice_range a.buffer.items a.start (a.start + size) in
     let whole : width ≤ LINE_LIMIT → a.skipped ≡ 0 = λ few. elim (cases_lt 0 a.skipped) [
-      inl some ↦ absurd (omega (arith, c.self.invariant.wide some))
-    | inr none ↦ omega arith
+      | inl some ↦ absurd (omega (arith, c.self.invariant.wide some))
+      | inr none ↦ omega arith
     ] in
     let Q : NextLine → Type 0 = λ told. IsAnswerFor told line kept_line in
     let P : Kept → Type 0 = λ old. CutsOff c.answer_for.result old (record { text = slice_range a.buffer.items (a.start + (size + 1)) a.end; room = a.room - (width + 1); line = kept_line; space = 65536 - a.end }) in
@@ -44,8 +44,8 @@ returns-then-width-self c =
       ends = omega (arith, m.text_length);
       within = omega arith;
       answer = elim (cases_lt LINE_LIMIT width) [
-        inl wide ↦ subst Q (sym (c.answer_for.ensures.too_wide wide)) (omega arith)
-      | inr few ↦ subst Q (sym (c.answer_for.ensures.whole few)) (omega arith, line_cut a.buffer.items a.skipped a.start a.end size (first_width text) (whole few) (omega arith) is)
+        | inl wide ↦ subst Q (sym (c.answer_for.ensures.too_wide wide)) (omega arith)
+        | inr few ↦ subst Q (sym (c.answer_for.ensures.whole few)) (omega arith, line_cut a.buffer.items a.skipped a.start a.end size (first_width text) (whole few) (omega arith) is)
       ];
       rest = behind_cut a.buffer.items a.skipped a.start a.end size (first_width text + 1) (omega arith) (omega arith);
       room = omega arith;
@@ -56,13 +56,16 @@ returns-then-self-kept c =
     let a = c.self.inside in
     let m = measured a c.deref.result.now c.line_width.result c.self.invariant c.deref.ensures.value (c.deref.ensures.len ∙ c.self.invariant.size) c.line_width.ensures in
     let P : Kept → Type 0 = λ old. IsTooLong old.text old.room × StaysSame old old in
-    subst P c.self.view_is (record {
-      more = omega (arith, c.if-self-kept.true, m.kept, m.text_length);
-      no_end = elim c.else-length-kept.branch [
-        else-length-kept-via-then-length-kept+else-width-self w ↦ omega (arith, w.if-width-self.false, m.found, m.text_width)
-      | else-length-kept-via-else-length-kept w ↦ omega (arith, w.if-length-kept.false, m.found, m.kept, m.text_width, c.if-self-kept.true)
-      ];
-    }, record { text = refl; room = refl })
+    subst P c.self.view_is (
+      record {
+        more = omega (arith, c.if-self-kept.true, m.kept, m.text_length);
+        no_end = elim c.else-length-kept.branch [
+          | else-length-kept-via-then-length-kept+else-width-self w ↦ omega (arith, w.if-width-self.false, m.found, m.text_width)
+          | else-length-kept-via-else-length-kept w ↦ omega (arith, w.if-length-kept.false, m.found, m.kept, m.text_width, c.if-self-kept.true)
+        ];
+      },
+      record { text = refl; room = refl },
+    )
 
 pub invariant_of-self-2 : goal.invariant_of-self-2
 invariant_of-self-2 c =
@@ -70,8 +73,8 @@ invariant_of-self-2 c =
     let i = c.self.invariant in
     let m = measured a c.deref.result.now c.line_width.result i c.deref.ensures.value (c.deref.ensures.len ∙ i.size) c.line_width.ensures in
     let none : first_width (window_of a) ≡ a.end - a.start = elim c.else-length-kept.branch [
-      else-length-kept-via-then-length-kept+else-width-self w ↦ absurd (omega (arith, w.if-width-self.false, w.if-length-kept.true, m.kept, c.if-self-kept.false))
-    | else-length-kept-via-else-length-kept w ↦ omega (arith, w.if-length-kept.false, m.found, m.kept, m.short)
+      | else-length-kept-via-then-length-kept+else-width-self w ↦ absurd (omega (arith, w.if-width-self.false, w.if-length-kept.true, m.kept, c.if-self-kept.false))
+      | else-length-kept-via-else-length-kept w ↦ omega (arith, w.if-length-kept.false, m.found, m.kept, m.short)
     ] in
     record {
       size = i.size;
@@ -92,8 +95,8 @@ returns c =
     let i = c.self.invariant in
     let m = measured a c.deref.result.now c.line_width.result i c.deref.ensures.value (c.deref.ensures.len ∙ i.size) c.line_width.ensures in
     let none : first_width (window_of a) ≡ a.end - a.start = elim c.else-length-kept.branch [
-      else-length-kept-via-then-length-kept+else-width-self w ↦ absurd (omega (arith, w.if-width-self.false, w.if-length-kept.true, m.kept, c.if-self-kept.false))
-    | else-length-kept-via-else-length-kept w ↦ omega (arith, w.if-length-kept.false, m.found, m.kept, m.short)
+      | else-length-kept-via-then-length-kept+else-width-self w ↦ absurd (omega (arith, w.if-width-self.false, w.if-length-kept.true, m.kept, c.if-self-kept.false))
+      | else-length-kept-via-else-length-kept w ↦ omega (arith, w.if-length-kept.false, m.found, m.kept, m.short)
     ] in
     let P : Kept → Type 0 = λ old. (first_width old.text ≡ length old.text) × (length old.text ≤ old.room) × StaysSame old (kept_of a) in
     subst P c.self.view_is (omega (arith, m.text_width, m.text_length), omega (arith, m.text_length, m.kept, c.if-self-kept.false), record { text = refl; room = refl })

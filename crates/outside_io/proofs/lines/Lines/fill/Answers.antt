@@ -42,8 +42,8 @@ returns-in-Ok-clause-text g c =
     let piece = slice_range bytes a.end (a.end + count) in
     let mid : c.make_space.new.self.text ≡ zeros ++ window_of a = ap (λ (kept : Kept). kept.text) (sym c.self.view_is) in
     let grown : zeros ++ slice_range new.items a.start (a.end + count) ≡ c.make_space.new.self.text ++ piece =
-      ap (λ window. zeros ++ window) (refilled_more a new.items count i.ordered same ∙ ap (λ bytes. window_of a ++ slice_range bytes a.end (a.end + count)) items)
-      ∙ sym (append_assoc zeros (window_of a) piece) ∙ ap (λ front. front ++ piece) (sym mid) in
+    ap (λ window. zeros ++ window) (refilled_more a new.items count i.ordered same ∙ ap (λ bytes. window_of a ++ slice_range bytes a.end (a.end + count)) items)
+    ∙ sym (append_assoc zeros (window_of a) piece) ∙ ap (λ front. front ++ piece) (sym mid) in
     filled (g.S.Source.left c.args.source.now) (g.S.Source.left c.read_piece.new.source) c.args.self.now.text c.make_space.new.self.text _ piece c.requires.no_end c.make_space.ensures.no_end c.make_space.ensures.size c.make_space.ensures.narrow grown c.in-Ok.ensures.gives
 
 pub returns-in-Ok-clause-end : goal.returns-in-Ok-clause-end
@@ -53,7 +53,7 @@ returns-in-Ok-clause-end g c = λ none.
     let space : 0 < 65536 - a.end = omega (arith, c.make_space.ensures.space, ap (λ (kept : Kept). kept.space) c.self.view_is) in
     let size : length a.buffer.items ≡ 65536 = sym (ap length c.deref_mut.ensures.value) ∙ c.deref_mut.ensures.len ∙ c.self.invariant.size in
     let text : length c.make_space.new.self.text ≡ a.skipped + (a.end - a.start) =
-      ap (λ (kept : Kept). length kept.text) (sym c.self.view_is) ∙ text_length a c.self.invariant size in
+    ap (λ (kept : Kept). length kept.text) (sym c.self.view_is) ∙ text_length a c.self.invariant size in
     let same_room = ap (λ (kept : Kept). kept.room) c.self.view_is in
     let room : a.skipped + (a.end - a.start) ≤ a.room = omega (arith, text, same_room, c.make_space.ensures.room, c.make_space.ensures.size, c.requires.within) in
     let asked : 0 < c.min-asked.result = omega (arith, c.min-asked.ensures) in
@@ -99,5 +99,5 @@ returns-in-Ok-clause-still_none g c = λ none.
     let mid : c.make_space.new.self.text ≡ zeros ++ window_of a = ap (λ (kept : Kept). kept.text) (sym c.self.view_is) in
     let end : a.end + c.in-Ok.count ≡ a.end = omega arith in
     let still : zeros ++ slice_range new.items a.start (a.end + c.in-Ok.count) ≡ c.make_space.new.self.text =
-      ap (λ e. zeros ++ slice_range new.items a.start e) end ∙ ap (λ window. zeros ++ window) (refilled a new.items i.ordered same) ∙ sym mid in
+    ap (λ e. zeros ++ slice_range new.items a.start e) end ∙ ap (λ window. zeros ++ window) (refilled a new.items i.ordered same) ∙ sym mid in
     ap first_width still ∙ c.make_space.ensures.no_end ∙ ap length (sym still)

@@ -24,5 +24,5 @@ returns-then-branch-eq0-clause-answers g c =
     let f = c.in_ok-fill.ensures in
     let none = f.still_none (omega arith) in
     let within : length c.fill.new.self.text ≤ c.fill.new.self.room =
-      omega (arith, f.size, f.room, ap length still.text, still.room, c.in-Nothing.ensures.1) in
+    omega (arith, f.size, f.room, ap length still.text, still.room, c.in-Nothing.ensures.1) in
     told_last c.take_last.result before left old c.fill.new.self c.take_last.new.self alike (omega (arith, c.fill.ensures.room, still.room, c.lines.invariant.room)) none within (f.end (omega arith)) c.take_last.ensures
