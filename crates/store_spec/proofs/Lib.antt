@@ -1,0 +1,4 @@
+pub mod LineReading
+pub mod LineNumbers
+pub mod LineGroups
+pub mod LineWhole
