@@ -82,8 +82,8 @@ next_group before place rest all within so_far choices after next found further 
     record {
       counted = omega (arith, length-append before (choices ∷ []), so_far.counted);
       more = regrouped before choices (groups_of (16 - (place + 1)) next)
-        ∙ sym (ap (λ n. after_groups before (groups_of n rest)) one_more ∙ ap (after_groups before) (slash_after (16 - (place + 1)) rest choices after next found further slash))
-        ∙ so_far.more;
+          ∙ sym (ap (λ n. after_groups before (groups_of n rest)) one_more ∙ ap (after_groups before) (slash_after (16 - (place + 1)) rest choices after next found further slash))
+          ∙ so_far.more;
     }
 
 pub no_more_groups : (before : List (List ℕ)) (place : ℕ) (rest : List ℕ) (all : Option (List (List ℕ))) → 16 ≤ place → IsSoFar before place rest all → all ≡ None

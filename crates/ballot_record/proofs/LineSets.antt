@@ -86,10 +86,12 @@ with_choice set choice (Some found) =
 pub choice_goes_on : (set more last : ℕ) (rest : List ℕ) (choice : ℕ) (after next : List ℕ) → Some (choice, after) ≡ digits_at 32 0 rest → last < choice → 32 ≤ more + last → Some next ≡ rest_past 44 after
     → (m : ℕ) × (32 ≤ m + choice) × (option_map (after_set (set + 2 ^ (choice - 1))) (choices_at m choice next) ≡ option_map (after_set set) (choices_at more last rest))
 choice_goes_on set zero last rest choice after next found above room comma = absurd (omega (arith, (within_32 rest choice after found).1))
-choice_goes_on set (suc more) last rest choice after next found above room comma =
-    (more, omega arith,
-    with_choice set choice (choices_at more choice next)
-    ∙ ap (option_map (after_set set)) (sym (one_choice more last rest choice after found above ∙ when_past 44 after next _ (Some (choice ∷ [], after)) comma)))
+choice_goes_on set (suc more) last rest choice after next found above room comma = (
+  more,
+  omega arith,
+  with_choice set choice (choices_at more choice next)
+      ∙ ap (option_map (after_set set)) (sym (one_choice more last rest choice after found above ∙ when_past 44 after next _ (Some (choice ∷ [], after)) comma)),
+)
 
 pub choice_ends : (set more last : ℕ) (rest : List ℕ) (choice : ℕ) (after : List ℕ) → Some (choice, after) ≡ digits_at 32 0 rest → last < choice → 32 ≤ more + last → None ≡ rest_past 44 after
     → Some (set + 2 ^ (choice - 1), after) ≡ option_map (after_set set) (choices_at more last rest)

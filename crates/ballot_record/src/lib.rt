@@ -12,3 +12,6 @@ pub use election::{Election, MAX_BITS, MAX_CONTESTS, MAX_LIMIT, MAX_STYLES};
 pub use fault::{LineFault, LineWhy};
 pub use line::read_line;
 pub use record::Record;
+
+#[cfg(test)]
+mod tests;

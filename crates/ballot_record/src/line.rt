@@ -5,7 +5,7 @@ ghost use Rattle.store_spec.proofs.LineReading.{digits_at, past_byte, choices_at
 ghost use Rattle.ballot_record.specs.Line.{set_seen, sets_seen, line_seen};
 ghost use Rattle.ballot_record.specs.Record.{ballot};
 
-use crate::{Election, LineFault, Record, MAX_CHOICES, MAX_CONTESTS, MAX_STYLES};
+use crate::{Election, LineFault, MAX_CHOICES, MAX_CONTESTS, MAX_STYLES, Record};
 
 /// What follows a byte, where it stands first.
 fn after_byte(bytes: &[u8], byte: u8) -> Option<&[u8]>

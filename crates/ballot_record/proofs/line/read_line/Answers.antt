@@ -20,15 +20,18 @@ pub returns-then-groups-contests-clause-invalid : goal.returns-then-groups-conte
 returns-then-groups-contests-clause-invalid c =
     let e = c.args.election.now in
     let b = ballot c.in-Some.record in
-    let read = line_read c.args.line.now b c.in-Some.groups c.in-Some.ensures in
-    (λ _. ((read.line, read.reads),
-      elim c.then-groups-contests.branch [
-        | then-groups-contests-via-then-groups-contests w ↦
-          other_groups e c.args.line.now b c.in-Some.groups read (λ same. w.if-groups-contests.true (same ∙ sym c.contests.ensures.count))
-        | then-groups-contests-via-else-groups-contests+then-not-valid w ↦
-          not_valid e c.args.line.now b c.in-Some.groups read (λ valid. false≢true (w.if-not-valid.ensures.1 valid))
-      ]),
-    λ _. refl)
+    let read = line_read c.args.line.now b c.in-Some.groups c.in-Some.ensures in (
+      λ _. (
+        (read.line, read.reads),
+        elim c.then-groups-contests.branch [
+          | then-groups-contests-via-then-groups-contests w ↦
+              other_groups e c.args.line.now b c.in-Some.groups read (λ same. w.if-groups-contests.true (same ∙ sym c.contests.ensures.count))
+          | then-groups-contests-via-else-groups-contests+then-not-valid w ↦
+              not_valid e c.args.line.now b c.in-Some.groups read (λ valid. false≢true (w.if-not-valid.ensures.1 valid))
+        ],
+      ),
+      λ _. refl,
+    )
 
 pub returns-clause-read : goal.returns-clause-read
 returns-clause-read c =
@@ -44,6 +47,7 @@ returns-clause-malformed c =
 pub returns-clause-invalid : goal.returns-clause-invalid
 returns-clause-invalid c =
     let b = ballot c.in-Some.record in
-    let read = line_read c.args.line.now b c.in-Some.groups c.in-Some.ensures in
-    (λ wrong. absurd cc,
-    λ invalid. absurd (invalid.1 b (spells c.args.election.now c.args.line.now b c.in-Some.groups read (c.if-groups-contests.false ∙ c.contests.ensures.count) (c.if-not-valid.ensures.0 refl))))
+    let read = line_read c.args.line.now b c.in-Some.groups c.in-Some.ensures in (
+      λ wrong. absurd cc,
+      λ invalid. absurd (invalid.1 b (spells c.args.election.now c.args.line.now b c.in-Some.groups read (c.if-groups-contests.false ∙ c.contests.ensures.count) (c.if-not-valid.ensures.0 refl))),
+    )
