@@ -1,11 +1,12 @@
 -- What the parts of a line say of it, under an election.
-use Rattle.std.proofs.Common.{◌≡◌, ◌≢◌, ℕ, List, ◌⊎◌, inl, inr, length, Option, Some, None, refl, sym, ap, subst, ◌∙◌}
+use Rattle.std.proofs.Common.{◌≡◌, ◌≢◌, ℕ, List, length, Option, Some, None, refl, sym, ap, subst, ◌∙◌}
 use Rattle.std.specs.Prelude.{option_map}
-use Rattle.std.proofs.lemmas.Option.{none-some, same_Some, some_pair_parts}
+use Rattle.std.proofs.lemmas.Option.{none-some, some_pair_parts}
 use Rattle.store_spec.specs.Ballot.{Ballot, IsValid}
 use Rattle.store_spec.specs.BallotLine.{Line, ReadsAs, Spells, ballot_of_line}
 use Rattle.store_spec.specs.Election.{Election}
 use Rattle.store_spec.proofs.LineReading.{line_of}
+use Rattle.store_spec.proofs.LineLaws.{one_reading}
 use Rattle.store_spec.proofs.LineWhole.{line_takes, line_again}
 use Rattle.ballot_record.specs.Line.{line_seen}
 
@@ -28,17 +29,14 @@ read_from bytes b count (Some line) found e =
 pub line_read : (bytes : List ℕ) (b : Ballot) (count : ℕ) → Some (b, count) ≡ option_map line_seen (line_of bytes) → IsLineRead bytes b count
 line_read bytes b count e = read_from bytes b count (line_of bytes) refl e
 
-same_parts : (bytes : List ℕ) (x y : Line) → ReadsAs bytes x → ReadsAs bytes y → x ≡ y
-same_parts bytes x y first second = same_Some x y (sym (line_again bytes x first) ∙ line_again bytes y second)
-
 pub spells : (e : Election) (bytes : List ℕ) (b : Ballot) (count : ℕ) → IsLineRead bytes b count → count ≡ length e.contests → IsValid e b → Spells e bytes b
 spells e bytes b count read all valid = record { line = read.line; reads = read.reads; a_group_each = sym read.counted ∙ all; is = read.is; valid = valid }
 
 pub other_groups : (e : Election) (bytes : List ℕ) (b : Ballot) (count : ℕ) → IsLineRead bytes b count → count ≢ length e.contests → (x : Ballot) → Spells e bytes x → ⊥
 other_groups e bytes b count read differs x spelled =
-    differs (read.counted ∙ ap (λ (line : Line). length line.groups) (same_parts bytes read.line spelled.line read.reads spelled.reads) ∙ spelled.a_group_each)
+    differs (read.counted ∙ ap (λ (line : Line). length line.groups) (one_reading bytes read.line spelled.line read.reads spelled.reads) ∙ spelled.a_group_each)
 
 pub not_valid : (e : Election) (bytes : List ℕ) (b : Ballot) (count : ℕ) → IsLineRead bytes b count → (IsValid e b → ⊥) → (x : Ballot) → Spells e bytes x → ⊥
 not_valid e bytes b count read invalid x spelled =
-    let same : x ≡ b = spelled.is ∙ ap ballot_of_line (same_parts bytes spelled.line read.line spelled.reads read.reads) ∙ sym read.is in
+    let same : x ≡ b = spelled.is ∙ ap ballot_of_line (one_reading bytes spelled.line read.line spelled.reads read.reads) ∙ sym read.is in
     invalid (subst (IsValid e) same spelled.valid)

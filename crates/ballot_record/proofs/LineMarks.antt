@@ -1,11 +1,11 @@
 -- Mark sets of groups, one after another.
-use Rattle.std.proofs.Common.{◌≡◌, ℕ, zero, suc, ◌+◌, ◌-◌, ◌<◌, ◌≤◌, Bool, true, false, cond, eqb, List, [], ◌∷◌, ◌++◌, length, map, replicate, set, Option, Some, None, refl, sym, ap, ap₂, ◌∙◌, append_assoc, append-nil, arith, length-append}
+use Rattle.std.proofs.Common.{◌≡◌, ℕ, suc, ◌+◌, ◌-◌, ◌<◌, ◌≤◌, true, false, eqb, List, [], ◌∷◌, ◌++◌, length, map, replicate, set, Option, Some, None, refl, sym, ap, ap₂, ◌∙◌, append_assoc, arith, length-append}
 use Rattle.std.specs.Prelude.{option_map}
 use Rattle.std.proofs.lemmas.List.{set_at, length-map}
 use Rattle.std.proofs.lemmas.List.{map-append}
 use Rattle.std.proofs.lemmas.Option.{some_pair_parts}
 use Rattle.store_spec.specs.BallotLine.{mark_set}
-use Rattle.store_spec.proofs.LineReading.{past_byte, group_at, groups_of}
+use Rattle.store_spec.proofs.LineReading.{group_at, groups_of}
 use Rattle.ballot_record.specs.Line.{set_seen, sets_seen}
 use Rattle.ballot_record.proofs.LineSets.{rest_past, when_past, when_not_past}
 

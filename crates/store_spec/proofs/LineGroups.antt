@@ -1,7 +1,6 @@
 -- What is read as a group is spelled so, and what is spelled so is read.
-use Rattle.std.proofs.Common.{◌≡◌, ℕ, zero, suc, ◌+◌, ◌-◌, ◌*◌, ◌^◌, ◌<◌, ◌≤◌, Bool, true, false, cond, eqb, ltb, leb, ◌⊎◌, inl, inr, List, [], ◌∷◌, ◌++◌, length, get_or, map, Option, Some, None, refl, sym, ap, subst, subst₂, ◌∙◌, append_assoc, append-nil, arith}
-use Rattle.std.specs.Prelude.{option_map, option_and_then, All}
-use Rattle.std.specs.Char.{is_ascii_digit}
+use Rattle.std.proofs.Common.{◌≡◌, ℕ, zero, suc, ◌+◌, ◌<◌, ◌≤◌, false, eqb, leb, ◌⊎◌, inl, inr, List, [], ◌∷◌, ◌++◌, length, get_or, map, Option, Some, None, refl, sym, ap, subst, subst₂, ◌∙◌, append_assoc, arith}
+use Rattle.std.specs.Prelude.{option_map, All}
 use Rattle.std.specs.Fmt.{decimal}
 use Rattle.std.specs.List.{join_with_byte}
 use Rattle.std.specs.List.Sorted.{IsStrictlyIncreasing}
@@ -48,7 +47,7 @@ abbrev pub RisesFrom : ℕ → List ℕ → Type 0
 RisesFrom last [] = Unit {0}
 RisesFrom last (choice ∷ choices) = (last < choice) × (choice ≤ 32) × RisesFrom choice choices
 
-abbrev choices_text : List ℕ → List ℕ
+abbrev pub choices_text : List ℕ → List ℕ
 choices_text choices = join_with_byte 44 (map decimal choices)
 
 record AreChoicesAt (last : ℕ) (bytes choices rest : List ℕ) : Type 0 where
@@ -65,32 +64,32 @@ unfolding choices_at
 choices_take zero last bytes choices rest e = absurd (none-some (choices, rest) e)
 choices_take (suc more) last bytes choices rest e =
     option_and_then_some _ (digits_at 32 0 bytes) (choices, rest) e (λ first first_is goes_on.
-      let number = number_takes 32 (omega arith) bytes first.0 first.1 first_is in
-      elim (chosen (leb first.0 last) _ _ (Some (choices, rest)) goes_on) [
-        | inl falls ↦ absurd (none-some (choices, rest) falls.1)
-        | inr rises ↦
+    let number = number_takes 32 (omega arith) bytes first.0 first.1 first_is in
+    elim (chosen (leb first.0 last) _ _ (Some (choices, rest)) goes_on) [
+      | inl falls ↦ absurd (none-some (choices, rest) falls.1)
+      | inr rises ↦
           let above : last < first.0 = leb-false first.0 last rises.0 in
           elim (passed 44 first.1 _ _ (Some (choices, rest)) rises.1) [
             | inl comma ↦
-              let others = option_map_some (with_first first.0) (choices_at more first.0 comma.rest) (choices, rest) comma.is in
-              let at = choices_take more first.0 comma.rest others.0.0 others.0.1 others.1 in
-              let P : List ℕ × List ℕ → Type 0 = λ found. AreChoicesAt last bytes found.0 found.1 in
-              let joined : choices_text (first.0 ∷ others.0.0) ≡ decimal first.0 ++ (44 ∷ choices_text others.0.0) = join_more 44 (decimal first.0) (map decimal others.0.0) (some_decimals others.0.0 at.some) in
-              subst P others.2 (record {
-                spelled = number.spelled ∙ ap (λ rest. decimal first.0 ++ rest) (comma.bytes_are ∙ ap (λ rest. 44 ∷ rest) at.spelled)
-                  ∙ sym (ap (λ text. text ++ others.0.1) joined ∙ append_assoc (decimal first.0) (44 ∷ choices_text others.0.0) others.0.1);
-                some = omega arith;
-                rises = (above, number.within, at.rises);
-              })
+                let others = option_map_some (with_first first.0) (choices_at more first.0 comma.rest) (choices, rest) comma.is in
+                let at = choices_take more first.0 comma.rest others.0.0 others.0.1 others.1 in
+                let P : List ℕ × List ℕ → Type 0 = λ found. AreChoicesAt last bytes found.0 found.1 in
+                let joined : choices_text (first.0 ∷ others.0.0) ≡ decimal first.0 ++ (44 ∷ choices_text others.0.0) = join_more 44 (decimal first.0) (map decimal others.0.0) (some_decimals others.0.0 at.some) in
+                subst P others.2 (record {
+                  spelled = number.spelled ∙ ap (λ rest. decimal first.0 ++ rest) (comma.bytes_are ∙ ap (λ rest. 44 ∷ rest) at.spelled)
+                      ∙ sym (ap (λ text. text ++ others.0.1) joined ∙ append_assoc (decimal first.0) (44 ∷ choices_text others.0.0) others.0.1);
+                  some = omega arith;
+                  rises = (above, number.within, at.rises);
+                })
             | inr last_one ↦
-              let parts = some_pair_parts (first.0 ∷ []) choices first.1 rest last_one in
-              subst₂ (λ (choices rest : List ℕ). AreChoicesAt last bytes choices rest) parts.0 parts.1 (record {
-                spelled = number.spelled;
-                some = omega arith;
-                rises = (above, number.within, tt);
-              })
+                let parts = some_pair_parts (first.0 ∷ []) choices first.1 rest last_one in
+                subst₂ (λ (choices rest : List ℕ). AreChoicesAt last bytes choices rest) parts.0 parts.1 (record {
+                  spelled = number.spelled;
+                  some = omega arith;
+                  rises = (above, number.within, tt);
+                })
           ]
-      ])
+    ])
 
 -- neither a digit nor a comma stands first
 abbrev pub StopsChoices : List ℕ → Type 0
@@ -103,12 +102,12 @@ choices_again zero last choice choices rest room rises stops = absurd (omega ari
 choices_again (suc more) last choice [] rest room rises stops =
     let alone : Option (List ℕ × List ℕ) = Some (choice ∷ [], rest) in
     rw (number_again 32 choice rest (omega arith) (omega arith) rises.1 stops.0, lt-leb choice last rises.0)
-      (not_past 44 rest (λ rest. option_map (with_first choice) (choices_at more choice rest)) alone stops.1)
+    (not_past 44 rest (λ rest. option_map (with_first choice) (choices_at more choice rest)) alone stops.1)
 choices_again (suc more) last choice (next ∷ choices) rest room rises stops =
     let others = choices_text (next ∷ choices) ++ rest in
     ap (choices_at (suc more) last) (append_assoc (decimal choice) (44 ∷ choices_text (next ∷ choices)) rest)
     ∙ rw (number_again 32 choice (44 ∷ others) (omega arith) (omega arith) rises.1 refl, lt-leb choice last rises.0)
-      (ap (option_map (with_first choice)) (choices_again more choice next choices rest (omega arith) rises.2 stops))
+    (ap (option_map (with_first choice)) (choices_again more choice next choices rest (omega arith) rises.2 stops))
 
 -- ---- a group
 
@@ -129,9 +128,11 @@ IsGroup-from_rises last choices rises = record { within = rises_within last choi
 
 rises_from : (last : ℕ) (choices : List ℕ) → (1 ≤ length choices → last < get_or choices 0 0) → All (λ c. (1 ≤ c) × (c ≤ 32)) choices → IsStrictlyIncreasing choices → RisesFrom last choices
 rises_from last [] above within ascending = tt
-rises_from last (choice ∷ choices) above within ascending =
-    (above (omega arith), (within 0 0 (omega arith)).1,
-    rises_from choice choices (λ some. ascending 0 (omega arith)) (λ k d below. within (suc k) d (omega arith)) (λ k below. let same : suc k + 1 ≡ suc (k + 1) = omega arith in rw same at (ascending (suc k) (omega arith))))
+rises_from last (choice ∷ choices) above within ascending = (
+  above (omega arith),
+  (within 0 0 (omega arith)).1,
+  rises_from choice choices (λ some. ascending 0 (omega arith)) (λ k d below. within (suc k) d (omega arith)) (λ k below. let same : suc k + 1 ≡ suc (k + 1) = omega arith in rw same at (ascending (suc k) (omega arith))),
+)
 
 pub rises_from_IsGroup : (choices : List ℕ) → IsGroup choices → RisesFrom 0 choices
 rises_from_IsGroup choices group = rises_from 0 choices (λ some. (group.within 0 0 (omega arith)).0) group.within group.ascending
@@ -149,11 +150,11 @@ unfolding group_at
 group_takes bytes choices rest e =
     elim (passed 45 bytes _ _ (Some (choices, rest)) e) [
       | inl dash ↦
-        let parts = some_pair_parts [] choices dash.rest rest dash.is in
-        subst₂ (λ (choices rest : List ℕ). IsGroupAt bytes choices rest) parts.0 parts.1 (record { spelled = dash.bytes_are; group = IsGroup-from_rises 0 [] tt })
+          let parts = some_pair_parts [] choices dash.rest rest dash.is in
+          subst₂ (λ (choices rest : List ℕ). IsGroupAt bytes choices rest) parts.0 parts.1 (record { spelled = dash.bytes_are; group = IsGroup-from_rises 0 [] tt })
       | inr some ↦
-        let at = choices_take 32 0 bytes choices rest some in
-        record { spelled = at.spelled ∙ ap (λ text. text ++ rest) (sym (text_of_some choices at.some)); group = IsGroup-from_rises 0 choices at.rises }
+          let at = choices_take 32 0 bytes choices rest some in
+          record { spelled = at.spelled ∙ ap (λ text. text ++ rest) (sym (text_of_some choices at.some)); group = IsGroup-from_rises 0 choices at.rises }
     ]
 
 starts_above : (text : List ℕ) (rest : List ℕ) → 0 < length text → 48 < get_or text 0 0 → LacksFirst 45 (text ++ rest)

@@ -24,8 +24,8 @@ unfoldable pub choices_at : ℕ → ℕ → List ℕ → Option (List ℕ × Lis
 choices_at zero last bytes = None
 choices_at (suc more) last bytes =
     option_and_then (λ (first : ℕ × List ℕ).
-      if nat_le first.0 last then None
-      else past_byte 44 first.1 (λ rest. option_map (with_first first.0) (choices_at more first.0 rest)) (Some (first.0 ∷ [], first.1)))
+    if nat_le first.0 last then None
+    else past_byte 44 first.1 (λ rest. option_map (with_first first.0) (choices_at more first.0 rest)) (Some (first.0 ∷ [], first.1)))
     (digits_at 32 0 bytes)
 
 -- a dash, or choices
@@ -37,19 +37,19 @@ unfoldable pub groups_of : ℕ → List ℕ → Option (List (List ℕ))
 groups_of zero bytes = None
 groups_of (suc more) bytes =
     option_and_then (λ (first : List ℕ × List ℕ).
-      if length first.1 == 0 then Some (first.0 ∷ [])
-      else past_byte 47 first.1 (λ rest. option_map (λ others. first.0 ∷ others) (groups_of more rest)) None)
+    if length first.1 == 0 then Some (first.0 ∷ [])
+    else past_byte 47 first.1 (λ rest. option_map (λ others. first.0 ∷ others) (groups_of more rest)) None)
     (group_at bytes)
 
 -- all of a line
 unfoldable pub line_of : List ℕ → Option Line
 line_of bytes =
     option_and_then (λ (number : ℕ × List ℕ).
-      past_byte 32 number.1 (λ bytes.
-        option_and_then (λ (style : ℕ × List ℕ).
-          past_byte 32 style.1 (λ bytes.
-            option_map (λ groups. record { number = number.0; style = style.0; groups = groups }) (groups_of 16 bytes))
-          None)
-        (digits_at 255 0 bytes))
-      None)
+    past_byte 32 number.1 (λ bytes.
+    option_and_then (λ (style : ℕ × List ℕ).
+    past_byte 32 style.1 (λ bytes.
+    option_map (λ groups. record { number = number.0; style = style.0; groups = groups }) (groups_of 16 bytes))
+    None)
+    (digits_at 255 0 bytes))
+    None)
     (digits_at (2 ^ 64 - 1) 0 bytes)
