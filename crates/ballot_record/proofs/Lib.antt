@@ -1,4 +1,7 @@
 mod Cells
 mod Counts
+mod LineAnswers
+mod LineMarks
+mod LineSets
 mod OnStyle
 mod Places

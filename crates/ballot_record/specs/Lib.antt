@@ -1,4 +1,6 @@
 pub mod Contest
 pub mod Kept
+pub mod Line
 pub mod Parts
 pub mod Record
+pub mod LineWhy

@@ -3,8 +3,15 @@
 
 mod contest;
 mod election;
+mod fault;
+mod line;
 mod record;
 
 pub use contest::{Contest, MAX_CHOICES};
 pub use election::{Election, MAX_BITS, MAX_CONTESTS, MAX_LIMIT, MAX_STYLES};
+pub use fault::{LineFault, LineWhy};
+pub use line::read_line;
 pub use record::Record;
+
+#[cfg(test)]
+mod tests;

@@ -1,5 +1,5 @@
 -- What record lines build: a set of ballots, or the first bad line and why it is refused.
-use Rattle.std.specs.Prelude.{◌≡◌, ◌≢◌, ℕ, ◌+◌, ◌<◌, ◌≤◌, List, length, take, slice_get, Some, Contains, Any, Result, Ok, Err}
+use Rattle.std.specs.Prelude.{◌≡◌, ◌≢◌, ℕ, ◌+◌, List, length, take, slice_get, Some, Contains, Any, Result, Ok, Err}
 use Rattle.std.specs.List.{AllZip}
 use Rattle.store_spec.specs.Ballot.{Ballot, IsBallotSet}
 use Rattle.store_spec.specs.BallotLine.{Line, ReadsAs, Spells}

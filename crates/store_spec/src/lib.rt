@@ -1,28 +1,26 @@
 //! The definitions that the whole store is proved against, and laws about them.
 #![tactic(auto)]
 
+pub mod line_laws;
+
 ghost use Rattle.store_spec.specs.Figures.{ExampleHomes, ExampleSizes, ExampleLayout, ExampleLines};
 
 /// The homes of some numbers under the example election.
 pub fn example_homes()
     ensures { ExampleHomes }
-{
-}
+{}
 
 /// The sizes of the example election's store.
 pub fn example_sizes()
     ensures { ExampleSizes }
-{
-}
+{}
 
 /// Where three numbers stand under the example election.
 pub fn example_layout()
     ensures { ExampleLayout }
-{
-}
+{}
 
 /// How a text is cut into lines.
 pub fn example_lines()
     ensures { ExampleLines }
-{
-}
+{}

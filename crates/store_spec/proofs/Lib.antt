@@ -1,0 +1,6 @@
+pub mod LineReading
+pub mod LineNumbers
+pub mod LineGroups
+pub mod LineWhole
+pub mod MarkSets
+pub mod LineLaws

@@ -1,0 +1,200 @@
+-- The laws of record lines.
+use Rattle.std.proofs.Common.{◌≡◌, ℕ, suc, ◌+◌, ◌-◌, ◌*◌, ◌^◌, ◌<◌, ◌≤◌, eqb, inl, inr, List, [], ◌∷◌, ◌++◌, length, get_or, take, drop, map, replicate, Option, Some, None, refl, sym, ap, subst, ◌∙◌, arith, length-append, length-take, length-drop, take_at, take-append-drop, get_or-take, get_or-drop, pow_mono}
+use Rattle.std.specs.Prelude.{slice_get, All}
+use Rattle.std.specs.Fmt.{decimal}
+use Rattle.std.specs.List.{AllByRecursion}
+use Rattle.std.specs.Option.{option_map_or}
+use Rattle.std.proofs.lemmas.Bool.{cases_lt, cond_both, ne_eqb}
+use Rattle.std.proofs.lemmas.Fmt.{length-decimal-le}
+use Rattle.std.proofs.lemmas.List.{length-map}
+use Rattle.std.proofs.lemmas.List.Elements.{recursion_from_All, All-from_recursion}
+use Rattle.std.proofs.lemmas.Option.{same_Some, slice_get_within, get_or_from_slice_get, slice_get_past}
+use Rattle.store_spec.specs.Ballot.{Ballot, IsValid}
+use Rattle.store_spec.specs.BallotLine.{Line, IsGroup, group_text, line_text, mark_set, ballot_of_line}
+use Rattle.store_spec.specs.Election.{Contest, Election, IsContest, IsElection, choices_of, choices_on, is_on_style}
+use Rattle.store_spec.specs.LineLaws.{ReadOneWay, AreShort, SpellOneBallot, SpelledOneWay, SpellEachBallot}
+use Rattle.store_spec.proofs.LineGroups.{RisesFrom, choices_text, rises_from_IsGroup}
+use Rattle.store_spec.proofs.LineWhole.{groups_text, line_again}
+use Rattle.store_spec.proofs.MarkSets.{group_of, IsGroup-group_of, mark_set-group_of, group_of-mark_set}
+
+pub one_reading : ReadOneWay
+one_reading bytes x y first second = same_Some x y (sym (line_again bytes x first) ∙ line_again bytes y second)
+
+-- ---- how long a line is
+
+choice_length : (choice : ℕ) → choice ≤ 32 → (length (decimal choice) ≤ 2) × (choice < 10 → length (decimal choice) ≤ 1)
+choice_length choice few = (length-decimal-le 2 choice (omega arith) (omega arith) (omega arith), λ one. length-decimal-le 1 choice (omega arith) (omega arith) (omega arith))
+
+-- nine choices have one digit each, the others two, and all but one have a comma
+choices_length : (last choice : ℕ) (choices : List ℕ) → RisesFrom last (choice ∷ choices) → length (choices_text (choice ∷ choices)) + 1 + (9 - last) ≤ 3 * (32 - last)
+choices_length last choice [] rises =
+    let digits = choice_length choice rises.1 in
+    elim (cases_lt choice 10) [
+      | inl one ↦ omega (arith, digits.1 one, rises.0, rises.1)
+      | inr two ↦ omega (arith, digits.0, rises.0, rises.1)
+    ]
+choices_length last choice (next ∷ choices) rises =
+    let digits = choice_length choice rises.1 in
+    let rest = choices_length choice next choices rises.2 in
+    let whole = length-append (decimal choice) (44 ∷ choices_text (next ∷ choices)) in
+    elim (cases_lt choice 10) [
+      | inl one ↦ omega (arith, digits.1 one, rest, whole, rises.0, rises.1)
+      | inr two ↦ omega (arith, digits.0, rest, whole, rises.0, rises.1)
+    ]
+
+group_length : (choices : List ℕ) → IsGroup choices → length (group_text choices) ≤ 86
+group_length [] group = omega arith
+group_length (choice ∷ choices) group = omega (arith, choices_length 0 choice choices (rises_from_IsGroup (choice ∷ choices) group))
+
+groups_length : (group : List ℕ) (groups : List (List ℕ)) → AllByRecursion IsGroup (group ∷ groups) → length (groups_text (group ∷ groups)) + 1 ≤ 87 * length (group ∷ groups)
+groups_length group [] each = omega (arith, group_length group each.0)
+groups_length group (next ∷ groups) each =
+    omega (arith, group_length group each.0, groups_length next groups each.1, length-append (group_text group) (47 ∷ groups_text (next ∷ groups)))
+
+all_groups_length : (groups : List (List ℕ)) → All IsGroup groups → 1 ≤ length groups → length (groups_text groups) + 1 ≤ 87 * length groups
+all_groups_length [] each some = absurd (omega arith)
+all_groups_length (group ∷ groups) each some = groups_length group groups (recursion_from_All IsGroup (group ∷ groups) each)
+
+pub short_lines : AreShort
+short_lines bytes line reads =
+    let p = reads.parts in
+    let number = length-decimal-le 20 line.number (omega arith) (omega (arith, p.short_number)) p.short_number in
+    let style = length-decimal-le 3 line.style (omega arith) (omega (arith, p.short_style)) (omega (arith, p.short_style)) in
+    let front = length-append (decimal line.number) (32 ∷ decimal line.style) in
+    let whole = length-append (decimal line.number ++ (32 ∷ decimal line.style)) (32 ∷ groups_text line.groups) in
+    omega (arith, ap length reads.spelled, number, style, front, whole, all_groups_length line.groups p.each_group p.some_group, p.few_groups)
+
+-- ---- a line and its ballot
+
+pub one_ballot : SpellOneBallot
+one_ballot e bytes x y first second =
+    first.is ∙ ap ballot_of_line (one_reading bytes first.line second.line first.reads second.reads) ∙ sym second.is
+
+same_groups : (xs ys : List (List ℕ)) → AllByRecursion IsGroup xs → AllByRecursion IsGroup ys → map mark_set xs ≡ map mark_set ys → xs ≡ ys
+same_groups [] [] first second same = refl
+same_groups [] (y ∷ ys) first second same = absurd cc
+same_groups (x ∷ xs) [] first second same = absurd cc
+same_groups (x ∷ xs) (y ∷ ys) first second same =
+    let set : mark_set x ≡ mark_set y = cc in
+    let sets : map mark_set xs ≡ map mark_set ys = cc in
+    let group : x ≡ y = sym (group_of-mark_set x first.0) ∙ ap group_of set ∙ group_of-mark_set y second.0 in
+    let groups = same_groups xs ys first.1 second.1 sets in
+    cc
+
+same_front : (xs ys vs ws : List ℕ) → length xs ≡ length ys → xs ++ vs ≡ ys ++ ws → xs ≡ ys
+same_front xs ys vs ws long same = sym (take_at xs vs (length xs) refl) ∙ ap (take (length xs)) same ∙ take_at ys ws (length xs) (sym long)
+
+same_line : (x y : Line) → x.number ≡ y.number → x.style ≡ y.style → x.groups ≡ y.groups → x ≡ y
+same_line x y number style groups =
+    let made : ℕ → ℕ → List (List ℕ) → Line = λ n s gs. record { number = n; style = s; groups = gs } in
+    ap (λ n. made n x.style x.groups) number ∙ ap (λ s. made y.number s x.groups) style ∙ ap (made y.number y.style) groups
+
+pub one_spelling : SpelledOneWay
+one_spelling e a b x first second =
+    let same : ballot_of_line first.line ≡ ballot_of_line second.line = sym first.is ∙ second.is in
+    let count : length first.line.groups ≡ length second.line.groups = first.a_group_each ∙ sym second.a_group_each in
+    let sets : map mark_set first.line.groups ≡ map mark_set second.line.groups =
+    same_front (map mark_set first.line.groups) (map mark_set second.line.groups) _ _ (length-map first.line.groups mark_set ∙ count ∙ sym (length-map second.line.groups mark_set)) (ap (λ (b : Ballot). b.marks) same) in
+    let groups = same_groups first.line.groups second.line.groups (recursion_from_All IsGroup first.line.groups first.reads.parts.each_group) (recursion_from_All IsGroup second.line.groups second.reads.parts.each_group) sets in
+    first.reads.spelled
+    ∙ ap line_text (same_line first.line second.line (ap (λ (b : Ballot). b.number) same) (ap (λ (b : Ballot). b.style) same) groups)
+    ∙ sym second.reads.spelled
+
+-- ---- a line for each ballot
+
+offered : (o : Option Contest) (P : ℕ → Type 0) → P 0 → ((contest : Contest) → o ≡ Some contest → P contest.choices) → P (option_map_or (λ contest. contest.choices) o 0)
+offered None P none some = none
+offered (Some contest) P none some = some contest refl
+
+few_choices : (e : Election) (k : ℕ) → IsElection e → choices_of e k ≤ 32
+few_choices e k valid =
+    cond_both (eqb k 0) 0 (option_map_or (λ contest. contest.choices) (slice_get e.contests (k - 1)) 0) (λ n. n ≤ 32) (λ _. omega arith)
+    (λ _. offered (slice_get e.contests (k - 1)) (λ n. n ≤ 32) (omega arith)
+    (λ contest found. (subst IsContest (get_or_from_slice_get e.contests (k - 1) contest contest found) (valid.each_contest (k - 1) contest (slice_get_within e.contests (k - 1) contest found))).few_choices))
+
+no_choices : (e : Election) (k : ℕ) → length e.contests < k → choices_of e k ≡ 0
+no_choices e k past = rw (ne_eqb k 0 (λ zero. omega arith), slice_get_past e.contests (k - 1) (omega arith)) refl
+
+small_set : (e : Election) (x : Ballot) → IsElection e → IsValid e x → (i : ℕ) → i < 16 → get_or x.marks i 0 < 2 ^ 32
+small_set e x election valid i within =
+    let place : i + 1 - 1 ≡ i = omega arith in
+    let few : choices_on e x.style (i + 1) ≤ 32 = cond_both (is_on_style e x.style (i + 1)) (choices_of e (i + 1)) 0 (λ n. n ≤ 32) (λ _. few_choices e (i + 1) election) (λ _. omega arith) in
+    let below : get_or x.marks i 0 < 2 ^ choices_on e x.style (i + 1) =
+    let IsBelow : ℕ → Type 0 = λ j. get_or x.marks j 0 < 2 ^ choices_on e x.style (i + 1) in
+    subst IsBelow place (valid.marked (i + 1) (omega arith) (omega arith)) in
+    omega (arith, below, pow_mono few)
+
+no_set : (e : Election) (x : Ballot) → IsValid e x → (i : ℕ) → length e.contests ≤ i → i < 16 → get_or x.marks i 0 ≡ 0
+no_set e x valid i past within =
+    let place : i + 1 - 1 ≡ i = omega arith in
+    let none : choices_on e x.style (i + 1) ≡ 0 = cond_both (is_on_style e x.style (i + 1)) (choices_of e (i + 1)) 0 (λ n. n ≡ 0) (λ _. no_choices e (i + 1) (omega arith)) (λ _. refl) in
+    let below : get_or x.marks i 0 < 2 ^ choices_on e x.style (i + 1) =
+    let IsBelow : ℕ → Type 0 = λ j. get_or x.marks j 0 < 2 ^ choices_on e x.style (i + 1) in
+    subst IsBelow place (valid.marked (i + 1) (omega arith) (omega arith)) in
+    let one : 2 ^ choices_on e x.style (i + 1) ≡ 1 = ap (λ n. 2 ^ n) none in
+    omega (arith, below, one)
+
+sets_again : (sets : List ℕ) → ((i : ℕ) → i < length sets → get_or sets i 0 < 2 ^ 32) → map mark_set (map group_of sets) ≡ sets
+sets_again [] small = refl
+sets_again (set ∷ sets) small =
+    let first : mark_set (group_of set) ≡ set = mark_set-group_of set (small 0 (omega arith)) in
+    let rest = sets_again sets (λ i within. small (suc i) (omega arith)) in
+    cc
+
+groups_valid : (sets : List ℕ) → AllByRecursion IsGroup (map group_of sets)
+groups_valid [] = tt
+groups_valid (set ∷ sets) = (IsGroup-group_of set, groups_valid sets)
+
+all_zero : (sets : List ℕ) → ((i : ℕ) → i < length sets → get_or sets i 0 ≡ 0) → sets ≡ replicate (length sets) 0
+all_zero [] zeros = refl
+all_zero (set ∷ sets) zeros =
+    let first : set ≡ 0 = zeros 0 (omega arith) in
+    let rest = all_zero sets (λ i within. zeros (suc i) (omega arith)) in
+    cc
+
+line_for : Election → Ballot → Line
+line_for e x = record { number = x.number; style = x.style; groups = map group_of (take (length e.contests) x.marks) }
+
+ballot_again : (e : Election) (x : Ballot) → IsElection e → IsValid e x → x ≡ ballot_of_line (line_for e x)
+unfolding line_for
+ballot_again e x election valid =
+    let n = length e.contests in
+    let front = take n x.marks in
+    let behind = drop n x.marks in
+    let front_length : length front ≡ n = omega (arith, length-take n x.marks, valid.sixteen, election.few_contests) in
+    let sets : map mark_set (map group_of front) ≡ front = sets_again front (λ i within.
+    subst (λ set. set < 2 ^ 32) (sym (get_or-take n x.marks i 0 (omega (arith, front_length)))) (small_set e x election valid i (omega (arith, front_length, election.few_contests)))) in
+    let zeros : behind ≡ replicate (length behind) 0 = all_zero behind (λ i within.
+    get_or-drop n x.marks i 0 ∙ no_set e x valid (n + i) (omega arith) (omega (arith, length-drop n x.marks, valid.sixteen))) in
+    let count : length behind ≡ 16 - length (map group_of front) = omega (arith, length-drop n x.marks, valid.sixteen, length-map front group_of, front_length) in
+    let marks : x.marks ≡ map mark_set (map group_of front) ++ replicate (16 - length (map group_of front)) 0 =
+    sym (take-append-drop n x.marks) ∙ ap (λ rest. front ++ rest) (zeros ∙ ap (λ k. replicate k 0) count) ∙ ap (λ sets. sets ++ replicate (16 - length (map group_of front)) 0) (sym sets) in
+    let made : List ℕ → Ballot = λ marks. record { number = x.number; style = x.style; marks = marks } in
+    ap made marks
+
+pub each_spelled : SpellEachBallot
+unfolding line_for
+each_spelled e x election valid =
+    let n = length e.contests in
+    let sets = take n x.marks in
+    let count : length (map group_of sets) ≡ n = omega (arith, length-map sets group_of, length-take n x.marks, valid.sixteen, election.few_contests) in (
+      line_text (line_for e x),
+      record {
+        line = line_for e x;
+        reads = record {
+          parts = record {
+            some_number = valid.some_number;
+            short_number = valid.short_number;
+            some_style = valid.some_style;
+            short_style = omega (arith, valid.known_style, election.few_styles);
+            some_group = omega (arith, count, election.some_contest);
+            few_groups = omega (arith, count, election.few_contests);
+            each_group = All-from_recursion IsGroup (map group_of sets) (groups_valid sets);
+          };
+          spelled = refl;
+        };
+        a_group_each = count;
+        is = ballot_again e x election valid;
+        valid = valid;
+      },
+    )
