@@ -1,6 +1,8 @@
 //! The definitions that the whole store is proved against, and laws about them.
 #![tactic(auto)]
 
+pub mod layout;
+
 ghost use Rattle.store_spec.specs.Figures.{ExampleHomes, ExampleSizes, ExampleLayout, ExampleLines};
 
 /// The homes of some numbers under the example election.
