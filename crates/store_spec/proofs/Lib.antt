@@ -1,1 +1,4 @@
 pub mod Ascending
+pub mod LaidOut
+pub mod OrderedCells
+pub mod Placing
