@@ -10,7 +10,7 @@ ghost use Rattle.std.specs.Prelude.{◌≡◌, ◌≢◌, ◌+◌, ◌≤◌, Al
 ghost use Rattle.store_spec.specs.Layout.{HasRoom, layout_of};
 
 use outside_io::Memory;
-use probe::first_empty;
+use probe::{first_empty, fresh_pointers};
 use probe_order::Order;
 use std::alloc::Global;
 
@@ -25,7 +25,7 @@ pub fn build<O: Order>(alloc: Global, order: &O, cells: usize, numbers: &[u64]) 
     let mut waiting = Vec::from_slice(alloc, numbers)?;
     waiting.sort_unstable();
     let mut placed = vec![in alloc; 0; cells]?;
-    let mut onward: Vec<usize> = (0..cells).collect(alloc)?;
+    let mut onward = fresh_pointers(alloc, cells)?;
     place_all(order, waiting, &mut placed, &mut onward);
     Ok(placed)
 }

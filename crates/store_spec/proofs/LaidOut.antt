@@ -1,13 +1,17 @@
 -- The layout of a set of numbers is ordered, holds exactly these numbers, and leaves its last cell empty.
-use Rattle.std.proofs.Common.{◌≡◌, ◌≢◌, ℕ, zero, suc, ◌+◌, ◌-◌, ◌<◌, ◌≤◌, ◌⊎◌, inl, inr, ⊎_elim, List, [], ◌∷◌, length, get_or, set, replicate, sym, refl, ap, ◌∙◌, subst, arith}
+use Rattle.std.proofs.Common.{◌≡◌, ◌≢◌, ℕ, zero, suc, ◌+◌, ◌-◌, ◌<◌, ◌≤◌, ◌⊎◌, inl, inr, ⊎_elim, List, [], ◌∷◌, length, get_or, set, replicate, drop, sym, refl, ap, ◌∙◌, subst, arith}
 use Rattle.std.proofs.lemmas.Bool.{cases_eq, cases_lt}
-use Rattle.std.proofs.lemmas.List.{get_or-set_other, get_or-set_same, length-set, length-replicate}
-use Rattle.std.proofs.lemmas.List.Elements.{All-contains}
-use Rattle.std.specs.List.{Contains}
+use Rattle.std.proofs.lemmas.List.{get_or-set_other, get_or-set_same, length-set, length-replicate, length-drop, drop_more}
+use Rattle.std.proofs.lemmas.List.Elements.{All-contains, Contains-get_or}
+use Rattle.std.proofs.lemmas.List.Kept.{AllPairs-cons}
+use Rattle.std.proofs.lemmas.List.Sorted.{All-permutation, length_permutation}
+use Rattle.std.specs.List.{All, Contains, AllPairs}
+use Rattle.std.specs.List.Sorted.{IsPermutation, IsNonDecreasing}
 use Rattle.std.specs.Prelude.{slice_index}
-use Rattle.store_spec.proofs.Ascending.{IsIn, IsRising, in_ascending, from_ascending, in_from_contains, contains_from_in, length-ascending, ascending_distinct}
+use Rattle.store_spec.proofs.Ascending.{IsIn, IsRising, in_ascending, from_ascending, in_from_contains, contains_from_in, length-ascending, ascending_distinct, ascending-IsPermutation, ascending_rising}
 use Rattle.store_spec.proofs.OrderedCells.{same_cells, place_from_contains, contains_from_place, place_within}
-use Rattle.store_spec.proofs.Placing.{IsFirstEmpty, IsFilled, first_empty, placed_at, filled, filled_none, filled_set, filled_to_end}
+use Rattle.store_spec.proofs.Placing.{first_empty, placed_at, filled, filled_none, filled_set, filled_to_end}
+use Rattle.store_spec.specs.Probe.{IsFilled, IsFirstEmpty}
 use Rattle.store_spec.specs.Layout.{placed, laid_out, ascending, layout_of, IsOrdered, HoldsExactly, HasRoom, IsLayout}
 
 -- what placing keeps, number by number
@@ -114,7 +118,7 @@ last_cell home homes count numbers cells homed room h = ⊎_elim
   (λ (n : get_or cells (count - 1) 0 ≢ 0).
       let last = get_or cells (count - 1) 0 in
       let own = homed last (h.only (count - 1) n) in
-      let full : IsFilled (home last) (length cells) cells = λ k from to. ⊎_elim
+      let full : IsFilled cells (home last) (length cells) = λ k from to. ⊎_elim
         (λ (before : k < count - 1). let more = h.ordered.greater_before (count - 1) k n from before in λ z. omega arith)
         (λ (end : count - 1 ≤ k). let same : k ≡ count - 1 = omega (arith, h.size) in λ z. n (ap (λ m. get_or cells m 0) (sym same) ∙ z))
         (cases_lt k (count - 1)) in
@@ -155,3 +159,65 @@ ordered_is_layout_of home homes count numbers cells h len ordered holds =
     same_cells home cells (layout_of home count numbers) ordered is.ordered (len ∙ sym is.size)
     (λ v n c. is.exactly.each v (holds.only v n c))
     (λ v n c. holds.each v (is.exactly.only v n c))
+
+-- ---- the same set in another order
+
+distinct_from_rising : (xs : List ℕ) → IsRising xs → AllPairs (λ a b. a ≢ b) xs
+distinct_from_rising [] h = λ i j d lt in_range. absurd (omega arith)
+distinct_from_rising (x ∷ xs) h =
+    let apart : All (λ b. x ≢ b) xs = λ k d in_range.
+      let later : x < get_or xs k d = h.0 _ (in_from_contains _ xs (Contains-get_or xs k d in_range)) in λ e. omega arith in
+    AllPairs-cons (λ a b. a ≢ b) x xs apart (distinct_from_rising xs h.1)
+
+-- numbers that rise are in order, and each is below all later ones
+pub rising_in_order : (xs : List ℕ) → IsNonDecreasing xs → AllPairs (λ a b. a ≢ b) xs → IsRising xs
+rising_in_order xs up apart = subst (λ (l : List ℕ). IsRising l) (ascending_rising xs up) (ascending_distinct xs apart)
+
+pub distinct-IsPermutation : (xs ys : List ℕ) → IsPermutation xs ys → IsNonDecreasing ys → AllPairs (λ a b. a ≢ b) xs → AllPairs (λ a b. a ≢ b) ys
+distinct-IsPermutation xs ys p up apart =
+    distinct_from_rising ys
+    (subst (λ (l : List ℕ). IsRising l) (sym (ascending-IsPermutation xs ys p) ∙ ascending_rising ys up) (ascending_distinct xs apart))
+
+-- what sorting leaves has room where the list had
+pub room_sorted : (home : ℕ → ℕ) (homes count : ℕ) (xs ys : List ℕ) → IsPermutation xs ys → IsNonDecreasing ys → HasRoom home homes count xs → HasRoom home homes count ys
+room_sorted home homes count xs ys p up h = record {
+  distinct = distinct-IsPermutation xs ys p up h.distinct;
+  some = All-permutation (λ v. v ≢ 0) xs ys p h.some;
+  homed = All-permutation (λ v. home v < homes) xs ys p h.homed;
+  room = let len = length_permutation xs ys p in let enough = h.room in omega arith
+}
+
+-- ---- the next number down
+
+rising-drop : (n : ℕ) (xs : List ℕ) → IsRising xs → IsRising (drop n xs)
+rising-drop zero xs h = h
+rising-drop (suc n) [] h = tt
+rising-drop (suc n) (x ∷ xs) h = rising-drop n xs h.1
+
+from_drop : (n v : ℕ) (xs : List ℕ) → IsIn v (drop n xs) → IsIn v xs
+from_drop zero v xs i = i
+from_drop (suc n) v [] i = i
+from_drop (suc n) v (x ∷ xs) i = inr (from_drop n v xs i)
+
+-- Of numbers that rise those from a place on are laid out. The number before them finds an empty cell.
+pub next_finds : (home : ℕ → ℕ) (homes count : ℕ) (xs : List ℕ) (n : ℕ) → IsNonDecreasing xs → HasRoom home homes count xs → n < length xs → (p : ℕ) × IsFirstEmpty (laid_out home count (drop (n + 1) xs)) (home (get_or xs n 0)) p
+next_finds home homes count xs n up h lt =
+    let rising = rising_in_order xs up h.distinct in
+    let homed : AreHomed home homes xs = λ v i. let c = contains_from_in v xs i in (All-contains (λ w. w ≢ 0) xs v h.some c, All-contains (λ w. home w < homes) xs v h.homed c) in
+    let rest : AreHomed home homes (drop (n + 1) xs) = λ v i. homed v (from_drop (n + 1) v xs i) in
+    let enough = h.room in
+    let short = length-drop (n + 1) xs in
+    place_of_next home homes count (get_or xs n 0) (drop (n + 1) xs) _
+    (homed _ (in_from_contains _ xs (Contains-get_or xs n 0 lt))).1
+    (let room : homes + suc (length (drop (n + 1) xs)) ≤ count = omega arith in room)
+    (laid_out_is home homes count (drop (n + 1) xs) (rising-drop (n + 1) xs rising) rest (omega arith))
+
+-- it goes there
+pub next_placed : (home : ℕ → ℕ) (count : ℕ) (xs : List ℕ) (n p : ℕ) → n < length xs → IsFirstEmpty (laid_out home count (drop (n + 1) xs)) (home (get_or xs n 0)) p → laid_out home count (drop n xs) ≡ set (laid_out home count (drop (n + 1) xs)) p (get_or xs n 0)
+next_placed home count xs n p lt first =
+    ap (laid_out home count) (drop_more xs n 0 lt)
+    ∙ placed_at (get_or xs n 0) (home (get_or xs n 0)) _ p first.after first.within first.empty first.full
+
+-- and numbers in order are laid out as they stand
+pub layout_of_rising : (home : ℕ → ℕ) (count : ℕ) (xs : List ℕ) → IsNonDecreasing xs → layout_of home count xs ≡ laid_out home count xs
+layout_of_rising home count xs up = ap (laid_out home count) (ascending_rising xs up)

@@ -2,6 +2,7 @@
 use Rattle.std.proofs.Common.{◌≡◌, ◌≢◌, if◌then◌else◌, ◌==◌, ℕ, zero, suc, ◌+◌, ◌<◌, ◌≤◌, ◌⊎◌, inl, inr, ⊎_elim, List, [], ◌∷◌, length, get_or, set, replicate, sym, refl, ap, ◌∙◌, subst, arith}
 use Rattle.std.proofs.lemmas.Bool.{eq-eqb, ne_eqb, cases_lt, cond-true, cond-false, cases_eq}
 use Rattle.store_spec.specs.Layout.{placed}
+use Rattle.store_spec.specs.Probe.{IsFilled, IsFirstEmpty}
 
 pub length-placed : (v place : ℕ) (cells : List ℕ) → length (placed v place cells) ≡ length cells
 length-placed v place [] = refl
@@ -11,12 +12,8 @@ length-placed v zero (cell ∷ cells) = ⊎_elim
   (cases_eq cell 0)
 length-placed v (suc place) (cell ∷ cells) = ap suc (length-placed v place cells)
 
--- all cells from one place up to another are filled
-abbrev pub IsFilled : ℕ → ℕ → List ℕ → Type 0
-IsFilled from to cells = (k : ℕ) → from ≤ k → k < to → get_or cells k 0 ≢ 0
-
 -- the number goes into a cell that is the first empty one
-pub placed_at : (v place : ℕ) (cells : List ℕ) (p : ℕ) → place ≤ p → p < length cells → get_or cells p 0 ≡ 0 → IsFilled place p cells → placed v place cells ≡ set cells p v
+pub placed_at : (v place : ℕ) (cells : List ℕ) (p : ℕ) → place ≤ p → p < length cells → get_or cells p 0 ≡ 0 → IsFilled cells place p → placed v place cells ≡ set cells p v
 placed_at v place [] p le lt e full = refl
 placed_at v zero (cell ∷ cells) zero le lt e full = cond-true _ _ _ (eq-eqb cell 0 e)
 placed_at v zero (cell ∷ cells) (suc p) le lt e full =
@@ -26,23 +23,16 @@ placed_at v (suc place) (cell ∷ cells) zero le lt e full = absurd (omega arith
 placed_at v (suc place) (cell ∷ cells) (suc p) le lt e full =
     ap (λ rest. cell ∷ rest) (placed_at v place cells p (omega arith) (omega arith) e (λ k l m. full (suc k) (omega arith) (omega arith)))
 
--- the first empty cell at or after a place
-pub record IsFirstEmpty (cells : List ℕ) (place p : ℕ) : Type 0 where
-  pub after : place ≤ p
-  pub within : p < length cells
-  pub empty : get_or cells p 0 ≡ 0
-  pub full : IsFilled place p cells
-
-filled_on : (cell : ℕ) (cells : List ℕ) (place to : ℕ) → IsFilled place to cells → IsFilled (suc place) (suc to) (cell ∷ cells)
+filled_on : (cell : ℕ) (cells : List ℕ) (place to : ℕ) → IsFilled cells place to → IsFilled (cell ∷ cells) (suc place) (suc to)
 filled_on cell cells place to h zero le lt = absurd (omega arith)
 filled_on cell cells place to h (suc k) le lt = h k (omega arith) (omega arith)
 
-filled_after : (cell : ℕ) (cells : List ℕ) (to : ℕ) → cell ≢ 0 → IsFilled 0 to cells → IsFilled 0 (suc to) (cell ∷ cells)
+filled_after : (cell : ℕ) (cells : List ℕ) (to : ℕ) → cell ≢ 0 → IsFilled cells 0 to → IsFilled (cell ∷ cells) 0 (suc to)
 filled_after cell cells to n h zero le lt = n
 filled_after cell cells to n h (suc k) le lt = h k (omega arith) (omega arith)
 
 -- each place has a first empty cell at or after it, unless all are filled from there to the end
-pub first_empty : (place : ℕ) (cells : List ℕ) → ((p : ℕ) × IsFirstEmpty cells place p) ⊎ IsFilled place (length cells) cells
+pub first_empty : (place : ℕ) (cells : List ℕ) → ((p : ℕ) × IsFirstEmpty cells place p) ⊎ IsFilled cells place (length cells)
 first_empty place [] = inr (λ k le lt. absurd (omega arith))
 first_empty zero (cell ∷ cells) = ⊎_elim
   (λ (e : cell ≡ 0). inl (0, record { after = omega arith; within = omega arith; empty = e; full = λ k le lt. absurd (omega arith) }))
@@ -85,7 +75,7 @@ filled_set (cell ∷ cells) (suc p) v =
     (cases_eq cell 0)
 
 -- cells that are filled from a place to the end are many
-pub filled_to_end : (place : ℕ) (cells : List ℕ) → IsFilled place (length cells) cells → length cells ≤ filled cells + place
+pub filled_to_end : (place : ℕ) (cells : List ℕ) → IsFilled cells place (length cells) → length cells ≤ filled cells + place
 filled_to_end place [] full = omega arith
 filled_to_end zero (cell ∷ cells) full =
     let rest = filled_to_end zero cells (λ k l m. full (suc k) (omega arith) (omega arith)) in

@@ -8,3 +8,4 @@ pub mod Home
 pub mod Image
 pub mod Input
 pub mod Layout
+pub mod Probe
