@@ -44,3 +44,33 @@ fn place_all<O: Order>(order: &O, mut waiting: Vec<u64>, cells: &mut [u64], onwa
         onward[place] = place + 1;
     }
 }
+
+#[cfg(test)]
+mod tests {
+    use super::*;
+    use probe_order::Salted;
+
+    #[test]
+    fn example_layouts(rt: HostRuntime) {
+        let eight = [1, 2, 6, 9, 14, 17, 22, 18446744073709551615];
+        let cases: [(u8, usize, &[u64], &[(usize, u64)]); 3] = [
+            (3, 16, &[1, 9, 14], &[(4, 9), (5, 14), (6, 1)]),
+            (
+                3,
+                16,
+                &eight,
+                &[(1, 2), (3, 18446744073709551615), (4, 22), (5, 17), (6, 14), (7, 9), (8, 6), (9, 1)],
+            ),
+            (0, 2, &[5], &[(0, 5)]),
+        ];
+        for (bits, count, numbers, stands) in cases {
+            let order = Salted { bits, salt: 0 };
+            let cells = build(rt.alloc(), &order, count, numbers).expect(&rt, "memory");
+            assert_eq!(rt; cells.len(), count);
+            for (place, cell) in cells.iter().enumerate() {
+                let want = stands.iter().find(|at| at.0 == place).map_or(0, |at| at.1);
+                assert_eq!(rt; *cell, want, "cell {place}");
+            }
+        }
+    }
+}
