@@ -9,15 +9,19 @@ pub record Ballot : Type 0 where
   pub style : ℕ
   pub marks : List ℕ
 
--- The number is not 0, the style is one of the election's, and each mark set has only choices of that contest,
--- none where the contest is not on the style. More marks than allowed are valid: they are an overvote.
+-- each mark set has only choices of that contest, none where the contest is not on the style
+abbrev pub HasMarks : Election → ℕ → List ℕ → Type 0
+HasMarks e style marks = (k : ℕ) → 1 ≤ k → k ≤ 16 → slice_index marks (k - 1) < 2 ^ choices_on e style k
+
+-- The number is not 0, the style is one of the election's, and the mark sets fit. More marks than
+-- allowed are valid: they are an overvote.
 pub record IsValid (e : Election) (b : Ballot) : Type 0 where
   pub some_number : 1 ≤ b.number
   pub short_number : b.number < 2 ^ 64
   pub some_style : 1 ≤ b.style
   pub known_style : b.style ≤ length e.styles
   pub sixteen : length b.marks ≡ 16
-  pub marked : (k : ℕ) → 1 ≤ k → k ≤ 16 → slice_index b.marks (k - 1) < 2 ^ choices_on e b.style k
+  pub marked : HasMarks e b.style b.marks
 
 abbrev pub numbers_of : List Ballot → List ℕ
 numbers_of ballots = map (λ b. b.number) ballots

@@ -1,0 +1,4 @@
+mod Cells
+mod Counts
+mod OnStyle
+mod Places

@@ -1,0 +1,31 @@
+-- Where a contest is on no style.
+use Rattle.std.proofs.Common.{◌≡◌, ◌≢◌, ℕ, zero, suc, ◌+◌, ◌-◌, ◌^◌, ◌<◌, ◌≤◌, Bool, true, false, cond, eqb, length, get_or, refl, ap, ◌∙◌, arith}
+use Rattle.std.proofs.lemmas.List.{get_or_past}
+use Rattle.std.proofs.lemmas.Nat.Bits.{bit_at-zero, bit_at_above}
+use Rattle.std.specs.Prelude.{slice_index}
+use Rattle.std.specs.Int.{bit_at}
+use Rattle.store_spec.specs.Election.{Election, IsElection, is_on_style}
+
+never : (b c : Bool) → cond b false (cond c false false) ≡ false
+never true c = refl
+never false true = refl
+never false false = refl
+
+no_bit : (e : Election) (s k : ℕ) → bit_at (slice_index e.styles (s - 1)) (k - 1) ≡ 0 → is_on_style e s k ≡ false
+no_bit e s k none = ap (λ bit. cond (eqb s 0) false (cond (eqb k 0) false (eqb bit 1))) none ∙ never (eqb s 0) (eqb k 0)
+
+pub off_style_0 : (e : Election) (s k : ℕ) → s ≡ 0 → is_on_style e s k ≡ false
+off_style_0 e s k is = ap (λ s. is_on_style e s k) is
+
+pub off_contest_0 : (e : Election) (s k : ℕ) → k ≡ 0 → is_on_style e s k ≡ false
+off_contest_0 e s k is =
+    let off : (b : Bool) → cond b false false ≡ false = elim [ true ↦ refl | false ↦ refl ] in
+    ap (λ k. is_on_style e s k) is ∙ off (eqb s 0)
+
+pub past_styles : (e : Election) (s k : ℕ) → length e.styles < s → is_on_style e s k ≡ false
+past_styles e s k past =
+    no_bit e s k (ap (λ style. bit_at style (k - 1)) (get_or_past e.styles (s - 1) 0 (omega arith)) ∙ bit_at-zero (k - 1))
+
+pub past_contests : (e : Election) (s k : ℕ) → IsElection e → s ≢ 0 → s ≤ length e.styles → length e.contests < k → is_on_style e s k ≡ false
+past_contests e s k valid some known past =
+    no_bit e s k (bit_at_above (slice_index e.styles (s - 1)) (length e.contests) (k - 1) ((valid.each_style (s - 1) 0 (omega arith)).of_these) (omega arith))

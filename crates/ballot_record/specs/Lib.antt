@@ -1,0 +1,4 @@
+pub mod Contest
+pub mod Kept
+pub mod Parts
+pub mod Record

@@ -1,0 +1,26 @@
+-- An election from its parts, as a caller hands them in.
+use Rattle.std.specs.Prelude.{ℕ, ◌≤◌, List, length, All}
+use Rattle.ballot_record.specs.Contest.{contests_of}
+use Rattle.ballot_record.specs.declared.contest.Contest.{Contest}
+use Rattle.store_spec.specs.Election as definition
+
+abbrev pub parts_of : List Contest → List ℕ → ℕ → ℕ → ℕ → definition.Election
+parts_of contests styles limit bits salt = record {
+  contests = contests_of contests;
+  styles = styles;
+  limit = limit;
+  bits = bits;
+  salt = salt;
+}
+
+-- what an election's rules say of its contests alone
+pub record AreContests (contests : List definition.Contest) : Type 0 where
+  pub some : 1 ≤ length contests
+  pub few : length contests ≤ 16
+  pub each : All definition.IsContest contests
+
+-- what they say of the styles over so many contests
+pub record AreStyles (contests : ℕ) (styles : List ℕ) : Type 0 where
+  pub some : 1 ≤ length styles
+  pub few : length styles ≤ 255
+  pub each : All (definition.IsStyle contests) styles

@@ -1,0 +1,6 @@
+-- A record of the program, as the definitions see it.
+use Rattle.ballot_record.specs.declared.record.Record.{Record}
+use Rattle.store_spec.specs.Ballot.{Ballot}
+
+abbrev pub ballot : Record → Ballot
+ballot r = record { number = r.number; style = r.style; marks = r.marks }

@@ -1,0 +1,250 @@
+ghost use Rattle.std.specs.Prelude.{◌≡◌, ◌-◌, ◌^◌, ◌<◌, ◌≤◌, ◌++◌, ◌↔◌, length, replicate, All, Some, IsTrue, IsSome, IfSome, slice_get};
+ghost use Rattle.store_spec.specs.Election.{IsContest, IsStyle, IsElection, choices_of, choices_on, is_on_style, cell_count, cell_size, bank_size, medium_size, example};
+ghost use Rattle.ballot_record.specs.Contest.{contest_of, contests_of, no_contest};
+ghost use Rattle.ballot_record.specs.Parts.{parts_of, AreContests, AreStyles};
+
+use crate::Contest;
+use std::marker::Model;
+
+/// The most contests of an election.
+pub const MAX_CONTESTS: usize = 16;
+
+/// The most ballot styles of an election.
+pub const MAX_STYLES: usize = 255;
+
+/// The most ballots that a store may hold.
+pub const MAX_LIMIT: u32 = 32768;
+
+/// The most bits of a home.
+pub const MAX_BITS: u8 = 16;
+
+const NO_CONTEST: Contest = Contest {
+    choices: 0,
+    allowed: 0,
+};
+
+/// An election: its contests, its ballot styles, and how its store is laid out. It has no memory of its own.
+#[derive(Clone, Copy)]
+pub struct Election {
+    contests: [Contest; MAX_CONTESTS],
+    contest_count: u8,
+    styles: [u32; MAX_STYLES],
+    style_count: u8,
+    limit: u32,
+    bits: u8,
+    salt: u64,
+}
+
+impl Model for Election {
+    ghost use Rattle.store_spec.specs.Election as definition;
+
+    ghost Value = { definition.Election };
+
+    ghost use Rattle.ballot_record.specs.Kept.{election_of, kept_of, IsKept, kept_of-election_of};
+
+    ghost view = { election_of };
+
+    ghost invariant = { IsKept };
+
+    ghost inverse = { kept_of };
+
+    ghost inverse_ok = { kept_of-election_of };
+}
+
+fn each_is_valid(contests: &[Contest]) -> bool
+    ensures { IsTrue result ↔ All (λ contest. IsContest (contest_of contest)) contests.now }
+{
+    contests.iter().all(|contest| contest.is_valid())
+}
+
+fn are_contests(contests: &[Contest]) -> bool
+    ensures { IsTrue result ↔ AreContests (contests_of contests.now) }
+{
+    let count = contests.len();
+    1 <= count && count <= MAX_CONTESTS && each_is_valid(contests)
+}
+
+fn are_styles(styles: &[u32], contests: usize) -> bool
+    requires { contests ≤ 16 }
+    ensures { IsTrue result ↔ AreStyles contests styles.now }
+{
+    !styles.is_empty()
+        && styles.len() <= MAX_STYLES
+        && styles
+            .iter()
+            .all(|style| 1 <= *style && *style < 1 << contests)
+}
+
+fn contests_kept(contests: &[Contest]) -> [Contest; MAX_CONTESTS]
+    requires { length contests.now ≤ 16 }
+    ensures { result ≡ contests.now ++ replicate (16 - length contests.now) no_contest }
+{
+    let mut kept = [NO_CONTEST; MAX_CONTESTS];
+    kept[..contests.len()].copy_from_slice(contests);
+    kept
+}
+
+fn styles_kept(styles: &[u32]) -> [u32; MAX_STYLES]
+    requires { length styles.now ≤ 255 }
+    ensures { result ≡ styles.now ++ replicate (255 - length styles.now) 0 }
+{
+    let mut kept = [0; MAX_STYLES];
+    kept[..styles.len()].copy_from_slice(styles);
+    kept
+}
+
+impl Election {
+    /// The election of these parts: contest k is the k-th of `contests`, and style s the s-th of `styles`, in which
+    /// bit k - 1 stands for contest k. `None` where a rule on elections fails.
+    pub fn from_parts(
+        contests: &[Contest],
+        styles: &[u32],
+        limit: u32,
+        bits: u8,
+        salt: u64,
+    ) -> Option<Election>
+        ensures valid { IsSome result ↔ IsElection (parts_of contests.now styles.now limit bits salt) }
+        ensures parts { IfSome result (λ election. election ≡ parts_of contests.now styles.now limit bits salt) }
+    {
+        if !are_contests(contests) || !are_styles(styles, contests.len()) {
+            return None;
+        }
+        if limit == 0 || limit > MAX_LIMIT || bits > MAX_BITS {
+            return None;
+        }
+        Some(Election {
+            contests: contests_kept(contests),
+            contest_count: contests.len() as u8,
+            styles: styles_kept(styles),
+            style_count: styles.len() as u8,
+            limit,
+            bits,
+            salt,
+        })
+    }
+
+    /// The example of the documents: two contests on one style, at most 8 ballots and 8 homes.
+    pub fn example() -> Election
+        ensures { result ≡ example }
+    {
+        let contests = [
+            Contest {
+                choices: 4,
+                allowed: 1,
+            },
+            Contest {
+                choices: 3,
+                allowed: 2,
+            },
+        ];
+        match Election::from_parts(&contests, &[0b11], 8, 3, 0) {
+            Some(election) => election,
+            None => unreachable!(),
+        }
+    }
+
+    /// How many contests it has.
+    pub fn contests(&self) -> usize
+        ensures count { result ≡ length self.now.contests }
+        ensures valid { IsElection self.now }
+    {
+        usize::from(self.contest_count)
+    }
+
+    /// Contest `k`, counted from 1.
+    pub fn contest(&self, k: usize) -> Contest
+        requires first { 1 ≤ k }
+        requires last { k ≤ length self.now.contests }
+        ensures contest { slice_get self.now.contests (k - 1) ≡ Some (contest_of result) }
+        ensures valid { IsContest (contest_of result) }
+    {
+        let contests = &self.contests;
+        contests[k - 1]
+    }
+
+    /// How many ballot styles it has.
+    pub fn styles(&self) -> usize
+        ensures count { result ≡ length self.now.styles }
+        ensures valid { IsElection self.now }
+    {
+        usize::from(self.style_count)
+    }
+
+    /// Whether contest `k` is on a style, both counted from 1. It is not where the election lacks one of them.
+    pub fn on_style(&self, style: u8, k: usize) -> bool
+        ensures on_style { result ≡ is_on_style self.now style k }
+        ensures known { IsTrue result → (1 ≤ k) × (k ≤ length self.now.contests) }
+    {
+        let style = usize::from(style);
+        if style == 0 || style > self.styles() || k == 0 || k > self.contests() {
+            return false;
+        }
+        self.styles[style - 1] >> (k - 1) & 1 == 1
+    }
+
+    /// How many choices a ballot of a style has in contest `k`: none where the contest is not on the style.
+    pub fn choices_on(&self, style: u8, k: usize) -> u8
+        ensures choices { result ≡ choices_on self.now style k }
+        ensures few { result ≤ 32 }
+    {
+        if self.on_style(style, k) {
+            self.contest(k).choices
+        } else {
+            0
+        }
+    }
+
+    /// The most ballots that its store may hold.
+    pub fn limit(&self) -> u32
+        ensures limit { result ≡ self.now.limit }
+        ensures valid { IsElection self.now }
+    {
+        self.limit
+    }
+
+    /// How many bits a home has: there are 2 to this power homes.
+    pub fn bits(&self) -> u8
+        ensures bits { result ≡ self.now.bits }
+        ensures valid { IsElection self.now }
+    {
+        self.bits
+    }
+
+    /// What spreads the homes.
+    pub fn salt(&self) -> u64
+        ensures { result ≡ self.now.salt }
+    {
+        self.salt
+    }
+
+    /// How many cells a bank has.
+    pub fn cells(&self) -> usize
+        ensures count { result ≡ cell_count self.now }
+        ensures few { result ≤ 98304 }
+    {
+        (1 << self.bits) + self.limit as usize
+    }
+
+    /// How many bytes a cell has.
+    pub fn cell_bytes(&self) -> usize
+        ensures size { result ≡ cell_size self.now }
+        ensures few { result ≤ 73 }
+    {
+        9 + 4 * self.contests()
+    }
+
+    /// How many bytes a bank has.
+    pub fn bank_bytes(&self) -> usize
+        ensures size { result ≡ bank_size self.now }
+        ensures few { result ≤ 7176224 }
+    {
+        32 + self.cells() * self.cell_bytes()
+    }
+
+    /// How many bytes a medium has.
+    pub fn medium_bytes(&self) -> u64
+        ensures { result ≡ medium_size self.now }
+    {
+        2 * self.bank_bytes() as u64 + 2
+    }
+}

@@ -1,0 +1,55 @@
+ghost use Rattle.std.specs.Prelude.{◌≡◌, ℕ, ◌-◌, ◌^◌, ◌<◌, ◌≤◌, ◌↔◌, length, IsTrue, slice_index};
+ghost use Rattle.store_spec.specs.Election.{choices_on, cell_size};
+ghost use Rattle.store_spec.specs.Ballot.{IsValid, HasMarks};
+ghost use Rattle.store_spec.specs.Image.{ballot_bytes};
+
+use crate::Election;
+use byteorder::{BigEndian, ByteOrder};
+
+/// A cast ballot: its number, its style, and a mark set for each of sixteen contests, in which bit c - 1 stands for
+/// choice c.
+#[derive(Clone, Copy, Debug, PartialEq, Eq)]
+pub struct Record {
+    pub number: u64,
+    pub style: u8,
+    pub marks: [u32; 16],
+}
+
+impl Record {
+    ghost use Rattle.ballot_record.specs.Record.{ballot};
+
+    /// Whether the election knows its style, and its marks are choices of contests on it. More marks than allowed
+    /// are valid: they are an overvote.
+    pub fn valid(&self, election: &Election) -> bool
+        ensures { IsTrue result ↔ IsValid election.now (ballot self.now) }
+    {
+        self.number != 0
+            && self.style != 0
+            && usize::from(self.style) <= election.styles()
+            && self.has_marks(election)
+    }
+
+    fn has_marks(&self, election: &Election) -> bool
+        ensures { IsTrue result ↔ HasMarks election.now self.now.style self.now.marks }
+    {
+        for (place, marks) in self.marks.iter().enumerate() {
+            let choices = election.choices_on(self.style, place + 1);
+            if u64::from(*marks) >= 1 << choices {
+                return false;
+            }
+        }
+        true
+    }
+
+    /// Writes the bytes of its cell.
+    pub fn put_cell(&self, election: &Election, out: &mut [u8])
+        requires valid { IsValid election.now (ballot self.now) }
+        requires room { length out.old ≡ cell_size election.now }
+        ensures { out.new ≡ ballot_bytes election.now (ballot self.now) }
+    {
+        let contests = election.contests();
+        BigEndian::write_u64(out, self.number);
+        out[8] = self.style;
+        BigEndian::write_u32_into(&self.marks[..contests], &mut out[9..]);
+    }
+}
