@@ -162,26 +162,32 @@ ordered_is_layout_of home homes count numbers cells h len ordered holds =
 
 -- ---- the same set in another order
 
-distinct_from_rising : (xs : List ℕ) → IsRising xs → AllPairs (λ a b. a ≢ b) xs
+pub distinct_from_rising : (xs : List ℕ) → IsRising xs → AllPairs (λ a b. a ≢ b) xs
 distinct_from_rising [] h = λ i j d lt in_range. absurd (omega arith)
 distinct_from_rising (x ∷ xs) h =
     let apart : All (λ b. x ≢ b) xs = λ k d in_range.
       let later : x < get_or xs k d = h.0 _ (in_from_contains _ xs (Contains-get_or xs k d in_range)) in λ e. omega arith in
     AllPairs-cons (λ a b. a ≢ b) x xs apart (distinct_from_rising xs h.1)
 
+pub ascending_from_rising : (xs : List ℕ) → IsRising xs → AllPairs (λ a b. a < b) xs
+ascending_from_rising [] h = λ i j d lt in_range. absurd (omega arith)
+ascending_from_rising (x ∷ xs) h =
+    let below : All (λ b. x < b) xs = λ k d in_range. h.0 _ (in_from_contains _ xs (Contains-get_or xs k d in_range)) in
+    AllPairs-cons (λ a b. a < b) x xs below (ascending_from_rising xs h.1)
+
 -- numbers that rise are in order, and each is below all later ones
 pub rising_in_order : (xs : List ℕ) → IsNonDecreasing xs → AllPairs (λ a b. a ≢ b) xs → IsRising xs
 rising_in_order xs up apart = subst (λ (l : List ℕ). IsRising l) (ascending_rising xs up) (ascending_distinct xs apart)
 
-pub distinct-IsPermutation : (xs ys : List ℕ) → IsPermutation xs ys → IsNonDecreasing ys → AllPairs (λ a b. a ≢ b) xs → AllPairs (λ a b. a ≢ b) ys
-distinct-IsPermutation xs ys p up apart =
-    distinct_from_rising ys
-    (subst (λ (l : List ℕ). IsRising l) (sym (ascending-IsPermutation xs ys p) ∙ ascending_rising ys up) (ascending_distinct xs apart))
+-- what sorting leaves of distinct numbers
+pub sorted_rising : (xs ys : List ℕ) → IsPermutation xs ys → IsNonDecreasing ys → AllPairs (λ a b. a ≢ b) xs → IsRising ys
+sorted_rising xs ys p up apart =
+    subst (λ (l : List ℕ). IsRising l) (sym (ascending-IsPermutation xs ys p) ∙ ascending_rising ys up) (ascending_distinct xs apart)
 
 -- what sorting leaves has room where the list had
 pub room_sorted : (home : ℕ → ℕ) (homes count : ℕ) (xs ys : List ℕ) → IsPermutation xs ys → IsNonDecreasing ys → HasRoom home homes count xs → HasRoom home homes count ys
 room_sorted home homes count xs ys p up h = record {
-  distinct = distinct-IsPermutation xs ys p up h.distinct;
+  distinct = distinct_from_rising ys (sorted_rising xs ys p up h.distinct);
   some = All-permutation (λ v. v ≢ 0) xs ys p h.some;
   homed = All-permutation (λ v. home v < homes) xs ys p h.homed;
   room = let len = length_permutation xs ys p in let enough = h.room in omega arith
