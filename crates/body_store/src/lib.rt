@@ -159,3 +159,34 @@ impl Closed {
         })
     }
 }
+
+#[cfg(test)]
+mod tests {
+    use super::*;
+    use ballot_record::Contest;
+
+    fn ballot(number: u64) -> Record {
+        Record {
+            number,
+            style: 1,
+            marks: [0; 16],
+        }
+    }
+
+    fn stands(rt: &HostRuntime, store: &Closed, cells: usize, want: &[(usize, u64)]) {
+        assert_eq!(rt; store.cells().len(), cells);
+        for (place, cell) in store.cells().iter().enumerate() {
+            let number = want.iter().find(|at| at.0 == place).map_or(0, |at| at.1);
+            assert_eq!(rt; *cell, number, "cell {place}");
+        }
+    }
+
+    #[test]
+    fn three_ballots_and_one_more(rt: HostRuntime) {
+        let election = Election::example();
+        let alloc = rt.alloc();
+        let nothing = Closed::empty(alloc, &election).expect(&rt, "memory");
+        assert_eq!(rt; nothing.len(), 0);
+        stands(&rt, &nothing, 16, &[]);
+    }
+}

@@ -8,12 +8,10 @@ pub fn ordered_cells_are_the_layout()
     ensures { (home : ℕ → ℕ) (homes count : ℕ) (numbers cells : List ℕ) → HasRoom home homes count numbers
         → length cells ≡ count → IsOrdered home cells → HoldsExactly cells numbers
         → cells ≡ layout_of home count numbers }
-{
-}
+{}
 
 /// The layout of a set is ordered, holds exactly the numbers of that set, and leaves its last cell empty.
 pub fn layout_is_ordered()
     ensures { (home : ℕ → ℕ) (homes count : ℕ) (numbers : List ℕ) → HasRoom home homes count numbers
         → IsLayout home count numbers (layout_of home count numbers) }
-{
-}
+{}

@@ -16,7 +16,12 @@ use std::alloc::Global;
 
 /// The cells that hold these numbers, where each stands in the first cell at or after its home that no greater number takes.
 /// It takes time near n log n, also where all numbers have one home.
-pub fn build<O: Order>(alloc: Global, order: &O, cells: usize, numbers: &[u64]) -> Result<Vec<u64>, Memory>
+pub fn build<O: Order>(
+    alloc: Global,
+    order: &O,
+    cells: usize,
+    numbers: &[u64],
+) -> Result<Vec<u64>, Memory>
     requires distinct { AllPairs (λ a b. a ≢ b) numbers.now }
     requires some { All (λ v. v ≢ 0) numbers.now }
     requires room { O.homes order.now + length numbers.now ≤ cells }
@@ -49,28 +54,44 @@ fn place_all<O: Order>(order: &O, mut waiting: Vec<u64>, cells: &mut [u64], onwa
 mod tests {
     use super::*;
     use probe_order::Salted;
+    use std::process::Abort;
+
+    const EXAMPLE: Salted = Salted { bits: 3, salt: 0 };
+
+    fn holds(rt: &impl Abort, cells: &[u64], wanted: &[(usize, u64)]) {
+        for (place, cell) in cells.iter().enumerate() {
+            let number = wanted.iter().find(|at| at.0 == place).map_or(0, |at| at.1);
+            assert_eq!(rt; *cell, number, "cell {place}");
+        }
+    }
 
     #[test]
-    fn example_layouts(rt: HostRuntime) {
-        let eight = [1, 2, 6, 9, 14, 17, 22, 18446744073709551615];
-        let cases: [(u8, usize, &[u64], &[(usize, u64)]); 3] = [
-            (3, 16, &[1, 9, 14], &[(4, 9), (5, 14), (6, 1)]),
-            (
-                3,
-                16,
-                &eight,
-                &[(1, 2), (3, 18446744073709551615), (4, 22), (5, 17), (6, 14), (7, 9), (8, 6), (9, 1)],
-            ),
-            (0, 2, &[5], &[(0, 5)]),
+    fn three_numbers(rt: HostRuntime) {
+        let cells = build(rt.alloc(), &EXAMPLE, 16, &[1, 9, 14]).expect(&rt, "memory");
+        holds(&rt, &cells, &[(4, 9), (5, 14), (6, 1)]);
+    }
+
+    #[test]
+    fn eight_numbers(rt: HostRuntime) {
+        let numbers = [1, 2, 6, 9, 14, 17, 22, u64::MAX];
+        let cells = build(rt.alloc(), &EXAMPLE, 16, &numbers).expect(&rt, "memory");
+        let wanted = [
+            (1, 2),
+            (3, u64::MAX),
+            (4, 22),
+            (5, 17),
+            (6, 14),
+            (7, 9),
+            (8, 6),
+            (9, 1),
         ];
-        for (bits, count, numbers, stands) in cases {
-            let order = Salted { bits, salt: 0 };
-            let cells = build(rt.alloc(), &order, count, numbers).expect(&rt, "memory");
-            assert_eq!(rt; cells.len(), count);
-            for (place, cell) in cells.iter().enumerate() {
-                let want = stands.iter().find(|at| at.0 == place).map_or(0, |at| at.1);
-                assert_eq!(rt; *cell, want, "cell {place}");
-            }
-        }
+        holds(&rt, &cells, &wanted);
+    }
+
+    #[test]
+    fn one_home(rt: HostRuntime) {
+        let order = Salted { bits: 0, salt: 0 };
+        let cells = build(rt.alloc(), &order, 2, &[5]).expect(&rt, "memory");
+        holds(&rt, &cells, &[(0, 5)]);
     }
 }

@@ -27,7 +27,7 @@ place_all-requires-clause-fits g c =
       room = let enough = c.requires.room in omega arith;
     } in
     let moved : IsPermutation numbers c.sort_unstable.new.self.items =
-      subst (λ (l : List ℕ). IsPermutation l c.sort_unstable.new.self.items) c.in_ok-waiting.ensures.items c.sort_unstable.ensures.permutation in
+    subst (λ (l : List ℕ). IsPermutation l c.sort_unstable.new.self.items) c.in_ok-waiting.ensures.items c.sort_unstable.ensures.permutation in
     room_sorted home homes all numbers _ moved (place_all-requires-clause-rising g c) before
 
 -- the cells are empty, and each pointer leads to its own cell
@@ -50,7 +50,7 @@ returns g c =
     let home = g.O.Order.home c.args.order.now in
     let size : length c.deref_mut.result.now ≡ c.args.cells = search rules in
     let same : ascending c.sort_unstable.new.self.items ≡ ascending c.args.numbers.now =
-      ascending-IsPermutation _ _ c.sort_unstable.ensures.permutation ∙ ap ascending c.in_ok-waiting.ensures.items in
+    ascending-IsPermutation _ _ c.sort_unstable.ensures.permutation ∙ ap ascending c.in_ok-waiting.ensures.items in
     let kept : length c.place_all.new.cells ≡ c.in_ok-placed.placed.len = search rules in
     take_at c.place_all.new.cells _ _ kept
     ∙ c.place_all.ensures

@@ -26,7 +26,7 @@ loop-v-preserved g c =
     record {
       left = t.left;
       placed = goes home _ _ _ _ c.loop-v.cells c.in-Some.v _ i.left c.in-Some.ensures.items i.placed
-        (subst (λ (from : ℕ). IsFirstEmpty c.loop-v.cells from c.first_empty-place.result) c.home.ensures first);
+          (subst (λ (from : ℕ). IsFirstEmpty c.loop-v.cells from c.first_empty-place.result) c.home.ensures first);
       sound = sound_filled _ _ _ _ c.first_empty-place.ensures.still_sound some first.within;
     }
 
