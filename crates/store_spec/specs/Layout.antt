@@ -1,6 +1,6 @@
 -- Where the numbers of a set stand: linear probing by priority, which is history-independent
 -- (Blelloch and Golovin, FOCS 2007). A greater number has the higher priority, and 0 is the empty cell.
-use Rattle.std.specs.Prelude.{◌≡◌, ◌≢◌, ℕ, zero, suc, ◌<◌, ◌≤◌, nat_le, ◌==◌, if◌then◌else◌, List, [], ◌∷◌, length, replicate, slice_index}
+use Rattle.std.specs.Prelude.{◌≡◌, ◌≢◌, ℕ, zero, suc, ◌<◌, ◌≤◌, nat_le, ◌==◌, if◌then◌else◌, List, [], ◌∷◌, ◌+◌, ◌-◌, length, replicate, slice_index, All, AllPairs, Contains}
 
 -- the numbers of a list in ascending order
 abbrev pub put_in_order : ℕ → List ℕ → List ℕ
@@ -32,3 +32,23 @@ layout_of home count numbers = laid_out home count (ascending numbers)
 pub record IsOrdered (home : ℕ → ℕ) (cells : List ℕ) : Type 0 where
   pub from_home : (place : ℕ) → slice_index cells place ≢ 0 → home (slice_index cells place) ≤ place
   pub greater_before : (place before : ℕ) → slice_index cells place ≢ 0 → home (slice_index cells place) ≤ before → before < place → slice_index cells place < slice_index cells before
+
+-- each of the numbers stands in some cell, and what stands in a cell is one of them or 0
+pub record HoldsExactly (cells numbers : List ℕ) : Type 0 where
+  pub each : (v : ℕ) → Contains numbers v → Contains cells v
+  pub only : (v : ℕ) → v ≢ 0 → Contains cells v → Contains numbers v
+
+-- Distinct numbers that are not 0, with so many homes, and room: a cell for each home and for each number.
+-- Then each number finds a cell at or after its home, and one is left after the last.
+pub record HasRoom (home : ℕ → ℕ) (homes count : ℕ) (numbers : List ℕ) : Type 0 where
+  pub distinct : AllPairs (λ a b. a ≢ b) numbers
+  pub some : All (λ v. v ≢ 0) numbers
+  pub homed : All (λ v. home v < homes) numbers
+  pub room : homes + length numbers ≤ count
+
+-- what a layout is like, however it was made
+pub record IsLayout (home : ℕ → ℕ) (count : ℕ) (numbers cells : List ℕ) : Type 0 where
+  pub size : length cells ≡ count
+  pub ordered : IsOrdered home cells
+  pub exactly : HoldsExactly cells numbers
+  pub last_empty : slice_index cells (count - 1) ≡ 0

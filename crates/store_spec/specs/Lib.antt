@@ -9,3 +9,4 @@ pub mod Image
 pub mod Input
 pub mod Layout
 pub mod LineLaws
+pub mod Probe

@@ -2,6 +2,7 @@
 #![tactic(auto)]
 
 pub mod line_laws;
+pub mod layout;
 
 ghost use Rattle.store_spec.specs.Figures.{ExampleHomes, ExampleSizes, ExampleLayout, ExampleLines};
 

@@ -1,0 +1,81 @@
+-- Sets of ballots: their layout, and the same set in order.
+use Rattle.std.proofs.Common.{◌≡◌, ◌≢◌, ◌==◌, ◌^◌, ℕ, ◌+◌, ◌<◌, ◌≤◌, not, List, [], ◌∷◌, length, get_or, map, filter, refl, sym, ap, ◌∙◌, subst, arith}
+use Rattle.std.proofs.lemmas.List.Elements.{All-filter, All-map, All-weaker}
+use Rattle.std.proofs.lemmas.List.Kept.{AllPairs-filter}
+use Rattle.std.proofs.lemmas.List.Sorted.{All-permutation, IsPermutation-map, length_permutation}
+use Rattle.std.proofs.lemmas.List.Sums.{length-filter, count_by-le-length}
+use Rattle.std.specs.List.{All, AllPairs, list_any}
+use Rattle.std.specs.List.Sorted.{IsPermutation, IsNonDecreasing}
+use Rattle.body_store.proofs.Numbers.{length-numbers_of, pairs_of_numbers, pairs_of_ballots}
+use Rattle.body_store.specs.Contents.{Contents, IsStored, ballots_without}
+use Rattle.probe_order.specs.Below.{home_of-lt}
+use Rattle.store_spec.proofs.Ascending.{ascending-IsPermutation}
+use Rattle.store_spec.proofs.LaidOut.{layout_of_is, sorted_rising, distinct_from_rising, ascending_from_rising}
+use Rattle.store_spec.specs.Ballot.{Ballot, IsValid, IsBallotSet, numbers_of}
+use Rattle.store_spec.specs.Election.{Election, IsElection, cell_count}
+use Rattle.store_spec.specs.Home.{home_of}
+use Rattle.store_spec.specs.Image.{cells_of}
+use Rattle.store_spec.specs.Layout.{HasRoom, IsLayout, laid_out}
+
+-- the cells of an election have room for each of its sets
+pub has_room : (e : Election) (ballots : List Ballot) → IsElection e → IsBallotSet e ballots → HasRoom (home_of e.bits e.salt) (2 ^ e.bits) (cell_count e) (numbers_of ballots)
+has_room e ballots election set = record {
+  distinct = pairs_of_numbers (λ a b. a ≢ b) ballots set.distinct;
+  some = All-map (λ v. v ≢ 0) (λ b. b.number) ballots
+    (All-weaker (IsValid e) (λ b. b.number ≢ 0) (λ b h. let one = h.some_number in λ z. omega arith) ballots set.valid);
+  homed = λ k d lt. home_of-lt e.bits e.salt _ election.few_bits;
+  room = let size = length-numbers_of ballots in let few = set.within_limit in omega arith
+}
+
+-- the order does not matter to the cells
+pub cells_of-IsPermutation : (e : Election) (xs ys : List Ballot) → IsPermutation xs ys → cells_of e ys ≡ cells_of e xs
+cells_of-IsPermutation e xs ys p =
+    ap (laid_out (home_of e.bits e.salt) (cell_count e)) (ascending-IsPermutation _ _ (IsPermutation-map (λ b. b.number) xs ys p))
+
+-- a set in order is a set
+pub set_in_order : (e : Election) (xs ys : List Ballot) → IsBallotSet e xs → IsPermutation xs ys → IsNonDecreasing (numbers_of ys) → IsBallotSet e ys
+set_in_order e xs ys set p up = record {
+  valid = All-permutation (IsValid e) xs ys p set.valid;
+  distinct = pairs_of_ballots (λ a b. a ≢ b) ys (distinct_from_rising (numbers_of ys)
+    (sorted_rising (numbers_of xs) (numbers_of ys) (IsPermutation-map (λ b. b.number) xs ys p) up (pairs_of_numbers (λ a b. a ≢ b) xs set.distinct)));
+  within_limit = let size = length_permutation xs ys p in let few = set.within_limit in omega arith
+}
+
+-- and may be stored
+pub stored_in_order : (e : Election) (xs ys : List Ballot) → IsElection e → IsBallotSet e xs → IsPermutation xs ys → IsNonDecreasing (numbers_of ys) → IsStored (record { election = e; ballots = ys })
+stored_in_order e xs ys election set p up = record {
+  election = election;
+  set = set_in_order e xs ys set p up;
+  ascending = pairs_of_ballots (λ a b. a < b) ys (ascending_from_rising (numbers_of ys)
+    (sorted_rising (numbers_of xs) (numbers_of ys) (IsPermutation-map (λ b. b.number) xs ys p) up (pairs_of_numbers (λ a b. a ≢ b) xs set.distinct)))
+}
+
+-- so is what is left of a stored set
+pub stored_without : (store : Contents) (numbers : List ℕ) → IsStored store → IsStored (record { election = store.election; ballots = ballots_without store.ballots numbers })
+stored_without store numbers h =
+    let test = λ (b : Ballot). not (list_any (λ number. number == b.number) numbers) in
+    let ballots = store.ballots in
+    record {
+      election = h.election;
+      set = record {
+        valid = All-filter test (IsValid store.election) ballots h.set.valid;
+        distinct = AllPairs-filter (λ a b. a.number ≢ b.number) test ballots h.set.distinct;
+        within_limit = let few = h.set.within_limit in omega (arith, length-filter test ballots, count_by-le-length test ballots)
+      };
+      ascending = AllPairs-filter (λ a b. a.number < b.number) test ballots h.ascending
+    }
+
+-- the cells of what is stored
+pub stored_layout : (store : Contents) → IsStored store → IsLayout (home_of store.election.bits store.election.salt) (cell_count store.election) (numbers_of store.ballots) (cells_of store.election store.ballots)
+stored_layout store h = layout_of_is _ _ _ _ (has_room store.election store.ballots h.election h.set)
+
+pub stored_nothing : (e : Election) → IsElection e → IsStored (record { election = e; ballots = [] })
+stored_nothing e election = record {
+  election = election;
+  set = record {
+    valid = λ k d lt. absurd (omega arith);
+    distinct = λ i j d lt within. absurd (omega arith);
+    within_limit = omega arith
+  };
+  ascending = λ i j d lt within. absurd (omega arith)
+}

@@ -1,0 +1,3 @@
+pub mod BallotSets
+pub mod Lookups
+pub mod Numbers

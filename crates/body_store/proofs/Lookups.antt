@@ -1,0 +1,86 @@
+-- What a binary search finds in numbers and in ballots that are in order.
+use Rattle.std.proofs.Common.{◌≡◌, ◌≢◌, ◌==◌, ◌||◌, ℕ, zero, suc, ◌+◌, ◌<◌, ◌≤◌, ◌⊎◌, ⊎_elim, Bool, true, false, not, cond, List, [], ◌∷◌, ◌++◌, length, get_or, take, map, filter, Option, Some, None, Result, Ok, Err, MatchResult, refl, sym, ap, ◌∙◌, subst, arith}
+use Rattle.std.proofs.lemmas.Bool.{or_right, cond-true, cond-false, eq-eqb, ne_eqb, cases_lt}
+use Rattle.std.proofs.lemmas.Bool.Decides.{nat_tests}
+use Rattle.std.proofs.lemmas.List.{take_more, map_push, append-nil}
+use Rattle.std.proofs.lemmas.List.Elements.{filter-append}
+use Rattle.std.specs.List.{AllPairs, list_any}
+use Rattle.std.specs.Ordering.{nat_cmp, ordering_index}
+use Rattle.std.specs.declared.cmp.Ordering.{Ordering}
+use Rattle.std.specs.declared.cmp.Ordering.TheVariants.{Less, Equal, Greater}
+use Rattle.std.specs.Result.{is_ok}
+use Rattle.ballot_record.specs.declared.record.Record.{Record}
+use Rattle.ballot_record.specs.Record.{ballot}
+use Rattle.body_store.proofs.Numbers.{no_ballot}
+use Rattle.body_store.specs.Contents.{ballots_of, ballots_without}
+use Rattle.store_spec.specs.Ballot.{Ballot, ballot_of}
+
+-- ---- numbers
+
+found : (xs : List ℕ) (x i : ℕ) → i < length xs → get_or xs i 0 ≡ x → list_any (λ n. n == x) xs ≡ true
+found [] x i lt e = absurd (omega arith)
+found (y ∷ xs) x zero lt e = ap (λ b. b || list_any (λ n. n == x) xs) (eq-eqb y x e)
+found (y ∷ xs) x (suc i) lt e = or_right (y == x) _ (found xs x i (omega arith) e)
+
+not_found : (xs : List ℕ) (x : ℕ) → ((k : ℕ) → k < length xs → get_or xs k 0 ≢ x) → list_any (λ n. n == x) xs ≡ false
+not_found [] x none = refl
+not_found (y ∷ xs) x none =
+    ap (λ b. b || list_any (λ n. n == x) xs) (ne_eqb y x (none 0 (omega arith)))
+    ∙ not_found xs x (λ k lt. none (suc k) (omega arith))
+
+pub any_from_search : (xs : List ℕ) (x : ℕ) (r : Result ℕ ℕ) → MatchResult r (λ i. (i < length xs) × (get_or xs i 0 ≡ x)) (λ i. (i ≤ length xs) × ((k : ℕ) → k < i → get_or xs k 0 < x) × ((k : ℕ) → i ≤ k → k < length xs → x < get_or xs k 0)) → is_ok r ≡ list_any (λ n. n == x) xs
+any_from_search xs x (Ok i) h = sym (found xs x i h.0 h.1)
+any_from_search xs x (Err i) h = sym (not_found xs x (λ k lt. ⊎_elim
+  (λ (before : k < i). let less = h.1 k before in λ e. omega arith)
+  (λ (after : i ≤ k). let more = h.2 k after lt in λ e. omega arith)
+  (cases_lt k i)))
+
+-- ---- the ballot with a number
+
+pub ballot_found : (ballots : List Ballot) (number i : ℕ) → AllPairs (λ a b. a.number < b.number) ballots → i < length ballots → (get_or ballots i no_ballot).number ≡ number → Some (get_or ballots i no_ballot) ≡ ballot_of ballots number
+ballot_found [] number i h lt e = absurd (omega arith)
+ballot_found (b ∷ ballots) number zero h lt e = sym (cond-true _ _ _ (eq-eqb b.number number e))
+ballot_found (b ∷ ballots) number (suc i) h lt e =
+    let less : b.number < (get_or ballots i no_ballot).number = h 0 (suc i) no_ballot (omega arith) lt in
+    ballot_found ballots number i (λ j k d m n. h (suc j) (suc k) d (omega arith) (omega arith)) (omega arith) e
+    ∙ sym (cond-false _ _ _ (ne_eqb b.number number (λ z. omega arith)))
+
+pub ballot_missing : (ballots : List Ballot) (number : ℕ) → ((k : ℕ) → k < length ballots → (get_or ballots k no_ballot).number ≢ number) → None ≡ ballot_of ballots number
+ballot_missing [] number none = refl
+ballot_missing (b ∷ ballots) number none =
+    ballot_missing ballots number (λ k lt. none (suc k) (omega arith))
+    ∙ sym (cond-false _ _ _ (ne_eqb b.number number (none 0 (omega arith))))
+
+pub cmp_equal : (a n : ℕ) → nat_cmp a n ≡ Equal → a ≡ n
+cmp_equal a n e = grind (arith, nat_tests)
+
+pub cmp_less : (a n : ℕ) → nat_cmp a n ≡ Less → a ≢ n
+cmp_less a n e = grind (arith, nat_tests)
+
+pub cmp_greater : (a n : ℕ) → nat_cmp a n ≡ Greater → a ≢ n
+cmp_greater a n e = grind (arith, nat_tests)
+
+pub cmp_rises : (a b n : ℕ) → a ≤ b → ordering_index (nat_cmp a n) ≤ ordering_index (nat_cmp b n)
+cmp_rises a b n le = grind (arith, nat_tests)
+
+-- ---- the ballots that stay
+
+pub kept_more : (records rest : List Record) (i : ℕ) (r : Record) (numbers : List ℕ) → take (i + 1) records ≡ take i records ++ r ∷ [] → ballots_of rest ≡ ballots_without (ballots_of (take i records)) numbers → list_any (λ n. n == r.number) numbers ≡ false → ballots_of (rest ++ r ∷ []) ≡ ballots_without (ballots_of (take (i + 1) records)) numbers
+kept_more records rest i r numbers more so_far other =
+    let test = λ (b : Ballot). not (list_any (λ number. number == b.number) numbers) in
+    map_push ballot rest r
+    ∙ ap (λ bs. bs ++ ballot r ∷ []) so_far
+    ∙ ap (λ bs. ballots_without (ballots_of (take i records)) numbers ++ bs) (sym (cond-true (test (ballot r)) (ballot r ∷ []) [] (ap not other)))
+    ∙ sym (filter-append test (ballots_of (take i records)) (ballot r ∷ []))
+    ∙ ap (filter test) (sym (map_push ballot (take i records) r))
+    ∙ ap (λ rs. ballots_without (ballots_of rs) numbers) (sym more)
+
+pub dropped_more : (records rest : List Record) (i : ℕ) (r : Record) (numbers : List ℕ) → take (i + 1) records ≡ take i records ++ r ∷ [] → ballots_of rest ≡ ballots_without (ballots_of (take i records)) numbers → list_any (λ n. n == r.number) numbers ≡ true → ballots_of rest ≡ ballots_without (ballots_of (take (i + 1) records)) numbers
+dropped_more records rest i r numbers more so_far other =
+    let test = λ (b : Ballot). not (list_any (λ number. number == b.number) numbers) in
+    so_far
+    ∙ sym (append-nil (ballots_without (ballots_of (take i records)) numbers))
+    ∙ ap (λ bs. ballots_without (ballots_of (take i records)) numbers ++ bs) (sym (cond-false (test (ballot r)) (ballot r ∷ []) [] (ap not other)))
+    ∙ sym (filter-append test (ballots_of (take i records)) (ballot r ∷ []))
+    ∙ ap (filter test) (sym (map_push ballot (take i records) r))
+    ∙ ap (λ rs. ballots_without (ballots_of rs) numbers) (sym more)

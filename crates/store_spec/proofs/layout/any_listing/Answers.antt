@@ -1,0 +1,10 @@
+use Rattle.store_spec.proofs.LaidOut.{ordered_is_layout_of}
+use Rattle.store_spec.proofs.OrderedCells.{same_cells}
+use Rattle.store_spec.proofs.Placing.{filled_to_end}
+use Rattle.std.proofs.Common.{ap, sym}
+use Rattle.store_spec.specs.Layout.{laid_out}
+use Rattle.store_spec.proofs.Ascending.{ascending-IsPermutation}
+use Rattle.store_spec.proofs.layout.any_listing.Goals as goal
+
+pub returns : goal.returns
+returns c home count xs ys p = ap (laid_out home count) (sym (ascending-IsPermutation xs ys p))
