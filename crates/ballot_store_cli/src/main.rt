@@ -1,0 +1,8 @@
+//! `ballot_store MEDIUM ELECTION COMMAND`: a history-independent store for cast ballots.
+#![tactic(auto)]
+
+mod ballots;
+mod status;
+mod words;
+
+fn main() {}
