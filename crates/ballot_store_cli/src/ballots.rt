@@ -61,13 +61,13 @@ impl Ballots {
         }
     }
 
-    fn add(&mut self, record: Record, election: &Election) -> Result<(), Refusal>
+    fn add(&mut self, cast: Record, election: &Election) -> Result<(), Refusal>
         requires sound { IsSound election.now self.old }
-        requires valid { IsValid election.now (ballot record) }
-        ensures { Adds result election.now record self.old self.new }
+        requires valid { IsValid election.now (ballot cast) }
+        ensures { Adds result election.now cast self.old self.new }
     {
-        if let Some(held) = self.index.get(&record.number) {
-            return Err(Refusal::Bad(if *held == record {
+        if let Some(held) = self.index.get(&cast.number) {
+            return Err(Refusal::Bad(if *held == cast {
                 LineWhy::Duplicate
             } else {
                 LineWhy::Conflict
@@ -76,8 +76,8 @@ impl Ballots {
         if self.records.len() >= election.limit() as usize {
             return Err(Refusal::Bad(LineWhy::Full));
         }
-        self.index.insert(record.number, record)?;
-        self.records.push(record)?;
+        self.index.insert(cast.number, cast)?;
+        self.records.push(cast)?;
         Ok(())
     }
 
