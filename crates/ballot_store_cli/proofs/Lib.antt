@@ -1,1 +1,2 @@
 mod Index
+mod Reading

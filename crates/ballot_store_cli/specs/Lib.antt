@@ -1,2 +1,3 @@
 pub mod Ballots
+pub mod Script
 pub mod Words

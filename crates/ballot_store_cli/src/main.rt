@@ -2,6 +2,7 @@
 #![tactic(auto)]
 
 mod ballots;
+mod script;
 mod status;
 mod words;
 
