@@ -4,3 +4,4 @@ pub mod LineGroups
 pub mod LineWhole
 pub mod MarkSets
 pub mod LineLaws
+pub mod ValidMarks

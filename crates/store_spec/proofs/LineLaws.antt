@@ -15,6 +15,7 @@ use Rattle.store_spec.specs.Election.{Contest, Election, IsContest, IsElection, 
 use Rattle.store_spec.specs.LineLaws.{ReadOneWay, AreShort, SpellOneBallot, SpelledOneWay, SpellEachBallot}
 use Rattle.store_spec.proofs.LineGroups.{RisesFrom, choices_text, rises_from_IsGroup}
 use Rattle.store_spec.proofs.LineWhole.{groups_text, line_again}
+use Rattle.store_spec.proofs.ValidMarks.{small_set, marks_kept}
 use Rattle.store_spec.proofs.MarkSets.{group_of, IsGroup-group_of, mark_set-group_of, group_of-mark_set}
 
 pub one_reading : ReadOneWay
@@ -102,38 +103,6 @@ one_spelling e a b x first second =
 
 -- ---- a line for each ballot
 
-offered : (o : Option Contest) (P : ℕ → Type 0) → P 0 → ((contest : Contest) → o ≡ Some contest → P contest.choices) → P (option_map_or (λ contest. contest.choices) o 0)
-offered None P none some = none
-offered (Some contest) P none some = some contest refl
-
-few_choices : (e : Election) (k : ℕ) → IsElection e → choices_of e k ≤ 32
-few_choices e k valid =
-    cond_both (eqb k 0) 0 (option_map_or (λ contest. contest.choices) (slice_get e.contests (k - 1)) 0) (λ n. n ≤ 32) (λ _. omega arith)
-    (λ _. offered (slice_get e.contests (k - 1)) (λ n. n ≤ 32) (omega arith)
-    (λ contest found. (subst IsContest (get_or_from_slice_get e.contests (k - 1) contest contest found) (valid.each_contest (k - 1) contest (slice_get_within e.contests (k - 1) contest found))).few_choices))
-
-no_choices : (e : Election) (k : ℕ) → length e.contests < k → choices_of e k ≡ 0
-no_choices e k past = rw (ne_eqb k 0 (λ zero. omega arith), slice_get_past e.contests (k - 1) (omega arith)) refl
-
-small_set : (e : Election) (x : Ballot) → IsElection e → IsValid e x → (i : ℕ) → i < 16 → get_or x.marks i 0 < 2 ^ 32
-small_set e x election valid i within =
-    let place : i + 1 - 1 ≡ i = omega arith in
-    let few : choices_on e x.style (i + 1) ≤ 32 = cond_both (is_on_style e x.style (i + 1)) (choices_of e (i + 1)) 0 (λ n. n ≤ 32) (λ _. few_choices e (i + 1) election) (λ _. omega arith) in
-    let below : get_or x.marks i 0 < 2 ^ choices_on e x.style (i + 1) =
-    let IsBelow : ℕ → Type 0 = λ j. get_or x.marks j 0 < 2 ^ choices_on e x.style (i + 1) in
-    subst IsBelow place (valid.marked (i + 1) (omega arith) (omega arith)) in
-    omega (arith, below, pow_mono few)
-
-no_set : (e : Election) (x : Ballot) → IsValid e x → (i : ℕ) → length e.contests ≤ i → i < 16 → get_or x.marks i 0 ≡ 0
-no_set e x valid i past within =
-    let place : i + 1 - 1 ≡ i = omega arith in
-    let none : choices_on e x.style (i + 1) ≡ 0 = cond_both (is_on_style e x.style (i + 1)) (choices_of e (i + 1)) 0 (λ n. n ≡ 0) (λ _. no_choices e (i + 1) (omega arith)) (λ _. refl) in
-    let below : get_or x.marks i 0 < 2 ^ choices_on e x.style (i + 1) =
-    let IsBelow : ℕ → Type 0 = λ j. get_or x.marks j 0 < 2 ^ choices_on e x.style (i + 1) in
-    subst IsBelow place (valid.marked (i + 1) (omega arith) (omega arith)) in
-    let one : 2 ^ choices_on e x.style (i + 1) ≡ 1 = ap (λ n. 2 ^ n) none in
-    omega (arith, below, one)
-
 sets_again : (sets : List ℕ) → ((i : ℕ) → i < length sets → get_or sets i 0 < 2 ^ 32) → map mark_set (map group_of sets) ≡ sets
 sets_again [] small = refl
 sets_again (set ∷ sets) small =
@@ -145,13 +114,6 @@ groups_valid : (sets : List ℕ) → AllByRecursion IsGroup (map group_of sets)
 groups_valid [] = tt
 groups_valid (set ∷ sets) = (IsGroup-group_of set, groups_valid sets)
 
-all_zero : (sets : List ℕ) → ((i : ℕ) → i < length sets → get_or sets i 0 ≡ 0) → sets ≡ replicate (length sets) 0
-all_zero [] zeros = refl
-all_zero (set ∷ sets) zeros =
-    let first : set ≡ 0 = zeros 0 (omega arith) in
-    let rest = all_zero sets (λ i within. zeros (suc i) (omega arith)) in
-    cc
-
 line_for : Election → Ballot → Line
 line_for e x = record { number = x.number; style = x.style; groups = map group_of (take (length e.contests) x.marks) }
 
@@ -160,15 +122,12 @@ unfolding line_for
 ballot_again e x election valid =
     let n = length e.contests in
     let front = take n x.marks in
-    let behind = drop n x.marks in
     let front_length : length front ≡ n = omega (arith, length-take n x.marks, valid.sixteen, election.few_contests) in
     let sets : map mark_set (map group_of front) ≡ front = sets_again front (λ i within.
     subst (λ set. set < 2 ^ 32) (sym (get_or-take n x.marks i 0 (omega (arith, front_length)))) (small_set e x election valid i (omega (arith, front_length, election.few_contests)))) in
-    let zeros : behind ≡ replicate (length behind) 0 = all_zero behind (λ i within.
-    get_or-drop n x.marks i 0 ∙ no_set e x valid (n + i) (omega arith) (omega (arith, length-drop n x.marks, valid.sixteen))) in
-    let count : length behind ≡ 16 - length (map group_of front) = omega (arith, length-drop n x.marks, valid.sixteen, length-map front group_of, front_length) in
+    let count : 16 - n ≡ 16 - length (map group_of front) = omega (arith, length-map front group_of, front_length) in
     let marks : x.marks ≡ map mark_set (map group_of front) ++ replicate (16 - length (map group_of front)) 0 =
-    sym (take-append-drop n x.marks) ∙ ap (λ rest. front ++ rest) (zeros ∙ ap (λ k. replicate k 0) count) ∙ ap (λ sets. sets ++ replicate (16 - length (map group_of front)) 0) (sym sets) in
+    marks_kept e x election valid ∙ ap (λ k. front ++ replicate k 0) count ∙ ap (λ sets. sets ++ replicate (16 - length (map group_of front)) 0) (sym sets) in
     let made : List ℕ → Ballot = λ marks. record { number = x.number; style = x.style; marks = marks } in
     ap made marks
 
