@@ -1,22 +1,22 @@
 -- The laws of record lines.
-use Rattle.std.proofs.Common.{◌≡◌, ℕ, suc, ◌+◌, ◌-◌, ◌*◌, ◌^◌, ◌<◌, ◌≤◌, eqb, inl, inr, List, [], ◌∷◌, ◌++◌, length, get_or, take, drop, map, replicate, Option, Some, None, refl, sym, ap, subst, ◌∙◌, arith, length-append, length-take, length-drop, take_at, take-append-drop, get_or-take, get_or-drop, pow_mono}
-use Rattle.std.specs.Prelude.{slice_get, All}
+use Rattle.std.proofs.Common.{◌≡◌, ℕ, suc, ◌+◌, ◌-◌, ◌*◌, ◌^◌, ◌<◌, ◌≤◌, inl, inr, List, [], ◌∷◌, ◌++◌, length, get_or, take, map, replicate, None, refl, sym, ap, subst, ◌∙◌, arith, length-append, length-take, take_at, get_or-take, pow_mono}
+use Rattle.std.specs.Prelude.{All}
 use Rattle.std.specs.Fmt.{decimal}
 use Rattle.std.specs.List.{AllByRecursion}
-use Rattle.std.specs.Option.{option_map_or}
-use Rattle.std.proofs.lemmas.Bool.{cases_lt, cond_both, ne_eqb}
+use Rattle.std.proofs.lemmas.Bool.{cases_lt}
 use Rattle.std.proofs.lemmas.Fmt.{length-decimal-le}
 use Rattle.std.proofs.lemmas.List.{length-map}
 use Rattle.std.proofs.lemmas.List.Elements.{recursion_from_All, All-from_recursion}
-use Rattle.std.proofs.lemmas.Option.{same_Some, slice_get_within, get_or_from_slice_get, slice_get_past}
+use Rattle.std.proofs.lemmas.Option.{none-some, same_Some}
 use Rattle.store_spec.specs.Ballot.{Ballot, IsValid}
-use Rattle.store_spec.specs.BallotLine.{Line, IsGroup, group_text, line_text, mark_set, ballot_of_line}
-use Rattle.store_spec.specs.Election.{Contest, Election, IsContest, IsElection, choices_of, choices_on, is_on_style}
-use Rattle.store_spec.specs.LineLaws.{ReadOneWay, AreShort, SpellOneBallot, SpelledOneWay, SpellEachBallot}
+use Rattle.store_spec.specs.BallotLine.{IsRecordLine, Line, IsGroup, group_text, line_text, mark_set, ballot_of_line}
+use Rattle.store_spec.specs.Election.{Election, IsElection}
+use Rattle.store_spec.specs.LineLaws.{ReadOneWay, AreShort, SpellOneBallot, SpelledOneWay, SpellEachBallot, AreMarkSets, ExampleRecordLines}
 use Rattle.store_spec.proofs.LineGroups.{RisesFrom, choices_text, rises_from_IsGroup}
-use Rattle.store_spec.proofs.LineWhole.{groups_text, line_again}
+use Rattle.store_spec.proofs.LineReading.{digits_at, choices_at, group_at, groups_of, line_of}
+use Rattle.store_spec.proofs.LineWhole.{groups_text, line_takes, line_again}
 use Rattle.store_spec.proofs.ValidMarks.{small_set, marks_kept}
-use Rattle.store_spec.proofs.MarkSets.{group_of, IsGroup-group_of, mark_set-group_of, group_of-mark_set}
+use Rattle.store_spec.proofs.MarkSets.{mark_set-cons, doubled, group_of, IsGroup-group_of, mark_set-group_of, group_of-mark_set}
 
 pub one_reading : ReadOneWay
 one_reading bytes x y first second = same_Some x y (sym (line_again bytes x first) ∙ line_again bytes y second)
@@ -157,3 +157,48 @@ each_spelled e x election valid =
         valid = valid;
       },
     )
+
+-- ---- mark sets
+
+choice_counts : (choices : List ℕ) (last n : ℕ) → RisesFrom last choices → mark_set choices < 2 ^ n → AllByRecursion (λ choice. choice ≤ n) choices
+choice_counts [] last n rises small = tt
+choice_counts (choice ∷ choices) last n rises small =
+    let sum = mark_set-cons choice choices in
+    elim (cases_lt n choice) [
+      | inl past ↦ let large : 2 ^ n ≤ 2 ^ (choice - 1) = pow_mono (omega arith) in absurd (omega arith)
+      | inr within ↦ (within, choice_counts choices choice n rises.2 (omega arith))
+    ]
+
+set_counts : (choices : List ℕ) (last n : ℕ) → RisesFrom last choices → last ≤ n → AllByRecursion (λ choice. choice ≤ n) choices → mark_set choices + 2 ^ last ≤ 2 ^ n
+set_counts [] last n rises low offered = let power : 2 ^ last ≤ 2 ^ n = pow_mono low in omega arith
+set_counts (choice ∷ choices) last n rises low offered =
+    let sum = mark_set-cons choice choices in
+    let rest = set_counts choices choice n rises.2 offered.0 offered.1 in
+    let power : 2 ^ last ≤ 2 ^ (choice - 1) = pow_mono (omega (arith, rises.0)) in
+    let twice : 2 ^ choice ≡ 2 * 2 ^ (choice - 1) = doubled choice (omega (arith, rises.0)) in
+    omega arith
+
+pub mark_sets : AreMarkSets
+mark_sets = record {
+  one_group = λ a b first second same. sym (group_of-mark_set a first) ∙ ap group_of same ∙ group_of-mark_set b second;
+  one_set = λ set small. (group_of set, IsGroup-group_of set, mark_set-group_of set small);
+  offered = λ choices n group. (
+    λ small. All-from_recursion (λ choice. choice ≤ n) choices (choice_counts choices 0 n (rises_from_IsGroup choices group) small),
+    λ offered. omega (arith, set_counts choices 0 n (rises_from_IsGroup choices group) (omega arith) (recursion_from_All (λ choice. choice ≤ n) choices offered)),
+  );
+}
+
+-- ---- examples
+
+not_read : (bytes : List ℕ) → line_of bytes ≡ None → ¬ IsRecordLine bytes
+not_read bytes none is = none-some is.0 (sym none ∙ line_again bytes is.0 is.1)
+
+pub example_record_lines : ExampleRecordLines
+unfolding line_of groups_of group_at choices_at digits_at
+example_record_lines = record {
+  one_mark = line_takes _ _ refl;
+  three_marks = line_takes _ _ refl;
+  leading_zero = not_read _ refl;
+  descending = not_read _ refl;
+  too_great = not_read _ refl;
+}

@@ -1,5 +1,5 @@
 -- What the marks of a valid ballot are: a set for each contest, and nothing behind them.
-use Rattle.std.proofs.Common.{◌≡◌, ℕ, zero, suc, ◌+◌, ◌-◌, ◌^◌, ◌<◌, ◌≤◌, cond, eqb, List, [], ◌∷◌, ◌++◌, length, get_or, take, drop, replicate, Option, Some, None, refl, sym, ap, subst, ◌∙◌, arith, length-drop, take-append-drop, get_or-drop, pow_mono}
+use Rattle.std.proofs.Common.{◌≡◌, ℕ, suc, ◌+◌, ◌-◌, ◌^◌, ◌<◌, ◌≤◌, eqb, List, [], ◌∷◌, ◌++◌, length, get_or, take, drop, replicate, Option, Some, None, refl, sym, ap, subst, ◌∙◌, arith, length-drop, take-append-drop, get_or-drop, pow_mono}
 use Rattle.std.specs.Prelude.{slice_get}
 use Rattle.std.specs.Option.{option_map_or}
 use Rattle.std.proofs.lemmas.Bool.{cond_both, ne_eqb}
@@ -51,6 +51,6 @@ marks_kept e x election valid =
     let n = length e.contests in
     let behind = drop n x.marks in
     let zeros : behind ≡ replicate (length behind) 0 = all_zero behind (λ i within.
-      get_or-drop n x.marks i 0 ∙ no_set e x valid (n + i) (omega arith) (omega (arith, length-drop n x.marks, valid.sixteen))) in
+    get_or-drop n x.marks i 0 ∙ no_set e x valid (n + i) (omega arith) (omega (arith, length-drop n x.marks, valid.sixteen))) in
     let count : length behind ≡ 16 - n = omega (arith, length-drop n x.marks, valid.sixteen) in
     sym (take-append-drop n x.marks) ∙ ap (λ rest. take n x.marks ++ rest) (zeros ∙ ap (λ k. replicate k 0) count)
