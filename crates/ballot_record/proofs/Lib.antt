@@ -1,3 +1,5 @@
+mod CellAnswers
+mod CellReading
 mod Cells
 mod Counts
 mod LineAnswers

@@ -3,15 +3,15 @@ use Rattle.std.proofs.Common.{◌≡◌, ◌≢◌, ℕ, List, length, Option, S
 use Rattle.std.specs.Prelude.{option_map}
 use Rattle.std.proofs.lemmas.Option.{none-some, some_pair_parts}
 use Rattle.store_spec.specs.Ballot.{Ballot, IsValid}
-use Rattle.store_spec.specs.BallotLine.{Line, ReadsAs, Spells, ballot_of_line}
+use Rattle.store_spec.specs.BallotLine.{Line, ReadsAs, IsRecordLine, Spells, IsLineOf, ballot_of_line}
 use Rattle.store_spec.specs.Election.{Election}
 use Rattle.store_spec.proofs.LineReading.{line_of}
 use Rattle.store_spec.proofs.LineLaws.{one_reading}
 use Rattle.store_spec.proofs.LineWhole.{line_takes, line_again}
 use Rattle.ballot_record.specs.Line.{line_seen}
 
-pub not_a_line : (bytes : List ℕ) → None ≡ option_map line_seen (line_of bytes) → (line : Line) → ReadsAs bytes line → ⊥
-not_a_line bytes none line reads = none-some (line_seen line) (none ∙ ap (option_map line_seen) (line_again bytes line reads))
+pub not_a_line : (bytes : List ℕ) → None ≡ option_map line_seen (line_of bytes) → ¬ IsRecordLine bytes
+not_a_line bytes none is = none-some (line_seen is.0) (none ∙ ap (option_map line_seen) (line_again bytes is.0 is.1))
 
 -- the line behind a record that was read
 pub record IsLineRead (bytes : List ℕ) (b : Ballot) (count : ℕ) : Type 0 where
@@ -32,11 +32,14 @@ line_read bytes b count e = read_from bytes b count (line_of bytes) refl e
 pub spells : (e : Election) (bytes : List ℕ) (b : Ballot) (count : ℕ) → IsLineRead bytes b count → count ≡ length e.contests → IsValid e b → Spells e bytes b
 spells e bytes b count read all valid = record { line = read.line; reads = read.reads; a_group_each = sym read.counted ∙ all; is = read.is; valid = valid }
 
-pub other_groups : (e : Election) (bytes : List ℕ) (b : Ballot) (count : ℕ) → IsLineRead bytes b count → count ≢ length e.contests → (x : Ballot) → Spells e bytes x → ⊥
-other_groups e bytes b count read differs x spelled =
+pub other_groups : (e : Election) (bytes : List ℕ) (b : Ballot) (count : ℕ) → IsLineRead bytes b count → count ≢ length e.contests → ¬ IsLineOf e bytes
+other_groups e bytes b count read differs is =
+    let spelled = is.1 in
     differs (read.counted ∙ ap (λ (line : Line). length line.groups) (one_reading bytes read.line spelled.line read.reads spelled.reads) ∙ spelled.a_group_each)
 
-pub not_valid : (e : Election) (bytes : List ℕ) (b : Ballot) (count : ℕ) → IsLineRead bytes b count → (IsValid e b → ⊥) → (x : Ballot) → Spells e bytes x → ⊥
-not_valid e bytes b count read invalid x spelled =
+pub not_valid : (e : Election) (bytes : List ℕ) (b : Ballot) (count : ℕ) → IsLineRead bytes b count → ¬ IsValid e b → ¬ IsLineOf e bytes
+not_valid e bytes b count read invalid is =
+    let x = is.0 in
+    let spelled = is.1 in
     let same : x ≡ b = spelled.is ∙ ap ballot_of_line (one_reading bytes spelled.line read.line spelled.reads read.reads) ∙ sym read.is in
     invalid (subst (IsValid e) same spelled.valid)

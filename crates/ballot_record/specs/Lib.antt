@@ -1,3 +1,4 @@
+pub mod CellReading
 pub mod Contest
 pub mod Kept
 pub mod Line

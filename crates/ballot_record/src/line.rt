@@ -1,6 +1,5 @@
 ghost use Rattle.std.specs.Prelude.{◌≡◌, ℕ, ◌^◌, ◌<◌, ◌≤◌, ◌↔◌, option_map, option_copied, Some, None, Ok, Err, IfOk};
-ghost use Rattle.store_spec.specs.BallotLine.{Line, ReadsAs, Spells, mark_set};
-ghost use Rattle.store_spec.specs.Ballot.{Ballot};
+ghost use Rattle.store_spec.specs.BallotLine.{IsRecordLine, Spells, IsLineOf};
 ghost use Rattle.store_spec.proofs.LineReading.{digits_at, past_byte, choices_at, group_at, groups_of, line_of};
 ghost use Rattle.ballot_record.specs.Line.{set_seen, sets_seen, line_seen};
 ghost use Rattle.ballot_record.specs.Record.{ballot};
@@ -104,13 +103,13 @@ fn parts(line: &[u8]) -> Option<(Record, usize)>
     Some((record, count))
 }
 
-/// The record of a line under an election.
+/// The record of a line under an election. The whole line is judged by the grammar of record lines before any part
+/// of it is judged by the election: it is `Malformed` where it is not in the grammar, and `Invalid` where it is, but
+/// has not a group for each contest, or its record is not valid.
 pub fn read_line(line: &[u8], election: &Election) -> Result<Record, LineFault>
     ensures read { IfOk result (λ r. Spells election.now line.now (ballot r)) }
-
-    // The whole line is judged by the grammar before a part of it is judged by the election.
-    ensures malformed { (result ≡ Err LineFault.Malformed) ↔ ((parts : Line) → ¬ ReadsAs line.now parts) }
-    ensures invalid { (result ≡ Err LineFault.Invalid) ↔ (((parts : Line) × ReadsAs line.now parts) × ((b : Ballot) → ¬ Spells election.now line.now b)) }
+    ensures malformed { (result ≡ Err LineFault.Malformed) ↔ (¬ IsRecordLine line.now) }
+    ensures invalid { (result ≡ Err LineFault.Invalid) ↔ (IsRecordLine line.now × ¬ IsLineOf election.now line.now) }
 {
     let Some((record, groups)) = parts(line) else {
         return Err(LineFault::Malformed);

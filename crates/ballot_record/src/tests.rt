@@ -245,4 +245,43 @@ fn a_cell(rt: HostRuntime) {
     let mut cell = [0xff; 17];
     record.put_cell(&election, &mut cell);
     assert_eq!(rt; cell, [0, 0, 0, 0, 0, 0, 0, 9, 1, 0, 0, 0, 1, 0, 0, 0, 0]);
+    assert_eq!(rt; take_cell(&cell, &election), CellRead::Held(record));
+}
+
+#[test]
+fn other_cells(rt: HostRuntime) {
+    let election = Election::example();
+    assert_eq!(rt; take_cell(&[0; 17], &election), CellRead::Empty);
+    let bad = [
+        [0, 0, 0, 0, 0, 0, 0, 0, 1, 0, 0, 0, 1, 0, 0, 0, 0],
+        [0, 0, 0, 0, 0, 0, 0, 9, 0, 0, 0, 0, 1, 0, 0, 0, 0],
+        [0, 0, 0, 0, 0, 0, 0, 9, 2, 0, 0, 0, 1, 0, 0, 0, 0],
+        [0, 0, 0, 0, 0, 0, 0, 9, 1, 0, 0, 0, 16, 0, 0, 0, 0],
+        [0, 0, 0, 0, 0, 0, 0, 0, 0, 0, 0, 0, 0, 0, 0, 0, 1],
+    ];
+    for cell in bad.iter() {
+        assert_eq!(rt; take_cell(cell, &election), CellRead::Bad);
+    }
+}
+
+#[test]
+fn refusals_as_text(rt: HostRuntime) -> Result<(), Fail> {
+    assert_eq!(rt;
+        LineFault::Malformed.to_string(rt.alloc())?.as_str(),
+        "malformed"
+    );
+    assert_eq!(rt;
+        LineFault::Invalid.to_string(rt.alloc())?.as_str(),
+        "invalid"
+    );
+    let all = format!(in rt.alloc();
+        "{} {} {} {} {}",
+        LineWhy::Malformed,
+        LineWhy::Invalid,
+        LineWhy::Duplicate,
+        LineWhy::Conflict,
+        LineWhy::Full
+    )?;
+    assert_eq!(rt; all.as_str(), "malformed invalid duplicate conflict full");
+    Ok(())
 }

@@ -8,3 +8,4 @@ pub mod Ascending
 pub mod LaidOut
 pub mod OrderedCells
 pub mod Placing
+pub mod ValidMarks

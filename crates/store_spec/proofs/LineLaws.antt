@@ -1,21 +1,22 @@
 -- The laws of record lines.
-use Rattle.std.proofs.Common.{◌≡◌, ℕ, suc, ◌+◌, ◌-◌, ◌*◌, ◌^◌, ◌<◌, ◌≤◌, eqb, inl, inr, List, [], ◌∷◌, ◌++◌, length, get_or, take, drop, map, replicate, Option, Some, None, refl, sym, ap, subst, ◌∙◌, arith, length-append, length-take, length-drop, take_at, take-append-drop, get_or-take, get_or-drop, pow_mono}
-use Rattle.std.specs.Prelude.{slice_get, All}
+use Rattle.std.proofs.Common.{◌≡◌, ℕ, suc, ◌+◌, ◌-◌, ◌*◌, ◌^◌, ◌<◌, ◌≤◌, inl, inr, List, [], ◌∷◌, ◌++◌, length, get_or, take, map, replicate, None, refl, sym, ap, subst, ◌∙◌, arith, length-append, length-take, take_at, get_or-take, pow_mono}
+use Rattle.std.specs.Prelude.{All}
 use Rattle.std.specs.Fmt.{decimal}
 use Rattle.std.specs.List.{AllByRecursion}
-use Rattle.std.specs.Option.{option_map_or}
-use Rattle.std.proofs.lemmas.Bool.{cases_lt, cond_both, ne_eqb}
+use Rattle.std.proofs.lemmas.Bool.{cases_lt}
 use Rattle.std.proofs.lemmas.Fmt.{length-decimal-le}
 use Rattle.std.proofs.lemmas.List.{length-map}
 use Rattle.std.proofs.lemmas.List.Elements.{recursion_from_All, All-from_recursion}
-use Rattle.std.proofs.lemmas.Option.{same_Some, slice_get_within, get_or_from_slice_get, slice_get_past}
+use Rattle.std.proofs.lemmas.Option.{none-some, same_Some}
 use Rattle.store_spec.specs.Ballot.{Ballot, IsValid}
-use Rattle.store_spec.specs.BallotLine.{Line, IsGroup, group_text, line_text, mark_set, ballot_of_line}
-use Rattle.store_spec.specs.Election.{Contest, Election, IsContest, IsElection, choices_of, choices_on, is_on_style}
-use Rattle.store_spec.specs.LineLaws.{ReadOneWay, AreShort, SpellOneBallot, SpelledOneWay, SpellEachBallot}
+use Rattle.store_spec.specs.BallotLine.{IsRecordLine, Line, IsGroup, group_text, line_text, mark_set, ballot_of_line}
+use Rattle.store_spec.specs.Election.{Election, IsElection}
+use Rattle.store_spec.specs.LineLaws.{ReadOneWay, AreShort, SpellOneBallot, SpelledOneWay, SpellEachBallot, AreMarkSets, ExampleRecordLines}
 use Rattle.store_spec.proofs.LineGroups.{RisesFrom, choices_text, rises_from_IsGroup}
-use Rattle.store_spec.proofs.LineWhole.{groups_text, line_again}
-use Rattle.store_spec.proofs.MarkSets.{group_of, IsGroup-group_of, mark_set-group_of, group_of-mark_set}
+use Rattle.store_spec.proofs.LineReading.{digits_at, choices_at, group_at, groups_of, line_of}
+use Rattle.store_spec.proofs.LineWhole.{groups_text, line_takes, line_again}
+use Rattle.store_spec.proofs.ValidMarks.{small_set, marks_kept}
+use Rattle.store_spec.proofs.MarkSets.{mark_set-cons, doubled, group_of, IsGroup-group_of, mark_set-group_of, group_of-mark_set}
 
 pub one_reading : ReadOneWay
 one_reading bytes x y first second = same_Some x y (sym (line_again bytes x first) ∙ line_again bytes y second)
@@ -102,38 +103,6 @@ one_spelling e a b x first second =
 
 -- ---- a line for each ballot
 
-offered : (o : Option Contest) (P : ℕ → Type 0) → P 0 → ((contest : Contest) → o ≡ Some contest → P contest.choices) → P (option_map_or (λ contest. contest.choices) o 0)
-offered None P none some = none
-offered (Some contest) P none some = some contest refl
-
-few_choices : (e : Election) (k : ℕ) → IsElection e → choices_of e k ≤ 32
-few_choices e k valid =
-    cond_both (eqb k 0) 0 (option_map_or (λ contest. contest.choices) (slice_get e.contests (k - 1)) 0) (λ n. n ≤ 32) (λ _. omega arith)
-    (λ _. offered (slice_get e.contests (k - 1)) (λ n. n ≤ 32) (omega arith)
-    (λ contest found. (subst IsContest (get_or_from_slice_get e.contests (k - 1) contest contest found) (valid.each_contest (k - 1) contest (slice_get_within e.contests (k - 1) contest found))).few_choices))
-
-no_choices : (e : Election) (k : ℕ) → length e.contests < k → choices_of e k ≡ 0
-no_choices e k past = rw (ne_eqb k 0 (λ zero. omega arith), slice_get_past e.contests (k - 1) (omega arith)) refl
-
-small_set : (e : Election) (x : Ballot) → IsElection e → IsValid e x → (i : ℕ) → i < 16 → get_or x.marks i 0 < 2 ^ 32
-small_set e x election valid i within =
-    let place : i + 1 - 1 ≡ i = omega arith in
-    let few : choices_on e x.style (i + 1) ≤ 32 = cond_both (is_on_style e x.style (i + 1)) (choices_of e (i + 1)) 0 (λ n. n ≤ 32) (λ _. few_choices e (i + 1) election) (λ _. omega arith) in
-    let below : get_or x.marks i 0 < 2 ^ choices_on e x.style (i + 1) =
-    let IsBelow : ℕ → Type 0 = λ j. get_or x.marks j 0 < 2 ^ choices_on e x.style (i + 1) in
-    subst IsBelow place (valid.marked (i + 1) (omega arith) (omega arith)) in
-    omega (arith, below, pow_mono few)
-
-no_set : (e : Election) (x : Ballot) → IsValid e x → (i : ℕ) → length e.contests ≤ i → i < 16 → get_or x.marks i 0 ≡ 0
-no_set e x valid i past within =
-    let place : i + 1 - 1 ≡ i = omega arith in
-    let none : choices_on e x.style (i + 1) ≡ 0 = cond_both (is_on_style e x.style (i + 1)) (choices_of e (i + 1)) 0 (λ n. n ≡ 0) (λ _. no_choices e (i + 1) (omega arith)) (λ _. refl) in
-    let below : get_or x.marks i 0 < 2 ^ choices_on e x.style (i + 1) =
-    let IsBelow : ℕ → Type 0 = λ j. get_or x.marks j 0 < 2 ^ choices_on e x.style (i + 1) in
-    subst IsBelow place (valid.marked (i + 1) (omega arith) (omega arith)) in
-    let one : 2 ^ choices_on e x.style (i + 1) ≡ 1 = ap (λ n. 2 ^ n) none in
-    omega (arith, below, one)
-
 sets_again : (sets : List ℕ) → ((i : ℕ) → i < length sets → get_or sets i 0 < 2 ^ 32) → map mark_set (map group_of sets) ≡ sets
 sets_again [] small = refl
 sets_again (set ∷ sets) small =
@@ -145,13 +114,6 @@ groups_valid : (sets : List ℕ) → AllByRecursion IsGroup (map group_of sets)
 groups_valid [] = tt
 groups_valid (set ∷ sets) = (IsGroup-group_of set, groups_valid sets)
 
-all_zero : (sets : List ℕ) → ((i : ℕ) → i < length sets → get_or sets i 0 ≡ 0) → sets ≡ replicate (length sets) 0
-all_zero [] zeros = refl
-all_zero (set ∷ sets) zeros =
-    let first : set ≡ 0 = zeros 0 (omega arith) in
-    let rest = all_zero sets (λ i within. zeros (suc i) (omega arith)) in
-    cc
-
 line_for : Election → Ballot → Line
 line_for e x = record { number = x.number; style = x.style; groups = map group_of (take (length e.contests) x.marks) }
 
@@ -160,15 +122,12 @@ unfolding line_for
 ballot_again e x election valid =
     let n = length e.contests in
     let front = take n x.marks in
-    let behind = drop n x.marks in
     let front_length : length front ≡ n = omega (arith, length-take n x.marks, valid.sixteen, election.few_contests) in
     let sets : map mark_set (map group_of front) ≡ front = sets_again front (λ i within.
     subst (λ set. set < 2 ^ 32) (sym (get_or-take n x.marks i 0 (omega (arith, front_length)))) (small_set e x election valid i (omega (arith, front_length, election.few_contests)))) in
-    let zeros : behind ≡ replicate (length behind) 0 = all_zero behind (λ i within.
-    get_or-drop n x.marks i 0 ∙ no_set e x valid (n + i) (omega arith) (omega (arith, length-drop n x.marks, valid.sixteen))) in
-    let count : length behind ≡ 16 - length (map group_of front) = omega (arith, length-drop n x.marks, valid.sixteen, length-map front group_of, front_length) in
+    let count : 16 - n ≡ 16 - length (map group_of front) = omega (arith, length-map front group_of, front_length) in
     let marks : x.marks ≡ map mark_set (map group_of front) ++ replicate (16 - length (map group_of front)) 0 =
-    sym (take-append-drop n x.marks) ∙ ap (λ rest. front ++ rest) (zeros ∙ ap (λ k. replicate k 0) count) ∙ ap (λ sets. sets ++ replicate (16 - length (map group_of front)) 0) (sym sets) in
+    marks_kept e x election valid ∙ ap (λ k. front ++ replicate k 0) count ∙ ap (λ sets. sets ++ replicate (16 - length (map group_of front)) 0) (sym sets) in
     let made : List ℕ → Ballot = λ marks. record { number = x.number; style = x.style; marks = marks } in
     ap made marks
 
@@ -198,3 +157,48 @@ each_spelled e x election valid =
         valid = valid;
       },
     )
+
+-- ---- mark sets
+
+choice_counts : (choices : List ℕ) (last n : ℕ) → RisesFrom last choices → mark_set choices < 2 ^ n → AllByRecursion (λ choice. choice ≤ n) choices
+choice_counts [] last n rises small = tt
+choice_counts (choice ∷ choices) last n rises small =
+    let sum = mark_set-cons choice choices in
+    elim (cases_lt n choice) [
+      | inl past ↦ let large : 2 ^ n ≤ 2 ^ (choice - 1) = pow_mono (omega arith) in absurd (omega arith)
+      | inr within ↦ (within, choice_counts choices choice n rises.2 (omega arith))
+    ]
+
+set_counts : (choices : List ℕ) (last n : ℕ) → RisesFrom last choices → last ≤ n → AllByRecursion (λ choice. choice ≤ n) choices → mark_set choices + 2 ^ last ≤ 2 ^ n
+set_counts [] last n rises low offered = let power : 2 ^ last ≤ 2 ^ n = pow_mono low in omega arith
+set_counts (choice ∷ choices) last n rises low offered =
+    let sum = mark_set-cons choice choices in
+    let rest = set_counts choices choice n rises.2 offered.0 offered.1 in
+    let power : 2 ^ last ≤ 2 ^ (choice - 1) = pow_mono (omega (arith, rises.0)) in
+    let twice : 2 ^ choice ≡ 2 * 2 ^ (choice - 1) = doubled choice (omega (arith, rises.0)) in
+    omega arith
+
+pub mark_sets : AreMarkSets
+mark_sets = record {
+  one_group = λ a b first second same. sym (group_of-mark_set a first) ∙ ap group_of same ∙ group_of-mark_set b second;
+  one_set = λ set small. (group_of set, IsGroup-group_of set, mark_set-group_of set small);
+  offered = λ choices n group. (
+    λ small. All-from_recursion (λ choice. choice ≤ n) choices (choice_counts choices 0 n (rises_from_IsGroup choices group) small),
+    λ offered. omega (arith, set_counts choices 0 n (rises_from_IsGroup choices group) (omega arith) (recursion_from_All (λ choice. choice ≤ n) choices offered)),
+  );
+}
+
+-- ---- examples
+
+not_read : (bytes : List ℕ) → line_of bytes ≡ None → ¬ IsRecordLine bytes
+not_read bytes none is = none-some is.0 (sym none ∙ line_again bytes is.0 is.1)
+
+pub example_record_lines : ExampleRecordLines
+unfolding line_of groups_of group_at choices_at digits_at
+example_record_lines = record {
+  one_mark = line_takes _ _ refl;
+  three_marks = line_takes _ _ refl;
+  leading_zero = not_read _ refl;
+  descending = not_read _ refl;
+  too_great = not_read _ refl;
+}

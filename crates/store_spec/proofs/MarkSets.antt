@@ -13,8 +13,11 @@ choices_from (suc more) k set = cond (eqb (set % 2) 1) ((k + 1) ∷ choices_from
 twice : (k : ℕ) → 2 ^ (k + 1) ≡ 2 * 2 ^ k
 twice k = ap (λ n. 2 ^ n) (add-one k) ∙ pow-suc 2 k ∙ omega arith
 
-mark_set-cons : (choice : ℕ) (choices : List ℕ) → mark_set (choice ∷ choices) ≡ 2 ^ (choice - 1) + mark_set choices
+pub mark_set-cons : (choice : ℕ) (choices : List ℕ) → mark_set (choice ∷ choices) ≡ 2 ^ (choice - 1) + mark_set choices
 mark_set-cons choice choices = sum_by-cons (λ (c : ℕ). 2 ^ (c - 1)) choice choices
+
+pub doubled : (choice : ℕ) → 1 ≤ choice → 2 ^ choice ≡ 2 * 2 ^ (choice - 1)
+doubled choice some = let same : choice ≡ suc (choice - 1) = omega arith in ap (λ n. 2 ^ n) same ∙ pow-suc 2 (choice - 1) ∙ omega arith
 
 first_bit : (k : ℕ) → 2 ^ (k + 1 - 1) ≡ 2 ^ k
 first_bit k = let same : k + 1 - 1 ≡ k = omega arith in ap (λ n. 2 ^ n) same

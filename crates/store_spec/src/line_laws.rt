@@ -1,6 +1,6 @@
 //! Laws of record lines.
 
-ghost use Rattle.store_spec.specs.LineLaws.{ReadOneWay, AreShort, SpellOneBallot, SpelledOneWay, SpellEachBallot};
+ghost use Rattle.store_spec.specs.LineLaws.{ReadOneWay, AreShort, SpellOneBallot, SpelledOneWay, SpellEachBallot, AreMarkSets, ExampleRecordLines};
 
 /// No line has two readings.
 pub fn one_reading()
@@ -25,4 +25,14 @@ pub fn one_spelling()
 /// Each valid ballot of an election has a spelling.
 pub fn each_spelled()
     ensures { SpellEachBallot }
+{}
+
+/// What groups and mark sets say of each other.
+pub fn mark_sets()
+    ensures { AreMarkSets }
+{}
+
+/// What some lines spell under the example election.
+pub fn example_record_lines()
+    ensures { ExampleRecordLines }
 {}
