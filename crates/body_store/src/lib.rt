@@ -1,6 +1,7 @@
 //! The closed store: the ballots that are held, and the cells in which their numbers stand.
 #![tactic(auto)]
 
+pub mod laws;
 mod records;
 
 ghost use Rattle.body_store.specs.Contents.{Contents, IsStored, ballots_of, ballots_without};
@@ -149,7 +150,9 @@ impl Closed {
         requires layout { cells.items ≡ cells_of election.now (ballots_without self.now.ballots numbers.now) }
         ensures { IfOk result
             (λ store. store ≡ record {
-                election = election.now; ballots = ballots_without self.now.ballots numbers.now }) }
+              election = election.now;
+              ballots = ballots_without self.now.ballots numbers.now;
+            }) }
     {
         let records = records::without(alloc, &self.records, numbers)?;
         Ok(Closed {
@@ -163,30 +166,45 @@ impl Closed {
 #[cfg(test)]
 mod tests {
     use super::*;
-    use ballot_record::Contest;
+    use std::process::Abort;
 
-    fn ballot(number: u64) -> Record {
-        Record {
-            number,
-            style: 1,
-            marks: [0; 16],
-        }
-    }
+    const BLANK: [u32; 16] = [0; 16];
 
-    fn stands(rt: &HostRuntime, store: &Closed, cells: usize, want: &[(usize, u64)]) {
-        assert_eq!(rt; store.cells().len(), cells);
-        for (place, cell) in store.cells().iter().enumerate() {
-            let number = want.iter().find(|at| at.0 == place).map_or(0, |at| at.1);
+    fn holds(rt: &impl Abort, cells: &[u64], wanted: &[(usize, u64)]) {
+        for (place, cell) in cells.iter().enumerate() {
+            let number = wanted.iter().find(|at| at.0 == place).map_or(0, |at| at.1);
             assert_eq!(rt; *cell, number, "cell {place}");
         }
     }
 
     #[test]
-    fn three_ballots_and_one_more(rt: HostRuntime) {
+    fn a_ballot_comes_and_goes(rt: HostRuntime) {
         let election = Election::example();
-        let alloc = rt.alloc();
-        let nothing = Closed::empty(alloc, &election).expect(&rt, "memory");
-        assert_eq!(rt; nothing.len(), 0);
-        stands(&rt, &nothing, 16, &[]);
+        let nine = Record {
+            number: 9,
+            style: 1,
+            marks: BLANK,
+        };
+        let empty = Closed::empty(rt.alloc(), &election).expect(&rt, "memory");
+        assert_eq!(rt; empty.len(), 0);
+        let ballots = vec![in rt.alloc(); nine].expect(&rt, "memory");
+        let one = Closed::from_records(rt.alloc(), &election, ballots).expect(&rt, "memory");
+        holds(&rt, one.cells(), &[(4, 9)]);
+        assert_eq!(rt; one.record_of(9), Some(nine));
+        assert_eq!(rt; one.record_of(8), None);
+        let both = Vec::from_slice(
+            rt.alloc(),
+            &[0, 0, 0, 0, 9, 0, 0, 0, 0, 0, 0, 0, 0, 0, 0, 0],
+        )
+        .expect(&rt, "memory");
+        let same = one
+            .merged(rt.alloc(), &election, &[], both)
+            .expect(&rt, "memory");
+        holds(&rt, same.cells(), &[(4, 9)]);
+        let cleared = vec![in rt.alloc(); 0; 16].expect(&rt, "memory");
+        let none = one
+            .without(rt.alloc(), &election, &[9], cleared)
+            .expect(&rt, "memory");
+        assert_eq!(rt; none.len(), 0);
     }
 }
