@@ -39,8 +39,8 @@ pub set-IsPermutation : (e : Election) (xs ys : List Ballot) → IsPermutation x
 set-IsPermutation e xs ys p set = record {
   valid = All-permutation (IsValid e) xs ys p set.valid;
   distinct = pairs_of_ballots (λ a b. a ≢ b) ys
-    (distinct-IsPermutation (numbers_of xs) (numbers_of ys) (IsPermutation-map (λ b. b.number) xs ys p) (pairs_of_numbers (λ a b. a ≢ b) xs set.distinct));
-  within_limit = let size = length_permutation xs ys p in let few = set.within_limit in omega arith
+      (distinct-IsPermutation (numbers_of xs) (numbers_of ys) (IsPermutation-map (λ b. b.number) xs ys p) (pairs_of_numbers (λ a b. a ≢ b) xs set.distinct));
+  within_limit = let size = length_permutation xs ys p in let few = set.within_limit in omega arith;
 }
 
 -- and may be stored where it is in order
@@ -51,7 +51,7 @@ stored_in_order e xs ys election set p up =
       election = election;
       set = moved;
       ascending = pairs_of_ballots (λ a b. a < b) ys
-        (ascending_from_rising (numbers_of ys) (rising_in_order (numbers_of ys) up (pairs_of_numbers (λ a b. a ≢ b) ys moved.distinct)))
+          (ascending_from_rising (numbers_of ys) (rising_in_order (numbers_of ys) up (pairs_of_numbers (λ a b. a ≢ b) ys moved.distinct)));
     }
 
 -- so is what is left of a stored set
@@ -93,19 +93,19 @@ in_same_place xs ys up_x up_y p i within =
     let ms = numbers_of ys in
     let moved : IsPermutation ns ms = IsPermutation-map (λ b. b.number) xs ys p in
     let same : ns ≡ ms =
-      sym (ascending_rising ns (rise_from_pairs xs up_x)) ∙ sym (ascending-IsPermutation ns ms moved) ∙ ascending_rising ms (rise_from_pairs ys up_y) in
+    sym (ascending_rising ns (rise_from_pairs xs up_x)) ∙ sym (ascending-IsPermutation ns ms moved) ∙ ascending_rising ms (rise_from_pairs ys up_y) in
     let size = length_permutation xs ys p in
     let there = Contains-permutation xs ys (get_or xs i no_ballot) p (Contains-get_or xs i no_ballot within) in
     let at : get_or ys there.0 no_ballot ≡ get_or xs i no_ballot = get_or_default ys there.0 no_ballot _ there.1 ∙ there.2 in
     let left : (get_or xs i no_ballot).number ≡ (get_or ys i no_ballot).number =
-      sym (number_at xs i 0 within) ∙ ap (λ l. get_or l i 0) same ∙ number_at ys i 0 (omega arith) in
+    sym (number_at xs i 0 within) ∙ ap (λ l. get_or l i 0) same ∙ number_at ys i 0 (omega arith) in
     let equal : (get_or ys there.0 no_ballot).number ≡ (get_or ys i no_ballot).number = ap (λ b. b.number) at ∙ left in
     let place : there.0 ≡ i = ⊎_elim (λ e. e)
-      (λ s. ⊎_elim
-        (λ (before : there.0 < i). let less : (get_or ys there.0 no_ballot).number < (get_or ys i no_ballot).number = up_y there.0 i no_ballot before (omega arith) in absurd (omega arith))
-        (λ (after : i < there.0). let less : (get_or ys i no_ballot).number < (get_or ys there.0 no_ballot).number = up_y i there.0 no_ballot after there.1 in absurd (omega arith))
-        s)
-      (cases_order there.0 i) in
+    (λ s. ⊎_elim
+    (λ (before : there.0 < i). let less : (get_or ys there.0 no_ballot).number < (get_or ys i no_ballot).number = up_y there.0 i no_ballot before (omega arith) in absurd (omega arith))
+    (λ (after : i < there.0). let less : (get_or ys i no_ballot).number < (get_or ys there.0 no_ballot).number = up_y i there.0 no_ballot after there.1 in absurd (omega arith))
+    s)
+    (cases_order there.0 i) in
     sym at ∙ ap (λ k. get_or ys k no_ballot) place
 
 pub same_in_order : (xs ys : List Ballot) → AllPairs (λ a b. a.number < b.number) xs → AllPairs (λ a b. a.number < b.number) ys → IsPermutation xs ys → xs ≡ ys

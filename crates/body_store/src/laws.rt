@@ -7,5 +7,4 @@ ghost use Rattle.store_spec.specs.Ballot.{Ballot};
 pub fn one_order()
     ensures { (xs ys : List Ballot) → AllPairs (λ a b. a.number < b.number) xs
         → AllPairs (λ a b. a.number < b.number) ys → IsPermutation xs ys → xs ≡ ys }
-{
-}
+{}

@@ -3,6 +3,8 @@
 
 pub mod laws;
 mod records;
+#[cfg(test)]
+mod tests;
 
 ghost use Rattle.body_store.specs.Contents.{Contents, IsStored, ballots_of, ballots_without};
 ghost use Rattle.std.specs.Prelude.{◌≡◌, ◌++◌, List, [], IfOk, IsPermutation, length, option_map};
@@ -160,51 +162,5 @@ impl Closed {
             records,
             cells,
         })
-    }
-}
-
-#[cfg(test)]
-mod tests {
-    use super::*;
-    use std::process::Abort;
-
-    const BLANK: [u32; 16] = [0; 16];
-
-    fn holds(rt: &impl Abort, cells: &[u64], wanted: &[(usize, u64)]) {
-        for (place, cell) in cells.iter().enumerate() {
-            let number = wanted.iter().find(|at| at.0 == place).map_or(0, |at| at.1);
-            assert_eq!(rt; *cell, number, "cell {place}");
-        }
-    }
-
-    #[test]
-    fn a_ballot_comes_and_goes(rt: HostRuntime) {
-        let election = Election::example();
-        let nine = Record {
-            number: 9,
-            style: 1,
-            marks: BLANK,
-        };
-        let empty = Closed::empty(rt.alloc(), &election).expect(&rt, "memory");
-        assert_eq!(rt; empty.len(), 0);
-        let ballots = vec![in rt.alloc(); nine].expect(&rt, "memory");
-        let one = Closed::from_records(rt.alloc(), &election, ballots).expect(&rt, "memory");
-        holds(&rt, one.cells(), &[(4, 9)]);
-        assert_eq!(rt; one.record_of(9), Some(nine));
-        assert_eq!(rt; one.record_of(8), None);
-        let both = Vec::from_slice(
-            rt.alloc(),
-            &[0, 0, 0, 0, 9, 0, 0, 0, 0, 0, 0, 0, 0, 0, 0, 0],
-        )
-        .expect(&rt, "memory");
-        let same = one
-            .merged(rt.alloc(), &election, &[], both)
-            .expect(&rt, "memory");
-        holds(&rt, same.cells(), &[(4, 9)]);
-        let cleared = vec![in rt.alloc(); 0; 16].expect(&rt, "memory");
-        let none = one
-            .without(rt.alloc(), &election, &[9], cleared)
-            .expect(&rt, "memory");
-        assert_eq!(rt; none.len(), 0);
     }
 }
