@@ -26,7 +26,7 @@ pub record IsLaidOut (home : ℕ → ℕ) (count : ℕ) (numbers cells : List �
 abbrev pub AreHomed : (ℕ → ℕ) → ℕ → List ℕ → Type 0
 AreHomed home homes numbers = (v : ℕ) → IsIn v numbers → (v ≢ 0) × (home v < homes)
 
-empty_cell : (count p : ℕ) → slice_index (replicate count 0) p ≡ 0
+pub empty_cell : (count p : ℕ) → slice_index (replicate count 0) p ≡ 0
 empty_cell zero p = refl
 empty_cell (suc count) zero = refl
 empty_cell (suc count) (suc p) = empty_cell count p
