@@ -1,7 +1,7 @@
 //! What a layout is like, and that nothing else is like it. Each function here states a law and does nothing.
 
-ghost use Rattle.std.specs.Prelude.{◌≡◌, ◌≢◌, ◌++◌, ℕ, ◌<◌, ◌≤◌, List, ◌∷◌, All, AllPairs, Contains, length, slice_index, take};
-ghost use Rattle.store_spec.specs.Layout.{HasRoom, HoldsExactly, IsLayout, IsOrdered, layout_of, numbers_in, placed};
+ghost use Rattle.std.specs.Prelude.{◌≡◌, ◌≢◌, ◌++◌, ℕ, ◌+◌, ◌<◌, ◌≤◌, List, ◌∷◌, All, AllPairs, Contains, length, set, slice_index, take};
+ghost use Rattle.store_spec.specs.Layout.{HasRoom, HoldsExactly, IsLayout, IsOrdered, MayStand, layout_of, numbers_in, placed};
 
 /// Ordered cells that hold exactly the numbers of a set are the layout of that set, whichever way they came about.
 pub fn ordered_cells_are_the_layout()
@@ -51,4 +51,24 @@ pub fn least_number_comes_last()
 pub fn greatest_number_is_at_home()
     ensures { (home : ℕ → ℕ) (cells : List ℕ) (place : ℕ) → IsOrdered home cells → slice_index cells place ≢ 0
         → All (λ w. w ≤ slice_index cells place) cells → home (slice_index cells place) ≡ place }
+{}
+
+/// A number that may stand at a place, and meets a greater number there, may stand at the next.
+pub fn a_number_passes_a_greater_one()
+    ensures { (home : ℕ → ℕ) (cells : List ℕ) (v place : ℕ) → MayStand home cells v place
+        → v < slice_index cells place → MayStand home cells v (place + 1) }
+{}
+
+/// Ordered cells stay ordered where a number takes a place at which it may stand from a lower one, or from none.
+pub fn displacing_keeps_order()
+    ensures { (home : ℕ → ℕ) (cells : List ℕ) (v place : ℕ) → IsOrdered home cells
+        → MayStand home cells v place → place < length cells → slice_index cells place < v
+        → IsOrdered home (set cells place v) }
+{}
+
+/// The number that is displaced so may stand at the next place.
+pub fn a_displaced_number_moves_on()
+    ensures { (home : ℕ → ℕ) (cells : List ℕ) (v place : ℕ) → IsOrdered home cells → place < length cells
+        → slice_index cells place ≢ 0 → slice_index cells place < v
+        → MayStand home (set cells place v) (slice_index cells place) (place + 1) }
 {}

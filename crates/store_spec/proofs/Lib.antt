@@ -1,4 +1,5 @@
 pub mod Ascending
+pub mod Displaced
 pub mod Fronts
 pub mod LaidOut
 pub mod OrderedCells
