@@ -1,3 +1,4 @@
 pub mod BallotSets
 pub mod Lookups
 pub mod Numbers
+pub mod Blank

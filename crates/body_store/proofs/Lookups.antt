@@ -31,9 +31,9 @@ not_found (y ∷ xs) x none =
 pub any_from_search : (xs : List ℕ) (x : ℕ) (r : Result ℕ ℕ) → MatchResult r (λ i. (i < length xs) × (get_or xs i 0 ≡ x)) (λ i. (i ≤ length xs) × ((k : ℕ) → k < i → get_or xs k 0 < x) × ((k : ℕ) → i ≤ k → k < length xs → x < get_or xs k 0)) → is_ok r ≡ list_any (λ n. n == x) xs
 any_from_search xs x (Ok i) h = sym (found xs x i h.0 h.1)
 any_from_search xs x (Err i) h = sym (not_found xs x (λ k lt. ⊎_elim
-  (λ (before : k < i). let less = h.1 k before in λ e. omega arith)
-  (λ (after : i ≤ k). let more = h.2 k after lt in λ e. omega arith)
-  (cases_lt k i)))
+    (λ (before : k < i). let less = h.1 k before in λ e. omega arith)
+    (λ (after : i ≤ k). let more = h.2 k after lt in λ e. omega arith)
+    (cases_lt k i)))
 
 -- ---- the ballot with a number
 

@@ -46,20 +46,26 @@ no_record = record { number = 0; style = 0; marks = [] }
 pub numbers_rise : (records : List Record) → IsNonDecreasingBy (λ r. r.number) records → IsNonDecreasing (numbers_of (ballots_of records))
 numbers_rise records up =
     let mapped : IsNonDecreasing (map (λ r. r.number) records) = λ i j d le in_range.
-      let size = length-map records (λ r. r.number) in
-      let left = get_or-map (λ (r : Record). r.number) records i no_record d (omega arith) in
-      let right = get_or-map (λ (r : Record). r.number) records j no_record d (omega arith) in
-      let least = up i j no_record le (omega arith) in
-      omega arith in
+    let size = length-map records (λ r. r.number) in
+    let left = get_or-map (λ (r : Record). r.number) records i no_record d (omega arith) in
+    let right = get_or-map (λ (r : Record). r.number) records j no_record d (omega arith) in
+    let least = up i j no_record le (omega arith) in
+    omega arith in
     subst (λ (ns : List ℕ). IsNonDecreasing ns) (sym (numbers_of-ballots_of records)) mapped
 
 pub rise_from_ascending : (records : List Record) → AllPairs (λ a b. a.number < b.number) (ballots_of records) → IsNonDecreasingBy (λ r. r.number) records
 rise_from_ascending records h i j d le within = ⊎_elim
-  (λ (lt : i < j).
-      let size = length-map records ballot in
-      let left : (get_or (ballots_of records) i no_ballot).number ≡ (get_or records i d).number = ap (λ b. b.number) (get_or-map ballot records i d no_ballot (omega arith)) in
-      let right : (get_or (ballots_of records) j no_ballot).number ≡ (get_or records j d).number = ap (λ b. b.number) (get_or-map ballot records j d no_ballot within) in
-      let less : (get_or (ballots_of records) i no_ballot).number < (get_or (ballots_of records) j no_ballot).number = h i j no_ballot lt (omega arith) in
-      omega arith)
-  (λ (ge : j ≤ i). let same : i ≡ j = omega arith in let equal : (get_or records i d).number ≡ (get_or records j d).number = ap (λ k. (get_or records k d).number) same in omega arith)
-  (cases_lt i j)
+    (λ (lt : i < j).
+    let size = length-map records ballot in
+    let left : (get_or (ballots_of records) i no_ballot).number ≡ (get_or records i d).number = ap (λ b. b.number) (get_or-map ballot records i d no_ballot (omega arith)) in
+    let right : (get_or (ballots_of records) j no_ballot).number ≡ (get_or records j d).number = ap (λ b. b.number) (get_or-map ballot records j d no_ballot within) in
+    let less : (get_or (ballots_of records) i no_ballot).number < (get_or (ballots_of records) j no_ballot).number = h i j no_ballot lt (omega arith) in
+    omega arith)
+    (λ (ge : j ≤ i). let same : i ≡ j = omega arith in let equal : (get_or records i d).number ≡ (get_or records j d).number = ap (λ k. (get_or records k d).number) same in omega arith)
+    (cases_lt i j)
+
+pub rise_from_pairs : (ballots : List Ballot) → AllPairs (λ a b. a.number < b.number) ballots → IsNonDecreasing (numbers_of ballots)
+rise_from_pairs ballots h i j d le within = ⊎_elim
+    (λ (lt : i < j). let less = pairs_of_numbers (λ a b. a < b) ballots h i j d lt within in omega arith)
+    (λ (ge : j ≤ i). let same : i ≡ j = omega arith in let equal : get_or (numbers_of ballots) i d ≡ get_or (numbers_of ballots) j d = ap (λ k. get_or (numbers_of ballots) k d) same in omega arith)
+    (cases_lt i j)

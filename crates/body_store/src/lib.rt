@@ -1,7 +1,10 @@
 //! The closed store: the ballots that are held, and the cells in which their numbers stand.
 #![tactic(auto)]
 
+pub mod laws;
 mod records;
+#[cfg(test)]
+mod tests;
 
 ghost use Rattle.body_store.specs.Contents.{Contents, IsStored, ballots_of, ballots_without};
 ghost use Rattle.std.specs.Prelude.{◌≡◌, ◌++◌, List, [], IfOk, IsPermutation, length, option_map};
@@ -149,7 +152,9 @@ impl Closed {
         requires layout { cells.items ≡ cells_of election.now (ballots_without self.now.ballots numbers.now) }
         ensures { IfOk result
             (λ store. store ≡ record {
-                election = election.now; ballots = ballots_without self.now.ballots numbers.now }) }
+              election = election.now;
+              ballots = ballots_without self.now.ballots numbers.now;
+            }) }
     {
         let records = records::without(alloc, &self.records, numbers)?;
         Ok(Closed {
@@ -157,36 +162,5 @@ impl Closed {
             records,
             cells,
         })
-    }
-}
-
-#[cfg(test)]
-mod tests {
-    use super::*;
-    use ballot_record::Contest;
-
-    fn ballot(number: u64) -> Record {
-        Record {
-            number,
-            style: 1,
-            marks: [0; 16],
-        }
-    }
-
-    fn stands(rt: &HostRuntime, store: &Closed, cells: usize, want: &[(usize, u64)]) {
-        assert_eq!(rt; store.cells().len(), cells);
-        for (place, cell) in store.cells().iter().enumerate() {
-            let number = want.iter().find(|at| at.0 == place).map_or(0, |at| at.1);
-            assert_eq!(rt; *cell, number, "cell {place}");
-        }
-    }
-
-    #[test]
-    fn three_ballots_and_one_more(rt: HostRuntime) {
-        let election = Election::example();
-        let alloc = rt.alloc();
-        let nothing = Closed::empty(alloc, &election).expect(&rt, "memory");
-        assert_eq!(rt; nothing.len(), 0);
-        stands(&rt, &nothing, 16, &[]);
     }
 }

@@ -1,52 +1,9 @@
--- Pointers that skip full cells stay sound when one is shortened and when a cell is filled.
+-- Pointers that skip full cells are sound at first, and stay so when a cell is filled.
 use Rattle.std.proofs.Common.{◌≡◌, ◌≢◌, ℕ, ◌+◌, ◌<◌, ◌≤◌, ◌⊎◌, ⊎_elim, List, length, get_or, set, replicate, sym, ap, ◌∙◌, subst, arith}
 use Rattle.std.proofs.lemmas.Bool.{cases_eq, cases_lt}
 use Rattle.std.proofs.lemmas.List.{get_or-set_other, get_or-set_same, length-set, get_or-replicate}
 use Rattle.layout_def.specs.Pointers.{AreSound, LeavesOneEmpty}
 use Rattle.store_spec.specs.Probe.{IsFilled, IsFirstEmpty}
-
-filled_through : (cells : List ℕ) (a b c : ℕ) → IsFilled cells a b → IsFilled cells b c → IsFilled cells a c
-filled_through cells a b c ab bc k from to = ⊎_elim (λ (l : k < b). ab k from l) (λ (l : b ≤ k). bc k l to) (cases_lt k b)
-
-pub within : (cells : List ℕ) (at : ℕ) → LeavesOneEmpty cells at → at < length cells
-within cells at one = let a = one.1 in let b = one.2 in omega arith
-
--- what is skipped is full, so the empty cell is not
-pub one_left_past : (cells onward : List ℕ) (at : ℕ) → AreSound cells onward → LeavesOneEmpty cells at → LeavesOneEmpty cells (get_or onward at 0)
-one_left_past cells onward at h one =
-    let full = h.skips_full at (within cells at one) in (
-      one.0,
-      ⊎_elim (λ (l : one.0 < get_or onward at 0). absurd (full one.0 one.1 l one.3)) (λ (l : get_or onward at 0 ≤ one.0). l) (cases_lt one.0 (get_or onward at 0)),
-      one.2,
-      one.3,
-    )
-
--- two steps in one
-pub skips_both : (cells onward : List ℕ) (at : ℕ) → AreSound cells onward → LeavesOneEmpty cells at → IsFilled cells at (get_or onward (get_or onward at 0) 0)
-skips_both cells onward at h one =
-    let next = within cells _ (one_left_past cells onward at h one) in
-    filled_through cells at (get_or onward at 0) _ (h.skips_full at (within cells at one)) (h.skips_full (get_or onward at 0) next)
-
-pub leads_far : (cells onward : List ℕ) (at : ℕ) → AreSound cells onward → LeavesOneEmpty cells at → get_or cells at 0 ≢ 0 → at < get_or onward (get_or onward at 0) 0
-leads_far cells onward at h one full =
-    let on = h.leads_on at (within cells at one) full in
-    let further = h.never_back (get_or onward at 0) (within cells _ (one_left_past cells onward at h one)) in
-    omega arith
-
-pub sound_shortened : (cells onward : List ℕ) (at to : ℕ) → AreSound cells onward → at < length cells → at < to → IsFilled cells at to → AreSound cells (set onward at to)
-sound_shortened cells onward at to h in_range on full =
-    let there : at < length onward = omega (arith, h.one_each) in
-    let new = λ (k : ℕ) (e : k ≡ at). ap (λ m. get_or (set onward at to) m 0) e ∙ get_or-set_same onward at to 0 there in
-    let old = λ (k : ℕ) (n : k ≢ at). get_or-set_other onward at k to 0 n in
-    record {
-      one_each = length-set onward at to ∙ h.one_each;
-      never_back = λ k lt. ⊎_elim (λ (e : k ≡ at). omega (arith, new k e)) (λ (n : k ≢ at). omega (arith, old k n, h.never_back k lt)) (cases_eq k at);
-      skips_full = λ k lt. ⊎_elim
-          (λ (e : k ≡ at). subst (λ (m : ℕ). IsFilled cells k m) (sym (new k e)) (subst (λ (m : ℕ). IsFilled cells m to) (sym e) full))
-          (λ (n : k ≢ at). subst (λ (m : ℕ). IsFilled cells k m) (sym (old k n)) (h.skips_full k lt))
-          (cases_eq k at);
-      leads_on = λ k lt some. ⊎_elim (λ (e : k ≡ at). omega (arith, new k e)) (λ (n : k ≢ at). omega (arith, old k n, h.leads_on k lt some)) (cases_eq k at);
-    }
 
 -- a cell that is filled stays so when another is
 filled_set : (cells : List ℕ) (p v a b : ℕ) → v ≢ 0 → p < length cells → IsFilled cells a b → IsFilled (set cells p v) a b

@@ -3,6 +3,7 @@
 
 pub mod laws;
 mod probe;
+mod search;
 
 ghost use Rattle.layout_def.specs.Pointers.{AreSound};
 ghost use Rattle.std.specs.List.Sorted.{IsNonDecreasing};
@@ -12,6 +13,7 @@ ghost use Rattle.store_spec.specs.Layout.{HasRoom, layout_of};
 use outside_io::Memory;
 use probe::{first_empty, fresh_pointers};
 use probe_order::Order;
+pub use search::{is_ordered, place_of};
 use std::alloc::Global;
 
 /// The cells that hold these numbers, where each stands in the first cell at or after its home that no greater number takes.
@@ -93,5 +95,31 @@ mod tests {
         let order = Salted { bits: 0, salt: 0 };
         let cells = build(rt.alloc(), &order, 2, &[5]).expect(&rt, "memory");
         holds(&rt, &cells, &[(0, 5)]);
+    }
+
+    #[test]
+    fn places_and_order(rt: HostRuntime) {
+        let cells = [0, 0, 0, 0, 22, 14, 9, 1, 0, 0, 0, 0, 0, 0, 0, 0];
+        assert!(rt; is_ordered(&EXAMPLE, &cells));
+        let wanted = [
+            (22, Some(4)),
+            (14, Some(5)),
+            (9, Some(6)),
+            (1, Some(7)),
+            (17, None),
+            (5, None),
+        ];
+        for (number, place) in wanted {
+            assert_eq!(rt; place_of(&EXAMPLE, &cells, number), place, "{number}");
+        }
+        let unordered = [
+            [0, 0, 0, 0, 9, 14, 0, 1, 0, 0, 0, 0, 0, 0, 0, 0],
+            [0, 0, 0, 1, 9, 14, 0, 0, 0, 0, 0, 0, 0, 0, 0, 0],
+            [0, 0, 0, 0, 14, 9, 1, 0, 0, 0, 0, 0, 0, 0, 0, 0],
+            [0, 0, 0, 0, 1, 14, 9, 0, 0, 0, 0, 0, 0, 0, 0, 0],
+        ];
+        for cells in unordered {
+            assert!(rt; !is_ordered(&EXAMPLE, &cells));
+        }
     }
 }

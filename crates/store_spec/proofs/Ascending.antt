@@ -1,10 +1,11 @@
 -- The numbers of a list in ascending order: whichever way the list is listed, and with the list's own numbers.
 use Rattle.std.proofs.Common.{◌≡◌, if◌then◌else◌, ◌==◌, ◌≢◌, ℕ, zero, suc, ◌+◌, ◌<◌, ◌≤◌, ◌⊎◌, inl, inr, ⊎_elim, List, [], ◌∷◌, length, get_or, set, sym, refl, ap, ◌∙◌, subst, arith}
 use Rattle.std.proofs.lemmas.Bool.{eq-eqb, ne_eqb, cases_lt, le-leb, lt-leb, cond-true, cond-false, cases_eq}
-use Rattle.std.proofs.lemmas.List.{set-get_or, get_or-set_other, get_or-set_same, length-set}
+use Rattle.std.proofs.lemmas.List.{get_or_default, set-get_or, get_or-set_other, get_or-set_same, length-set}
+use Rattle.std.proofs.lemmas.List.Kept.{AllPairs-cons}
 use Rattle.std.proofs.lemmas.List.Sorted.{IsPermutation-keeps}
 use Rattle.std.proofs.lemmas.List.Edits.{swap_is}
-use Rattle.std.specs.List.{swap, Contains, AllPairs}
+use Rattle.std.specs.List.{swap, All, Contains, AllPairs}
 use Rattle.std.specs.List.Sorted.{IsPermutation, IsNonDecreasing}
 use Rattle.store_spec.specs.Layout.{put_in_order, ascending}
 
@@ -191,3 +192,29 @@ ascending_distinct (x ∷ xs) h =
     let apart : IsIn x xs → ⊥ = λ i. let c = contains_from_in x xs i in h 0 (suc c.0) x (omega arith) (omega (arith, c.1)) (sym c.2) in
     put_rising x (ascending xs) (λ i. apart (from_ascending x xs i))
     (ascending_distinct xs (λ i j d lt in_range. h (suc i) (suc j) d (omega arith) (omega arith)))
+
+rising_without : (v : ℕ) (xs : List ℕ) → IsRising (put_in_order v xs) → (IsIn v xs → ⊥) × IsRising xs
+rising_without v [] h = (λ i. i, tt)
+rising_without v (x ∷ xs) h = ⊎_elim
+  (λ (below : x < v).
+      let k : IsRising (x ∷ put_in_order v xs) = subst (λ (ys : List ℕ). IsRising ys) (put_later v x xs below) h in
+      let rest = rising_without v xs k.1 in
+      (λ i. ⊎_elim (λ (e : x ≡ v). omega arith) (λ m. rest.0 m) i, (λ y m. k.0 y (in_put y v xs (inr m)), rest.1)))
+  (λ (above : v ≤ x).
+      let k : IsRising (v ∷ x ∷ xs) = subst (λ (ys : List ℕ). IsRising ys) (put_first v x xs above) h in
+      (λ i. let less : v < v = k.0 v i in omega arith, k.1))
+  (cases_lt x v)
+
+-- numbers are distinct where they rise in order
+pub distinct_from_ascending : (xs : List ℕ) → IsRising (ascending xs) → AllPairs (λ a b. a ≢ b) xs
+distinct_from_ascending [] h = λ i j d lt within. absurd (omega arith)
+distinct_from_ascending (x ∷ xs) h =
+    let parts = rising_without x (ascending xs) h in
+    let apart : All (λ b. x ≢ b) xs = λ k d within. λ e.
+      parts.0 (in_ascending x xs (in_from_contains x xs (k, within, get_or_default xs k x d within ∙ sym e))) in
+    AllPairs-cons (λ a b. a ≢ b) x xs apart (distinct_from_ascending xs parts.1)
+
+-- so they are in any order
+pub distinct-IsPermutation : (xs ys : List ℕ) → IsPermutation xs ys → AllPairs (λ a b. a ≢ b) xs → AllPairs (λ a b. a ≢ b) ys
+distinct-IsPermutation xs ys p h =
+    distinct_from_ascending ys (subst (λ (l : List ℕ). IsRising l) (sym (ascending-IsPermutation xs ys p)) (ascending_distinct xs h))

@@ -8,7 +8,7 @@ use Rattle.std.proofs.lemmas.List.Sorted.{All-permutation, length_permutation}
 use Rattle.std.specs.List.{All, Contains, AllPairs}
 use Rattle.std.specs.List.Sorted.{IsPermutation, IsNonDecreasing}
 use Rattle.std.specs.Prelude.{slice_index}
-use Rattle.store_spec.proofs.Ascending.{IsIn, IsRising, in_ascending, from_ascending, in_from_contains, contains_from_in, length-ascending, ascending_distinct, ascending-IsPermutation, ascending_rising}
+use Rattle.store_spec.proofs.Ascending.{IsIn, IsRising, in_ascending, from_ascending, in_from_contains, contains_from_in, length-ascending, ascending_distinct, ascending-IsPermutation, ascending_rising, distinct-IsPermutation}
 use Rattle.store_spec.proofs.OrderedCells.{same_cells, place_from_contains, contains_from_place, place_within}
 use Rattle.store_spec.proofs.Placing.{first_empty, placed_at, filled, filled_none, filled_set, filled_to_end}
 use Rattle.store_spec.specs.Probe.{IsFilled, IsFirstEmpty}
@@ -26,7 +26,7 @@ pub record IsLaidOut (home : ℕ → ℕ) (count : ℕ) (numbers cells : List �
 abbrev pub AreHomed : (ℕ → ℕ) → ℕ → List ℕ → Type 0
 AreHomed home homes numbers = (v : ℕ) → IsIn v numbers → (v ≢ 0) × (home v < homes)
 
-empty_cell : (count p : ℕ) → slice_index (replicate count 0) p ≡ 0
+pub empty_cell : (count p : ℕ) → slice_index (replicate count 0) p ≡ 0
 empty_cell zero p = refl
 empty_cell (suc count) zero = refl
 empty_cell (suc count) (suc p) = empty_cell count p
@@ -162,13 +162,6 @@ ordered_is_layout_of home homes count numbers cells h len ordered holds =
 
 -- ---- the same set in another order
 
-pub distinct_from_rising : (xs : List ℕ) → IsRising xs → AllPairs (λ a b. a ≢ b) xs
-distinct_from_rising [] h = λ i j d lt in_range. absurd (omega arith)
-distinct_from_rising (x ∷ xs) h =
-    let apart : All (λ b. x ≢ b) xs = λ k d in_range.
-      let later : x < get_or xs k d = h.0 _ (in_from_contains _ xs (Contains-get_or xs k d in_range)) in λ e. omega arith in
-    AllPairs-cons (λ a b. a ≢ b) x xs apart (distinct_from_rising xs h.1)
-
 pub ascending_from_rising : (xs : List ℕ) → IsRising xs → AllPairs (λ a b. a < b) xs
 ascending_from_rising [] h = λ i j d lt in_range. absurd (omega arith)
 ascending_from_rising (x ∷ xs) h =
@@ -179,15 +172,10 @@ ascending_from_rising (x ∷ xs) h =
 pub rising_in_order : (xs : List ℕ) → IsNonDecreasing xs → AllPairs (λ a b. a ≢ b) xs → IsRising xs
 rising_in_order xs up apart = subst (λ (l : List ℕ). IsRising l) (ascending_rising xs up) (ascending_distinct xs apart)
 
--- what sorting leaves of distinct numbers
-pub sorted_rising : (xs ys : List ℕ) → IsPermutation xs ys → IsNonDecreasing ys → AllPairs (λ a b. a ≢ b) xs → IsRising ys
-sorted_rising xs ys p up apart =
-    subst (λ (l : List ℕ). IsRising l) (sym (ascending-IsPermutation xs ys p) ∙ ascending_rising ys up) (ascending_distinct xs apart)
-
--- what sorting leaves has room where the list had
-pub room_sorted : (home : ℕ → ℕ) (homes count : ℕ) (xs ys : List ℕ) → IsPermutation xs ys → IsNonDecreasing ys → HasRoom home homes count xs → HasRoom home homes count ys
-room_sorted home homes count xs ys p up h = record {
-  distinct = distinct_from_rising ys (sorted_rising xs ys p up h.distinct);
+-- the same numbers in another order have room where these had
+pub room-IsPermutation : (home : ℕ → ℕ) (homes count : ℕ) (xs ys : List ℕ) → IsPermutation xs ys → HasRoom home homes count xs → HasRoom home homes count ys
+room-IsPermutation home homes count xs ys p h = record {
+  distinct = distinct-IsPermutation xs ys p h.distinct;
   some = All-permutation (λ v. v ≢ 0) xs ys p h.some;
   homed = All-permutation (λ v. home v < homes) xs ys p h.homed;
   room = let len = length_permutation xs ys p in let enough = h.room in omega arith

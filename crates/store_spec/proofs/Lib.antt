@@ -5,6 +5,8 @@ pub mod LineWhole
 pub mod MarkSets
 pub mod LineLaws
 pub mod Ascending
+pub mod Displaced
+pub mod Fronts
 pub mod LaidOut
 pub mod OrderedCells
 pub mod Placing

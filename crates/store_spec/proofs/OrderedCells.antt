@@ -32,7 +32,7 @@ le_total (x ∷ xs) (suc p) = let rest = le_total xs p in omega arith
 abbrev AgreeAbove : ℕ → List ℕ → List ℕ → Type 0
 AgreeAbove v a b = (w p : ℕ) → v < w → get_or a p 0 ≡ w → get_or b p 0 ≡ w
 
-home_before : (home : ℕ → ℕ) (cells : List ℕ) (v p : ℕ) → IsOrdered home cells → v ≢ 0 → get_or cells p 0 ≡ v → home v ≤ p
+pub home_before : (home : ℕ → ℕ) (cells : List ℕ) (v p : ℕ) → IsOrdered home cells → v ≢ 0 → get_or cells p 0 ≡ v → home v ≤ p
 home_before home cells v p h n e = subst (λ (w : ℕ). home w ≤ p) e (h.from_home p (λ z. n (sym e ∙ z)))
 
 pub above_before : (home : ℕ → ℕ) (cells : List ℕ) (v p q : ℕ) → IsOrdered home cells → v ≢ 0 → get_or cells p 0 ≡ v → home v ≤ q → q < p → v < get_or cells q 0

@@ -4,14 +4,6 @@ use Rattle.std.proofs.lemmas.Bool.{eq-eqb, ne_eqb, cases_lt, cond-true, cond-fal
 use Rattle.store_spec.specs.Layout.{placed}
 use Rattle.store_spec.specs.Probe.{IsFilled, IsFirstEmpty}
 
-pub length-placed : (v place : ℕ) (cells : List ℕ) → length (placed v place cells) ≡ length cells
-length-placed v place [] = refl
-length-placed v zero (cell ∷ cells) = ⊎_elim
-  (λ (e : cell ≡ 0). ap length (cond-true _ _ _ (eq-eqb cell 0 e)))
-  (λ (n : cell ≢ 0). ap length (cond-false _ _ _ (ne_eqb cell 0 n)) ∙ ap suc (length-placed v zero cells))
-  (cases_eq cell 0)
-length-placed v (suc place) (cell ∷ cells) = ap suc (length-placed v place cells)
-
 -- the number goes into a cell that is the first empty one
 pub placed_at : (v place : ℕ) (cells : List ℕ) (p : ℕ) → place ≤ p → p < length cells → get_or cells p 0 ≡ 0 → IsFilled cells place p → placed v place cells ≡ set cells p v
 placed_at v place [] p le lt e full = refl

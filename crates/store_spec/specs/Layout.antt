@@ -1,6 +1,6 @@
 -- Where the numbers of a set stand: linear probing by priority, which is history-independent
 -- (Blelloch and Golovin, FOCS 2007). A greater number has the higher priority, and 0 is the empty cell.
-use Rattle.std.specs.Prelude.{◌≡◌, ◌≢◌, ℕ, zero, suc, ◌<◌, ◌≤◌, nat_le, ◌==◌, if◌then◌else◌, List, [], ◌∷◌, ◌+◌, ◌-◌, length, replicate, slice_index, All, AllPairs, Contains}
+use Rattle.std.specs.Prelude.{◌≡◌, ◌≢◌, ℕ, zero, suc, ◌<◌, ◌≤◌, nat_le, ◌==◌, if◌then◌else◌, List, [], ◌∷◌, ◌+◌, ◌-◌, length, replicate, filter, not, slice_index, All, AllPairs, Contains}
 
 -- the numbers of a list in ascending order
 abbrev pub put_in_order : ℕ → List ℕ → List ℕ
@@ -33,6 +33,11 @@ pub record IsOrdered (home : ℕ → ℕ) (cells : List ℕ) : Type 0 where
   pub from_home : (place : ℕ) → slice_index cells place ≢ 0 → home (slice_index cells place) ≤ place
   pub greater_before : (place before : ℕ) → slice_index cells place ≢ 0 → home (slice_index cells place) ≤ before → before < place → slice_index cells place < slice_index cells before
 
+-- what it says of one number and the place where it stands, or is to stand
+pub record MayStand (home : ℕ → ℕ) (cells : List ℕ) (v place : ℕ) : Type 0 where
+  pub from_home : home v ≤ place
+  pub greater_before : (before : ℕ) → home v ≤ before → before < place → v < slice_index cells before
+
 -- each of the numbers stands in some cell, and what stands in a cell is one of them or 0
 pub record HoldsExactly (cells numbers : List ℕ) : Type 0 where
   pub each : (v : ℕ) → Contains numbers v → Contains cells v
@@ -45,6 +50,10 @@ pub record HasRoom (home : ℕ → ℕ) (homes count : ℕ) (numbers : List ℕ)
   pub some : All (λ v. v ≢ 0) numbers
   pub homed : All (λ v. home v < homes) numbers
   pub room : homes + length numbers ≤ count
+
+-- the numbers that stand in some cells, in the order of the cells
+abbrev pub numbers_in : List ℕ → List ℕ
+numbers_in cells = filter (λ cell. not (cell == 0)) cells
 
 -- what a layout is like, however it was made
 pub record IsLayout (home : ℕ → ℕ) (count : ℕ) (numbers cells : List ℕ) : Type 0 where

@@ -6,7 +6,7 @@ use Rattle.std.proofs.lemmas.List.{get_or-replicate, get_or_default, take_at}
 use Rattle.std.proofs.lemmas.List.Sorted.{IsNonDecreasingBy-from_sort}
 use Rattle.std.specs.List.Sorted.{IsNonDecreasing, IsPermutation}
 use Rattle.store_spec.proofs.Ascending.{ascending-IsPermutation}
-use Rattle.store_spec.proofs.LaidOut.{room_sorted}
+use Rattle.store_spec.proofs.LaidOut.{room-IsPermutation}
 use Rattle.store_spec.specs.Layout.{HasRoom, ascending, layout_of, laid_out}
 
 pub place_all-requires-clause-rising : goal.place_all-requires-clause-rising
@@ -28,7 +28,7 @@ place_all-requires-clause-fits g c =
     } in
     let moved : IsPermutation numbers c.sort_unstable.new.self.items =
     subst (λ (l : List ℕ). IsPermutation l c.sort_unstable.new.self.items) c.in_ok-waiting.ensures.items c.sort_unstable.ensures.permutation in
-    room_sorted home homes all numbers _ moved (place_all-requires-clause-rising g c) before
+    room-IsPermutation home homes all numbers _ moved before
 
 -- the cells are empty, and each pointer leads to its own cell
 pub place_all-requires-clause-sound : goal.place_all-requires-clause-sound

@@ -1,7 +1,7 @@
 use Rattle.std.proofs.Common.{◌≡◌, ℕ, List, subst, sym, ap, ◌∙◌, refl, rules}
 use Rattle.ballot_record.specs.declared.record.Record.{Record}
 use Rattle.ballot_record.specs.Record.{ballot}
-use Rattle.body_store.proofs.BallotSets.{set_in_order, stored_in_order}
+use Rattle.body_store.proofs.BallotSets.{set-IsPermutation, stored_in_order}
 use Rattle.body_store.proofs.Closed.from_records.Goals as goal
 use Rattle.body_store.proofs.Numbers.{numbers_rise}
 use Rattle.body_store.specs.Contents.{ballots_of}
@@ -12,13 +12,10 @@ use Rattle.store_spec.specs.Image.{cells_of}
 
 pub layout-requires : goal.layout-requires
 layout-requires c =
-    let sorted = c.sort_unstable_by_key.new.self.items in
-    let same : c.deref.result.now ≡ sorted = search rules in
-    let rising : IsNonDecreasing (numbers_of (ballots_of sorted)) =
-      numbers_rise sorted (IsNonDecreasingBy-from_sort_by_key (λ r. r.number) sorted c.sort_unstable_by_key.ensures.sorted (λ a r q k. search rules)) in
+    let same : c.deref.result.now ≡ c.sort_unstable_by_key.new.self.items = search rules in
     let moved = IsPermutation-map ballot _ _ c.sort_unstable_by_key.ensures.permutation in
     subst (λ (rs : List Record). IsBallotSet c.args.election.now (ballots_of rs)) (sym same)
-    (set_in_order c.args.election.now _ _ c.requires moved rising)
+    (set-IsPermutation c.args.election.now _ _ moved c.requires)
 
 pub returns-clause-same : goal.returns-clause-same
 returns-clause-same c = IsPermutation-map ballot _ _ c.sort_unstable_by_key.ensures.permutation
@@ -27,13 +24,13 @@ pub returns-clause-stored : goal.returns-clause-stored
 returns-clause-stored c =
     let sorted = c.sort_unstable_by_key.new.self.items in
     let rising : IsNonDecreasing (numbers_of (ballots_of sorted)) =
-      numbers_rise sorted (IsNonDecreasingBy-from_sort_by_key (λ r. r.number) sorted c.sort_unstable_by_key.ensures.sorted (λ a r q k. search rules)) in
+    numbers_rise sorted (IsNonDecreasingBy-from_sort_by_key (λ r. r.number) sorted c.sort_unstable_by_key.ensures.sorted (λ a r q k. search rules)) in
     stored_in_order c.args.election.now _ _ c.in_ok-cells.ensures.election c.requires (returns-clause-same c) rising
 
 pub invariant_of-result : goal.invariant_of-result
 invariant_of-result c = record {
   stored = returns-clause-stored c;
   cells =
-    let same : c.deref.result.now ≡ c.sort_unstable_by_key.new.self.items = search rules in
-    c.in_ok-cells.ensures.cells ∙ ap (λ rs. cells_of c.args.election.now (ballots_of rs)) same;
+      let same : c.deref.result.now ≡ c.sort_unstable_by_key.new.self.items = search rules in
+      c.in_ok-cells.ensures.cells ∙ ap (λ rs. cells_of c.args.election.now (ballots_of rs)) same;
 }

@@ -16,10 +16,10 @@ pub returns-clause-union : goal.returns-clause-union
 returns-clause-union c =
     let own : c.deref.result.now ≡ c.self.inside.records.items = search rules in
     let all : ballots_of c.in_ok-records.records.items ≡ c.args.self.now.ballots ++ ballots_of c.args.ballots.now =
-      ap ballots_of c.in_ok-records.ensures
-      ∙ map-append ballot _ _
-      ∙ ap (λ rs. ballots_of rs ++ ballots_of c.args.ballots.now) own
-      ∙ ap (λ (store : Contents). store.ballots ++ ballots_of c.args.ballots.now) c.self.view_is in
+    ap ballots_of c.in_ok-records.ensures
+    ∙ map-append ballot _ _
+    ∙ ap (λ rs. ballots_of rs ++ ballots_of c.args.ballots.now) own
+    ∙ ap (λ (store : Contents). store.ballots ++ ballots_of c.args.ballots.now) c.self.view_is in
     subst (λ (bs : List Ballot). IsPermutation bs (ballots_of c.sort_unstable_by_key.new.self.items)) all
     (IsPermutation-map ballot _ _ c.sort_unstable_by_key.ensures.permutation)
 
@@ -27,9 +27,9 @@ pub returns-clause-stored : goal.returns-clause-stored
 returns-clause-stored c =
     let sorted = c.sort_unstable_by_key.new.self.items in
     let rising : IsNonDecreasing (numbers_of (ballots_of sorted)) =
-      numbers_rise sorted (IsNonDecreasingBy-from_sort_by_key (λ r. r.number) sorted c.sort_unstable_by_key.ensures.sorted (λ a r q k. search rules)) in
+    numbers_rise sorted (IsNonDecreasingBy-from_sort_by_key (λ r. r.number) sorted c.sort_unstable_by_key.ensures.sorted (λ a r q k. search rules)) in
     let election : IsElection c.args.election.now =
-      subst (λ (e : Election). IsElection e) (ap (λ (store : Contents). store.election) c.self.view_is ∙ sym c.requires.own) c.self.invariant.stored.election in
+    subst (λ (e : Election). IsElection e) (ap (λ (store : Contents). store.election) c.self.view_is ∙ sym c.requires.own) c.self.invariant.stored.election in
     stored_in_order c.args.election.now _ _ election c.requires.set (returns-clause-union c) rising
 
 pub invariant_of-result : goal.invariant_of-result

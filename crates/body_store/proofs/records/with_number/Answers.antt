@@ -29,14 +29,14 @@ returns-in-Err c =
     let size = length-map records ballot in
     let up = rise_from_ascending records c.requires in
     let rises : IsNonDecreasingBy (λ r. ordering_index (nat_cmp r.number c.args.number)) records = λ i j d le within.
-      cmp_rises _ _ c.args.number (up i j d le within) in
+    cmp_rises _ _ c.args.number (up i j d le within) in
     let parts = apart rises in
     ballot_missing (ballots_of records) c.args.number
     (λ k lt.
-        let within : k < length records = omega arith in
-        let at = get_or-map ballot records k no_record no_ballot within in
-        λ e.
-        let here = sym (ap (λ b. b.number) at) ∙ e in
-        ⊎_elim (λ (before : k < c.in-Err.field-0). cmp_less _ _ (parts.0 k no_record (omega arith) before) here)
-        (λ (after : c.in-Err.field-0 ≤ k). cmp_greater _ _ (parts.1 k no_record after within) here)
-        (cases_lt k c.in-Err.field-0))
+    let within : k < length records = omega arith in
+    let at = get_or-map ballot records k no_record no_ballot within in
+    λ e.
+    let here = sym (ap (λ b. b.number) at) ∙ e in
+    ⊎_elim (λ (before : k < c.in-Err.field-0). cmp_less _ _ (parts.0 k no_record (omega arith) before) here)
+    (λ (after : c.in-Err.field-0 ≤ k). cmp_greater _ _ (parts.1 k no_record after within) here)
+    (cases_lt k c.in-Err.field-0))

@@ -23,14 +23,14 @@ loop-record-preserved c =
     let r = get_or records i no_record in
     let more = take_more records i no_record (omega arith) in
     let found : c.contains.result ≡ list_any (λ n. n == r.number) numbers =
-      c.contains.ensures
-      ∙ ap (list_any (λ n. n == r.number)) c.deref.ensures.value
-      ∙ sym (list_any-IsPermutation (λ n. n == r.number) _ _ c.sort_unstable.ensures.permutation)
-      ∙ ap (list_any (λ n. n == r.number)) c.in_ok-sorted.ensures.items in
+    c.contains.ensures
+    ∙ ap (list_any (λ n. n == r.number)) c.deref.ensures.value
+    ∙ sym (list_any-IsPermutation (λ n. n == r.number) _ _ c.sort_unstable.ensures.permutation)
+    ∙ ap (list_any (λ n. n == r.number)) c.in_ok-sorted.ensures.items in
     elim c.if-not-contains.branch [
-      then-not-contains+in_ok-push w ↦ ap (λ (rest : Vec Record Global). ballots_of rest.items) w.rest-is
-        ∙ ap ballots_of w.in_ok-push.ensures.items
-        ∙ kept_more records _ i r numbers more c.loop-record.invariant (sym found ∙ w.if-not-contains.true)
-    | else-not-contains w ↦ ap (λ (rest : Vec Record Global). ballots_of rest.items) w.rest-is
-        ∙ dropped_more records _ i r numbers more c.loop-record.invariant (sym found ∙ w.if-not-contains.false)
+      | then-not-contains+in_ok-push w ↦ ap (λ (rest : Vec Record Global). ballots_of rest.items) w.rest-is
+          ∙ ap ballots_of w.in_ok-push.ensures.items
+          ∙ kept_more records _ i r numbers more c.loop-record.invariant (sym found ∙ w.if-not-contains.true)
+      | else-not-contains w ↦ ap (λ (rest : Vec Record Global). ballots_of rest.items) w.rest-is
+          ∙ dropped_more records _ i r numbers more c.loop-record.invariant (sym found ∙ w.if-not-contains.false)
     ]

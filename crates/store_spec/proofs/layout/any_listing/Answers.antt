@@ -1,6 +1,3 @@
-use Rattle.store_spec.proofs.LaidOut.{ordered_is_layout_of}
-use Rattle.store_spec.proofs.OrderedCells.{same_cells}
-use Rattle.store_spec.proofs.Placing.{filled_to_end}
 use Rattle.std.proofs.Common.{ap, sym}
 use Rattle.store_spec.specs.Layout.{laid_out}
 use Rattle.store_spec.proofs.Ascending.{ascending-IsPermutation}

@@ -1,0 +1,22 @@
+use Rattle.std.proofs.Common.{◌≡◌, ◌^◌, ◌<◌, ℕ, List, All, map, sym, subst, ap, ◌∙◌, arith, rules}
+use Rattle.ballot_record.specs.Record.{ballot}
+use Rattle.body_store.proofs.Blank.{blank_record, blank_set, ballots_of-blank}
+use Rattle.body_store.proofs.tests.blanks.Goals as goal
+use Rattle.body_store.specs.Contents.{ballots_of}
+use Rattle.std.proofs.lemmas.List.{get_or_default, take_all}
+use Rattle.store_spec.specs.Ballot.{Ballot, IsBallotSet}
+use Rattle.store_spec.specs.Election.{example}
+
+pub returns-clause-blank : goal.returns-clause-blank
+returns-clause-blank c =
+    let each : c.loop-number.ballots.items ≡ map blank_record c.args.numbers.now =
+    c.loop-number.invariant ∙ ap (map blank_record) (take_all _ c.args.numbers.now (omega arith)) in
+    ap ballots_of each ∙ ballots_of-blank c.args.numbers.now
+
+pub returns-clause-set : goal.returns-clause-set
+returns-clause-set c =
+    let numbers = c.args.numbers.now in
+    let short : All (λ n. n < 2 ^ 64) numbers = λ k d lt.
+    let fits = c.type_inv.numbers k in let same = get_or_default numbers k 0 d lt in omega arith in
+    subst (λ (bs : List Ballot). IsBallotSet example bs) (sym (returns-clause-blank c))
+    (blank_set numbers c.requires.some short c.requires.distinct c.requires.few)

@@ -1,0 +1,23 @@
+use Rattle.std.proofs.Common.{◌≡◌, ◌<◌, ℕ, List, [], ◌∷◌, map, sym, ap, ◌∙◌, subst, rules}
+use Rattle.body_store.proofs.BallotSets.{same_in_order}
+use Rattle.body_store.proofs.Blank.{blank, blanks_rise}
+use Rattle.body_store.proofs.tests.one_less.Goals as goal
+use Rattle.body_store.specs.Contents.{IsStored, ballots_of, ballots_without}
+use Rattle.std.specs.List.Sorted.{IsPermutation}
+use Rattle.store_spec.specs.Ballot.{Ballot}
+use Rattle.store_spec.specs.Image.{cells_of}
+
+-- the store holds the three ballots in their order, so the rest are the two
+pub without-requires-clause-layout : goal.without-requires-clause-layout
+without-requires-clause-layout g c =
+    let e = c.example-election.result in
+    let three = map blank (1 ∷ 9 ∷ 14 ∷ []) in
+    let were : ballots_of c.expect-three.result.items ≡ three = search rules in
+    let moved : IsPermutation (ballots_of c.expect-three.result.items) c.expect-store.result.ballots = search rules in
+    let stored : IsStored c.expect-store.result = search rules in
+    let held : three ≡ c.expect-store.result.ballots =
+    same_in_order three c.expect-store.result.ballots (blanks_rise (1 ∷ 9 ∷ 14 ∷ []) (search rules)) stored.ascending
+    (subst (λ (bs : List Ballot). IsPermutation bs c.expect-store.result.ballots) were moved) in
+    let laid : c.expect-cells.result.items ≡ cells_of e (ballots_of c.expect-two.result.items) = search rules in
+    let two : ballots_of c.expect-two.result.items ≡ map blank (1 ∷ 14 ∷ []) = search rules in
+    laid ∙ ap (cells_of e) two ∙ ap (λ bs. cells_of e (ballots_without bs (9 ∷ []))) held

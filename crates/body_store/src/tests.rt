@@ -1,0 +1,85 @@
+//! The example election's store, as ballots come and go.
+
+ghost use Rattle.body_store.specs.Contents.{ballots_of};
+ghost use Rattle.std.specs.Prelude.{◌≡◌, ◌≢◌, ◌≤◌, All, AllPairs, IfOk, length, map, replicate};
+ghost use Rattle.store_spec.specs.Ballot.{IsBallotSet};
+ghost use Rattle.store_spec.specs.Election.{example};
+
+use crate::{Closed, records};
+use ballot_record::{Election, Record};
+use outside_io::Memory;
+use std::alloc::Global;
+use std::process::Abort;
+
+fn blank(number: u64) -> Record
+    ensures { result ≡ record { number = number; style = 1; marks = replicate 16 0 } }
+{
+    Record {
+        number,
+        style: 1,
+        marks: [0; 16],
+    }
+}
+
+fn blanks(alloc: Global, numbers: &[u64]) -> Result<Vec<Record>, Memory>
+    requires some { All (λ number. number ≢ 0) numbers.now }
+    requires distinct { AllPairs (λ a b. a ≢ b) numbers.now }
+    requires few { length numbers.now ≤ 8 }
+    ensures set { IfOk result (λ v. IsBallotSet example (ballots_of v.items)) }
+    ensures blank { IfOk result
+        (λ v. ballots_of v.items
+        ≡ map (λ number. record { number = number; style = 1; marks = replicate 16 0 }) numbers.now) }
+{
+    let mut ballots = Vec::new(alloc);
+    for number in numbers {
+        ballots.push(blank(*number))?;
+    }
+    Ok(ballots)
+}
+
+fn holds(rt: &impl Abort, cells: &[u64], wanted: &[(usize, u64)]) {
+    for (place, cell) in cells.iter().enumerate() {
+        let number = wanted.iter().find(|at| at.0 == place).map_or(0, |at| at.1);
+        assert_eq!(rt; *cell, number, "cell {place}");
+    }
+}
+
+#[test]
+fn three_ballots(rt: HostRuntime) {
+    let election = Election::example();
+    let empty = Closed::empty(rt.alloc(), &election).expect(&rt, "memory");
+    assert_eq!(rt; empty.len(), 0);
+    let three = blanks(rt.alloc(), &[14, 1, 9]).expect(&rt, "memory");
+    let store = Closed::from_records(rt.alloc(), &election, three).expect(&rt, "memory");
+    holds(&rt, store.cells(), &[(4, 9), (5, 14), (6, 1)]);
+    assert_eq!(rt; store.record_of(9), Some(blank(9)));
+    assert_eq!(rt; store.record_of(10), None);
+}
+
+#[test]
+fn one_more(rt: HostRuntime) {
+    let election = Election::example();
+    let three = blanks(rt.alloc(), &[1, 9, 14]).expect(&rt, "memory");
+    let four = blanks(rt.alloc(), &[1, 9, 14, 22]).expect(&rt, "memory");
+    let cells = records::layout(rt.alloc(), &election, &four).expect(&rt, "memory");
+    let store = Closed::from_records(rt.alloc(), &election, three).expect(&rt, "memory");
+    let merged = store
+        .merged(rt.alloc(), &election, &[blank(22)], cells)
+        .expect(&rt, "memory");
+    assert_eq!(rt; merged.len(), 4);
+    holds(&rt, merged.cells(), &[(4, 22), (5, 14), (6, 9), (7, 1)]);
+}
+
+#[test]
+fn one_less(rt: HostRuntime) {
+    let election = Election::example();
+    let three = blanks(rt.alloc(), &[1, 9, 14]).expect(&rt, "memory");
+    let two = blanks(rt.alloc(), &[1, 14]).expect(&rt, "memory");
+    let cells = records::layout(rt.alloc(), &election, &two).expect(&rt, "memory");
+    let store = Closed::from_records(rt.alloc(), &election, three).expect(&rt, "memory");
+    let rest = store
+        .without(rt.alloc(), &election, &[9], cells)
+        .expect(&rt, "memory");
+    assert_eq!(rt; rest.len(), 2);
+    holds(&rt, rest.cells(), &[(4, 1), (5, 14)]);
+}
