@@ -30,16 +30,16 @@ pub found : (records : List Record) (number : ℕ) (r : Record) → found_in rec
 found [] number r is = absurd cc
 found (x ∷ xs) number r is =
     let test : (b : Bool) → (b ≡ true → x.number ≡ number) → cond b (Some x) (found_in xs number) ≡ Some r → IsFound (x ∷ xs) number r = elim [
-      true ↦ λ same here. let first : x ≡ r = cc in record { place = 0; within = omega arith; is = λ d. first; numbered = sym (ap (λ (r : Record). r.number) first) ∙ same refl }
-    | false ↦ λ same here. let rest = found xs number r here in record { place = suc rest.place; within = omega (arith, rest.within); is = λ d. rest.is d; numbered = rest.numbered }
+      | true ↦ λ same here. let first : x ≡ r = cc in record { place = 0; within = omega arith; is = λ d. first; numbered = sym (ap (λ (r : Record). r.number) first) ∙ same refl }
+      | false ↦ λ same here. let rest = found xs number r here in record { place = suc rest.place; within = omega (arith, rest.within); is = λ d. rest.is d; numbered = rest.numbered }
     ] in
     test (eqb x.number number) (λ h. grind (arith, nat_tests)) is
 
 missing_front : (x : Record) (xs : List Record) (number : ℕ) → found_in (x ∷ xs) number ≡ None → (x.number ≢ number) × (found_in xs number ≡ None)
 missing_front x xs number is =
     let test : (b : Bool) → (b ≡ false → x.number ≢ number) → cond b (Some x) (found_in xs number) ≡ None → (x.number ≢ number) × (found_in xs number ≡ None) = elim [
-      true ↦ λ other none. absurd cc
-    | false ↦ λ other none. (other refl, none)
+      | true ↦ λ other none. absurd cc
+      | false ↦ λ other none. (other refl, none)
     ] in
     test (eqb x.number number) (λ h. grind (arith, nat_tests)) is
 
@@ -64,9 +64,9 @@ same_number a b same = ap is_eq (sym (nat_cmp_is a b Equal same))
 
 other_number : (a b : ℕ) → a ≢ b → is_eq (nat_cmp a b) ≡ false
 other_number a b other = elim (cases_lt a b) [
-    inl less ↦ ap is_eq (sym (nat_cmp_is a b Less less))
+  | inl less ↦ ap is_eq (sym (nat_cmp_is a b Less less))
   | inr more ↦ ap is_eq (sym (nat_cmp_is a b Greater (omega arith)))
-  ]
+]
 
 or_none : (found : Option Record) → option_or found None ≡ found
 or_none None = refl
@@ -78,15 +78,15 @@ index_grown old new records cast indexed none updated number =
     let last = λ (test : Bool). option_or (found_in records number) (cond test (Some cast) None) in
     let all : found_in (records ++ cast ∷ []) number ≡ last (eqb cast.number number) = find-append (λ (r : Record). r.number == number) records (cast ∷ []) in
     elim (cases_eq cast.number number) [
-      inl same ↦
-        let test : eqb cast.number number ≡ true = grind (arith, nat_tests) in
-        let nothing : found_in records number ≡ None = sym (indexed number) ∙ ap old (sym same) ∙ none in
-        updated number ∙ ap (λ t. cond t (Some cast) (old number)) (same_number cast.number number same)
-        ∙ sym (all ∙ ap last test ∙ ap (λ (r : Option Record). option_or r (Some cast)) nothing)
-    | inr other ↦
-        let test : eqb cast.number number ≡ false = grind (arith, nat_tests) in
-        updated number ∙ ap (λ t. cond t (Some cast) (old number)) (other_number cast.number number other) ∙ indexed number
-        ∙ sym (all ∙ ap last test ∙ or_none (found_in records number))
+      | inl same ↦
+          let test : eqb cast.number number ≡ true = grind (arith, nat_tests) in
+          let nothing : found_in records number ≡ None = sym (indexed number) ∙ ap old (sym same) ∙ none in
+          updated number ∙ ap (λ t. cond t (Some cast) (old number)) (same_number cast.number number same)
+          ∙ sym (all ∙ ap last test ∙ ap (λ (r : Option Record). option_or r (Some cast)) nothing)
+      | inr other ↦
+          let test : eqb cast.number number ≡ false = grind (arith, nat_tests) in
+          updated number ∙ ap (λ t. cond t (Some cast) (old number)) (other_number cast.number number other) ∙ indexed number
+          ∙ sym (all ∙ ap last test ∙ or_none (found_in records number))
     ]
 
 -- a set with one ballot more

@@ -54,16 +54,16 @@ has_read_start e text kept ballots room no_text no_ballot all =
 -- a line that is taken whole is that line
 whole_line : (bytes line : List ℕ) → taken_line bytes ≡ Some line → bytes ≡ line
 whole_line bytes line is = elim (cases_lt LINE_LIMIT (length bytes)) [
-    inl wide ↦ absurd (let none : None ≡ Some line = sym (ap (λ t. cond t (Some bytes) None) (lt-leb (length bytes) LINE_LIMIT wide)) ∙ is in cc)
+  | inl wide ↦ absurd (let none : None ≡ Some line = sym (ap (λ t. cond t (Some bytes) None) (lt-leb (length bytes) LINE_LIMIT wide)) ∙ is in cc)
   | inr few ↦ let same : Some bytes ≡ Some line = sym (ap (λ t. cond t (Some bytes) None) (le-leb (length bytes) LINE_LIMIT few)) ∙ is in cc
-  ]
+]
 
 -- a line that is not taken is too wide
 wide_line : (bytes : List ℕ) → taken_line bytes ≡ None → LINE_LIMIT < length bytes
 wide_line bytes is = elim (cases_lt LINE_LIMIT (length bytes)) [
-    inl wide ↦ wide
+  | inl wide ↦ wide
   | inr few ↦ absurd (let some : Some bytes ≡ None = sym (ap (λ t. cond t (Some bytes) None) (le-leb (length bytes) LINE_LIMIT few)) ∙ is in cc)
-  ]
+]
 
 -- the first of what is left, and what is left behind it
 pub record IsNext (lines : List (List ℕ)) (count : ℕ) (line : Option (List ℕ)) (rest : List (Option (List ℕ))) : Type 0 where
@@ -149,7 +149,7 @@ read_all e text now count room ballots all read set hands is =
     let lines = lines_within SCRIPT_LIMIT text in
     let within : length text ≤ SCRIPT_LIMIT = omega (arith, read.bytes, ap length hands.empty) in
     let done : take count lines ≡ lines_of text =
-      none_left lines count (sym read.lines ∙ hands.lines) ∙ ap (λ t. cond t (lines_of text) (ended_lines (take SCRIPT_LIMIT text))) (le-leb (length text) SCRIPT_LIMIT within) in
+    none_left lines count (sym read.lines ∙ hands.lines) ∙ ap (λ t. cond t (lines_of text) (ended_lines (take SCRIPT_LIMIT text))) (le-leb (length text) SCRIPT_LIMIT within) in
     let P : List (List ℕ) → Type 0 = λ lines. AllZip (Spells e) lines ballots in
     let Q : List Ballot → Type 0 = λ all. IsSetOf e (lines_of text) all in
     (subst Q (sym is) (record { each = subst P done read.spelled; set = set }), within)

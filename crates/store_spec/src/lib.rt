@@ -1,8 +1,8 @@
 //! The definitions that the whole store is proved against, and laws about them.
 #![tactic(auto)]
 
-pub mod line_laws;
 pub mod layout;
+pub mod line_laws;
 
 ghost use Rattle.store_spec.specs.Figures.{ExampleHomes, ExampleSizes, ExampleLayout, ExampleLines};
 

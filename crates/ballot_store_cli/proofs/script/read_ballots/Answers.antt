@@ -13,7 +13,7 @@ lines-init g c =
     let ballots = ballots_so_far c.new-ballots.result in
     record {
       read = told_first (g.S.Source.left c.args.script.now) (λ text left. HasRead e text 0 ballots (lines.text ++ left) lines.room)
-        (λ text. has_read_start e text lines.text ballots lines.room c.in_ok-lines.ensures.text c.new-ballots.ensures.none c.in_ok-lines.ensures.room);
+          (λ text. has_read_start e text lines.text ballots lines.room c.in_ok-lines.ensures.text c.new-ballots.ensures.none c.in_ok-lines.ensures.room);
       sound = c.new-ballots.ensures.sound e;
       counted = omega (arith, c.in_ok-lines.ensures.room);
       faults = omega arith;

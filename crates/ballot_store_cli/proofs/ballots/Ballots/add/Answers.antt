@@ -48,8 +48,10 @@ returns c =
     let room : length (map ballot records) < c.args.election.now.limit = omega (arith, length-map records ballot, c.if-len-limit.false, c.limit.ensures.limit) in
     let set = set_grown c.args.election.now (map ballot records) (ballot cast) c.requires.sound.set c.requires.valid (ballot_missing records cast.number none) room in
     let P : List Ballot → Type 0 = λ ballots. IsBallotSet c.args.election.now ballots in
-    let grown = index_grown (get nat_cmp old.index) (get nat_cmp c.insert.new.self) records cast c.requires.sound.indexed (sym c.in_default.ensures.value) u in
-    (so_far, record {
-      set = subst P (sym so_far) set;
-      indexed = λ number. grown number ∙ ap (λ records. found_in records number) (sym c.in_ok-push.ensures.items);
-    })
+    let grown = index_grown (get nat_cmp old.index) (get nat_cmp c.insert.new.self) records cast c.requires.sound.indexed (sym c.in_default.ensures.value) u in (
+      so_far,
+      record {
+        set = subst P (sym so_far) set;
+        indexed = λ number. grown number ∙ ap (λ records. found_in records number) (sym c.in_ok-push.ensures.items);
+      },
+    )
