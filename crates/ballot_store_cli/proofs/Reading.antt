@@ -141,7 +141,7 @@ refused_whole e text now rest line count room room_left ballots why read set han
 
 pub refused_wide : (e : Election) (text now rest : List ℕ) (count room room_left : ℕ) (ballots : List Ballot) → HasRead e text count ballots now room → IsBallotSet e ballots → HandsOut None now room rest room_left → IsFirstBad e (lines_within SCRIPT_LIMIT text) (count + 1) Malformed
 refused_wide e text now rest count room room_left ballots read set hands =
-    refused e text now rest None count room room_left ballots Malformed read set hands (λ bytes taken line reads. omega (arith, wide_line bytes taken, short_lines bytes line reads))
+    refused e text now rest None count room room_left ballots Malformed read set hands (λ bytes taken line. omega (arith, wide_line bytes taken, short_lines bytes line.0 line.1))
 
 -- all lines were read
 pub read_all : (e : Election) (text now : List ℕ) (count room : ℕ) (ballots all : List Ballot) → HasRead e text count ballots now room → IsBallotSet e ballots → HandsNothing now room → all ≡ ballots → IsSetOf e (lines_of text) all × (length text ≤ SCRIPT_LIMIT)

@@ -2,8 +2,52 @@
 #![tactic(auto)]
 
 mod ballots;
+mod build;
+mod run;
 mod script;
 mod status;
 mod words;
 
-fn main() {}
+use outside_io::{StdinSource, StdoutSink};
+pub use run::run;
+pub use status::{Status, Which};
+use std::process::ExitCode;
+use std::rt::Env;
+use std::thread::Threads;
+use std::{env, io};
+
+// The words behind the program's name. Words that are no text are no command form.
+fn words_of(rt: &(impl Env + AllocGlobal)) -> Result<Vec<String>, Status> {
+    match env::args(rt) {
+        Ok(words) => words
+            .skip(1)
+            .collect(rt.alloc())
+            .map_err(|_| Status::Memory),
+        Err(error) if error.kind() == io::ErrorKind::OutOfMemory => Err(Status::Memory),
+        Err(_) => Err(Status::Usage),
+    }
+}
+
+fn status_of<R>(rt: &R) -> Status
+where
+    R: Threads + Sync + Env + Input + Print + AllocGlobal,
+{
+    match words_of(rt) {
+        Ok(words) => run(
+            rt,
+            rt.alloc(),
+            &words,
+            &mut StdinSource::new(rt),
+            &mut StdoutSink::new(rt),
+        ),
+        Err(status) => status,
+    }
+}
+
+fn main(rt: HostRuntime) -> ExitCode {
+    let status = status_of(&rt);
+    if status != Status::Ok {
+        let _ = eprintln!(rt; "ballot_store: {status}");
+    }
+    ExitCode::from(status.number())
+}

@@ -1,4 +1,6 @@
-ghost use Rattle.std.specs.Prelude.{◌≡◌, ◌≤◌, Err};
+ghost use Rattle.std.specs.Prelude.{◌≡◌, ◌≤◌, Err, IfOk};
+ghost use Rattle.body_store.specs.Contents.{ballots_of};
+ghost use Rattle.store_spec.specs.Ballot.{IsBallotSet};
 ghost use Rattle.outside_io.specs.Lines.{IfTold};
 ghost use Rattle.store_spec.specs.Fault.{Rose};
 ghost use Rattle.ballot_store_cli.specs.Script.{Reads};
@@ -39,6 +41,7 @@ pub fn read_ballots<S: Source>(
     script: &mut S,
 ) -> Result<Vec<Record>, ScriptFault>
     ensures reads { IfTold (S.left script.old) (S.left script.new) (Reads result election.now) }
+    ensures set { IfOk result (λ records. IsBallotSet election.now (ballots_of records.items)) }
     ensures failed { result ≡ Err ScriptFault.ReadFault → Rose (S.faults script.old) (S.faults script.new) }
     ensures faults { S.faults script.old ≤ S.faults script.new }
 {
