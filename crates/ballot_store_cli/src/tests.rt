@@ -1,0 +1,326 @@
+ghost use Rattle.std.specs.Prelude.{◌≡◌, ◌≤◌, ℕ, length, vec_len, None};
+
+use crate::{Status, Which, run};
+use ballot_record::LineWhy;
+use outside_io::{Failed, MemorySink, MemorySource, Sink, Source, SureSink, SureSource};
+use std::alloc::{AllocError, Global};
+use std::test::Fail;
+use std::thread::Threads;
+
+fn words(alloc: Global, texts: &[&str]) -> Result<Vec<String>, AllocError> {
+    let mut words = Vec::new(alloc);
+    for text in texts {
+        words.push(String::from_str(alloc, text)?)?;
+    }
+    Ok(words)
+}
+
+// A script source of so many bytes `a`, which gives its bytes in pieces of at most so many, and tells none.
+#[derive(Drop)]
+struct Letters {
+    left: usize,
+    most: usize,
+}
+
+impl Source for Letters {
+    ghost left = { λ _. None };
+
+    ghost faults = { λ _. 0 };
+
+    fn read(&mut self, buf: &mut [u8]) -> Result<usize, Failed> {
+        let count = buf.len().min(self.left).min(self.most);
+        buf[..count].fill(b'a');
+        self.left -= count;
+        Ok(count)
+    }
+}
+
+// A script source that gives its bytes in pieces of at most so many, and tells none.
+#[derive(Drop)]
+struct Pieces {
+    bytes: Vec<u8>,
+    at: usize,
+    most: usize,
+    ghost within: { at ≤ vec_len bytes },
+}
+
+impl Source for Pieces {
+    ghost left = { λ _. None };
+
+    ghost faults = { λ _. 0 };
+
+    fn read(&mut self, buf: &mut [u8]) -> Result<usize, Failed> {
+        let left = self.bytes.len() - self.at;
+        let count = buf.len().min(left).min(self.most);
+        buf[..count].copy_from_slice(&self.bytes[self.at..self.at + count]);
+        self.at += count;
+        Ok(count)
+    }
+}
+
+// How `build` ends for a script in memory, and what the sink took.
+fn build_of<R>(rt: &R, script: &[u8]) -> Result<(Status, Vec<u8>), Fail>
+where
+    R: Threads + Sync + AllocGlobal,
+{
+    let alloc = rt.alloc();
+    let words = words(alloc, &["medium", "election.json", "build"])?;
+    let mut source = MemorySource::new(script.to_vec(alloc)?, Vec::new(alloc));
+    let mut sink = MemorySink::new(alloc, 1000, Vec::new(alloc))?;
+    let status = run(rt, alloc, &words, &mut source, &mut sink);
+    Ok((status, sink.bytes().to_vec(alloc)?))
+}
+
+// The image of the ballots 9, 14 and 1, in hexadecimal digits but for the zeros in front of its first ballot and
+// behind its last.
+const THREE_BALLOTS: &str = "000000000000000901000000010000000\
+    0000000000000000e0100000000000000020000000000000001010000000200000005";
+
+// Whether the bytes are the header of the example's images, and these digits from cell 4 on between zeros.
+fn is_image(alloc: Global, bytes: &[u8], cells: &str) -> Result<bool, Fail> {
+    let header = hex::decode(alloc, "48494253544f524500010302000000080000000000000000")?;
+    let cells = hex::decode(alloc, cells)?;
+    let mut image = vec![in alloc; 0; 304]?;
+    for (place, byte) in (0..304usize).zip(&header) {
+        image[place] = *byte;
+    }
+    for (place, byte) in (100..304usize).zip(&cells) {
+        image[place] = *byte;
+    }
+    Ok(image.as_slice() == bytes)
+}
+
+#[test]
+fn three_ballots_in_any_order(rt: HostRuntime) -> Result<(), Fail> {
+    let scripts: [&[u8]; 7] = [
+        b"9 1 1/-\n14 1 -/2\n1 1 2/1,3\n",
+        b"9 1 1/-\n1 1 2/1,3\n14 1 -/2\n",
+        b"14 1 -/2\n9 1 1/-\n1 1 2/1,3\n",
+        b"14 1 -/2\n1 1 2/1,3\n9 1 1/-\n",
+        b"1 1 2/1,3\n9 1 1/-\n14 1 -/2\n",
+        b"1 1 2/1,3\n14 1 -/2\n9 1 1/-\n",
+        b"9 1 1/-\n14 1 -/2\n1 1 2/1,3",
+    ];
+    for script in scripts {
+        let (status, bytes) = build_of(&rt, script)?;
+        assert_eq!(rt; status, Status::Ok);
+        assert!(rt; is_image(rt.alloc(), &bytes, THREE_BALLOTS)?);
+    }
+    let (status, bytes) = build_of(&rt, b"")?;
+    assert_eq!(rt; status, Status::Ok);
+    assert!(rt;
+        is_image(rt.alloc(), &bytes, "")?,
+        "an empty script gives an empty image"
+    );
+    Ok(())
+}
+
+#[test]
+fn bad_lines(rt: HostRuntime) -> Result<(), Fail> {
+    let rows: [(&[u8], u64, LineWhy); 34] = [
+        (b"9 1 1/-\n9 1 1/-", 2, LineWhy::Duplicate),
+        (b"9 1 1/-\n9 1 2/-", 2, LineWhy::Conflict),
+        (b"9 1 1/-\n14 1 -/2\n9 1 1/-\n", 3, LineWhy::Duplicate),
+        (b"7 2 1/-", 1, LineWhy::Invalid),
+        (b"7 1 5/-", 1, LineWhy::Invalid),
+        (b"7 1 1", 1, LineWhy::Invalid),
+        (b"7 1 1/-/-", 1, LineWhy::Invalid),
+        (b"7 1 3,1/-", 1, LineWhy::Malformed),
+        (b"07 1 1/-", 1, LineWhy::Malformed),
+        (b"0 1 1/-", 1, LineWhy::Malformed),
+        (b"18446744073709551616 1 1/-", 1, LineWhy::Malformed),
+        (
+            b"99999999999999999999999999999999 1 1/-",
+            1,
+            LineWhy::Malformed,
+        ),
+        (b"\n", 1, LineWhy::Malformed),
+        (b"9 1 1/-\n\n14 1 -/2", 2, LineWhy::Malformed),
+        (b"7  1 1/-", 1, LineWhy::Malformed),
+        (b"7\t1 1/-", 1, LineWhy::Malformed),
+        (b"7 1 1/-\r\n", 1, LineWhy::Malformed),
+        (b"7 1 1/- ", 1, LineWhy::Malformed),
+        (b" 7 1 1/-", 1, LineWhy::Malformed),
+        (b"+7 1 1/-", 1, LineWhy::Malformed),
+        (b"-7 1 1/-", 1, LineWhy::Malformed),
+        (b"7 256 1/-", 1, LineWhy::Malformed),
+        (b"7 1 33/-", 1, LineWhy::Malformed),
+        (b"7 1 1,1/-", 1, LineWhy::Malformed),
+        (b"7 1 -,1/-", 1, LineWhy::Malformed),
+        (b"7 1 1/-/", 1, LineWhy::Malformed),
+        (b"7 1", 1, LineWhy::Malformed),
+        (b"7 1 \xff/-", 1, LineWhy::Malformed),
+        (b"7 1 1/-\0", 1, LineWhy::Malformed),
+        (b"\xef\xbb\xbf7 1 1/-", 1, LineWhy::Malformed),
+        (b"9 1 1/-\nx\n9 1 1/-\n", 2, LineWhy::Malformed),
+        (b"9 1 1/-\n9 1 1/-\nx\n", 2, LineWhy::Duplicate),
+        (
+            b"1 1 -/-\n2 1 -/-\n3 1 -/-\n5 1 -/-\n6 1 -/-\n9 1 -/-\n14 1 -/-\n17 1 -/-\n22 1 -/-\n",
+            9,
+            LineWhy::Full,
+        ),
+        (
+            b"1 1 -/-\n2 1 -/-\n3 1 -/-\n5 1 -/-\n6 1 -/-\n9 1 -/-\n14 1 -/-\n17 1 -/-\n9 1 1/-\n",
+            9,
+            LineWhy::Conflict,
+        ),
+    ];
+    for (script, line, why) in rows {
+        let (status, bytes) = build_of(&rt, script)?;
+        assert_eq!(rt; status, Status::BadLine { line, why }, "{script:?}");
+        assert_eq!(rt; bytes.len(), 0);
+    }
+    Ok(())
+}
+
+#[test]
+fn wide_lines_and_long_scripts(rt: HostRuntime) -> Result<(), Fail> {
+    let alloc = rt.alloc();
+    let words = words(alloc, &["medium", "election.json", "build"])?;
+    let malformed = Status::BadLine {
+        line: 1,
+        why: LineWhy::Malformed,
+    };
+    let too_long = Status::TooLong {
+        which: Which::Script,
+    };
+    let rows = [
+        (8192usize, 1000usize, malformed),
+        (8193, 1, malformed),
+        (67_108_864, 65536, malformed),
+        (67_108_865, 65536, too_long),
+        (usize::MAX, 65536, too_long),
+    ];
+    for (left, most, want) in rows {
+        let mut sink = MemorySink::new(alloc, 1000, Vec::new(alloc))?;
+        let status = run(&rt, alloc, &words, &mut Letters { left, most }, &mut sink);
+        assert_eq!(rt; status, want, "{left} letters");
+        assert_eq!(rt; sink.bytes().len(), 0);
+    }
+    Ok(())
+}
+
+#[test]
+fn pieces_of_one_byte(rt: HostRuntime) -> Result<(), Fail> {
+    let alloc = rt.alloc();
+    let words = words(alloc, &["medium", "election.json", "build"])?;
+    for most in [1usize, 2, 5, 100] {
+        let mut source = Pieces {
+            bytes: b"9 1 1/-\n14 1 -/2\n1 1 2/1,3\n".to_vec(alloc)?,
+            at: 0,
+            most,
+        };
+        let mut sink = MemorySink::new(alloc, 304, Vec::new(alloc))?;
+        let status = run(&rt, alloc, &words, &mut source, &mut sink);
+        assert_eq!(rt; status, Status::Ok);
+        assert!(rt;
+            is_image(alloc, sink.bytes(), THREE_BALLOTS)?,
+            "in pieces of {most}"
+        );
+    }
+    Ok(())
+}
+
+#[test]
+fn faults_of_source_and_sink(rt: HostRuntime) -> Result<(), Fail> {
+    let alloc = rt.alloc();
+    let words = words(alloc, &["medium", "election.json", "build"])?;
+    let read_fault = Status::ReadFault {
+        which: Which::Script,
+    };
+    // the source's failing call, the sink's, its room, and how the run ends
+    let rows = [
+        (1u64, 0u64, 304usize, read_fault),
+        (2, 0, 304, read_fault),
+        (3, 0, 304, Status::Ok),
+        (0, 1, 304, Status::WriteFault),
+        (0, 2, 304, Status::Ok),
+        (0, 0, 303, Status::WriteFault),
+    ];
+    for (read, write, room, want) in rows {
+        let mut source = MemorySource::new(b"9 1 1/-\n".to_vec(alloc)?, vec![in alloc; read]?);
+        let mut sink = MemorySink::new(alloc, room, vec![in alloc; write]?)?;
+        let status = run(&rt, alloc, &words, &mut source, &mut sink);
+        assert_eq!(rt; status, want, "{read} {write} {room}");
+        let taken = if want == Status::Ok { 304 } else { 0 };
+        assert_eq!(rt; sink.bytes().len(), taken);
+    }
+    let mut source = SureSource::new(b"9 1 1/-\n".to_vec(alloc)?);
+    let status = run(&rt, alloc, &words, &mut source, &mut SureSink::new());
+    assert_eq!(rt; status, Status::Ok);
+    Ok(())
+}
+
+#[test]
+fn command_forms(rt: HostRuntime) -> Result<(), Fail> {
+    let alloc = rt.alloc();
+    let rows: [(&[&str], Status); 10] = [
+        (&["m", "e", "build"], Status::Ok),
+        (&[], Status::Usage),
+        (&["m", "e"], Status::Usage),
+        (&["m", "e", "sort"], Status::Usage),
+        (&["m", "e", "build", "x"], Status::Usage),
+        (&["m", "e", ""], Status::Usage),
+        (&["", "e", "build"], Status::Usage),
+        (&["m", "", "build"], Status::Usage),
+        (&["-m", "e", "build"], Status::Usage),
+        (&["m", "--help", "build"], Status::Usage),
+    ];
+    for (texts, want) in rows {
+        let words = words(alloc, texts)?;
+        let mut source = SureSource::new(Vec::new(alloc));
+        let status = run(&rt, alloc, &words, &mut source, &mut SureSink::new());
+        assert_eq!(rt; status, want, "{texts:?}");
+    }
+    Ok(())
+}
+
+#[test]
+fn status_texts(rt: HostRuntime) -> Result<(), Fail> {
+    let rows = [
+        (Status::Usage, 2u8, "usage"),
+        (
+            Status::TooLong {
+                which: Which::Election,
+            },
+            4,
+            "election too long",
+        ),
+        (
+            Status::TooLong {
+                which: Which::Script,
+            },
+            4,
+            "script too long",
+        ),
+        (
+            Status::ReadFault {
+                which: Which::Election,
+            },
+            6,
+            "election read fault",
+        ),
+        (
+            Status::ReadFault {
+                which: Which::Script,
+            },
+            6,
+            "script read fault",
+        ),
+        (Status::WriteFault, 7, "write fault"),
+        (Status::Memory, 8, "out of memory"),
+        (
+            Status::BadLine {
+                line: 12,
+                why: LineWhy::Full,
+            },
+            15,
+            "bad line 12",
+        ),
+    ];
+    for (status, number, text) in rows {
+        assert_eq!(rt; status.number(), number);
+        assert_eq!(rt; status.to_string(rt.alloc())?.as_str(), text);
+    }
+    Ok(())
+}
