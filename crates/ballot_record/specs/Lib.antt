@@ -1,3 +1,4 @@
+pub mod Cell
 pub mod CellReading
 pub mod Contest
 pub mod Kept

@@ -1,8 +1,8 @@
-ghost use Rattle.std.specs.Prelude.{◌≡◌, ◌≢◌, ◌+◌, ◌-◌, ◌*◌, ◌≤◌, ◌++◌, ◌↔◌, length, take, drop, replicate, All, IsTrue};
+ghost use Rattle.std.specs.Prelude.{◌≡◌, ◌+◌, ◌-◌, ◌*◌, ◌≤◌, ◌++◌, ◌↔◌, length, take, drop, replicate, All, IsTrue};
 ghost use Rattle.std.specs.Int.{from_be_bytes, w32};
-ghost use Rattle.store_spec.specs.Ballot.{Ballot, IsValid};
+ghost use Rattle.store_spec.specs.Ballot.{Ballot};
 ghost use Rattle.store_spec.specs.Election.{cell_size};
-ghost use Rattle.store_spec.specs.Image.{ballot_bytes};
+ghost use Rattle.ballot_record.specs.Cell.{IsEmptyCell, IsCellOf};
 ghost use Rattle.ballot_record.specs.CellReading.{sets_at, ballot_at};
 ghost use Rattle.ballot_record.specs.Record.{ballot};
 ghost use Rattle.ballot_record.specs.declared.record.Record as declared;
@@ -16,10 +16,11 @@ pub enum CellRead {
     Empty,
     /// The bytes of a valid record.
     Held(Record),
-    /// Other bytes, which no store writes.
+    /// Other bytes.
     Bad,
 }
 
+/// The first mark set, and the bytes after it.
 fn take_set(bytes: &[u8]) -> (u32, &[u8])
     requires { 4 ≤ length bytes.now }
     ensures set { result.0 ≡ from_be_bytes w32 (take 4 bytes.now) }
@@ -30,6 +31,7 @@ fn take_set(bytes: &[u8]) -> (u32, &[u8])
     (set, rest)
 }
 
+/// So many mark sets, with zeros behind them.
 fn take_sets(bytes: &[u8], contests: usize) -> [u32; MAX_CONTESTS]
     requires few { contests ≤ 16 }
     requires long { length bytes.now ≡ 4 * contests }
@@ -68,14 +70,12 @@ fn are_zero(bytes: &[u8]) -> bool
     bytes.iter().all(|byte| *byte == 0)
 }
 
-/// What stands in a cell of the election's store.
+/// What stands in a cell under an election: `Bad` is what no store writes.
 pub fn take_cell(bytes: &[u8], election: &Election) -> CellRead
     requires { length bytes.now ≡ cell_size election.now }
-    ensures empty { (result ≡ CellRead.Empty) ↔ (bytes.now ≡ replicate (cell_size election.now) 0) }
-    ensures held { (r : declared.Record) → (result ≡ CellRead.Held r) ↔ (IsValid election.now (ballot r) × (bytes.now ≡ ballot_bytes election.now (ballot r))) }
-
-    // No cell of a store holds these bytes.
-    ensures bad { (result ≡ CellRead.Bad) ↔ ((bytes.now ≢ replicate (cell_size election.now) 0) × ((b : Ballot) → IsValid election.now b → bytes.now ≢ ballot_bytes election.now b)) }
+    ensures empty { (result ≡ CellRead.Empty) ↔ IsEmptyCell election.now bytes.now }
+    ensures held { (r : declared.Record) → (result ≡ CellRead.Held r) ↔ IsCellOf election.now bytes.now (ballot r) }
+    ensures bad { (result ≡ CellRead.Bad) ↔ (¬ IsEmptyCell election.now bytes.now × ((b : Ballot) → ¬ IsCellOf election.now bytes.now b)) }
 {
     let record = record_at(bytes, election.contests());
     if record.valid(election) {

@@ -32,7 +32,7 @@ pub fn mark_sets()
     ensures { AreMarkSets }
 {}
 
-/// What some lines spell under the example election.
+/// Some lines with their parts, and some that are no line.
 pub fn example_record_lines()
     ensures { ExampleRecordLines }
 {}

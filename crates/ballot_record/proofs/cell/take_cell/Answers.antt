@@ -26,7 +26,7 @@ returns-then-valid-clause-bad c =
     let bytes = c.args.bytes.now in
     let r = c.record_at-record.result in
     let cell = cell_read e bytes r c.contests.result c.contests.ensures.valid (λ i. omega (arith, c.type_inv.bytes i)) c.requires c.contests.ensures.count c.record_at-record.ensures in
-    (λ wrong. absurd cc, λ none. absurd (none.1 (ballot r) (c.if-valid.ensures.0 refl) (spelled e bytes r cell)))
+    (λ wrong. absurd cc, λ none. absurd (none.1 (ballot r) (c.if-valid.ensures.0 refl, spelled e bytes r cell)))
 
 pub returns-then-are_zero-clause-empty : goal.returns-then-are_zero-clause-empty
 returns-then-are_zero-clause-empty c =
@@ -54,7 +54,7 @@ returns-else-are_zero-clause-bad c =
     let cell = cell_read e bytes r c.contests.result c.contests.ensures.valid (λ i. omega (arith, c.type_inv.bytes i)) c.requires c.contests.ensures.count c.record_at-record.ensures in (
       λ _. (
         λ zeros. false≢true (c.if-are_zero.ensures.1 (each_zero bytes (cell_size e) zeros)),
-        λ b valid is. false≢true (c.if-valid.ensures.1 (valid_too e bytes r cell b valid is)),
+        λ b is. false≢true (c.if-valid.ensures.1 (valid_too e bytes r cell b is.0 is.1)),
       ),
       λ _. refl,
     )
