@@ -2,5 +2,8 @@
 #![tactic(auto)]
 
 mod disk;
+mod entry;
+mod medium;
 
 pub use disk::Disk;
+pub use entry::{DiskCall, Room};
