@@ -1,10 +1,13 @@
 -- How the record of a disk in memory grows.
 use Rattle.std.proofs.Common.{◌≡◌, ℕ, ◌+◌, ◌-◌, ◌*◌, ◌≤◌, ◌<◌, min, Bool, true, false, IsTrue, cond, List, [], ◌∷◌, ◌++◌, length, take, drop, refl, sym, ◌∙◌, ap, subst, arith, length-append, nat_lt, ◌^◌}
 use Rattle.std.specs.Prelude.{map, slice_range, All}
-use Rattle.std.proofs.lemmas.List.{map-append, length-map}
+use Rattle.std.proofs.lemmas.List.{map-append, length-map, take-append-le, take_all, drop_at}
+use Rattle.std.proofs.lemmas.Slice.{between_is}
+use Rattle.std.proofs.lemmas.Bool.{and_from, lt-ltb, le-leb}
+use Rattle.std.specs.Prelude.{suc, nat_le}
 use Rattle.std.proofs.lemmas.List.Elements.{All-append, All-cons, All-nil}
 use Rattle.std.proofs.lemmas.Bool.Decides.{nat_tests}
-use Rattle.store_spec.specs.Disk.{next_count}
+use Rattle.store_spec.specs.Disk.{next_count, overwritten}
 use Rattle.crash_disk.specs.Entries.{Line, event_of, event_of_call, events_of, line_of, lines_in, AreStored, ChangesNothing, with_one_more}
 use Rattle.crash_disk.specs.History.{Event, State, settled_state, state_after, state_at, seen_after, begin_within}
 use Rattle.crash_disk.specs.History.Event.{Wrote, Synced, Unchanged}
@@ -84,8 +87,8 @@ begins-more room first written entries entry h ok =
 pub stored-more : (room : ℕ) (written : List ℕ) (entries : List Entry) (entry : Entry) → entry.start + entry.count ≤ length written → AreStored written entries → AreStored written (with_one_more room entries entry)
 stored-more room written entries entry within stored =
     either (AreStored written) (nat_lt (length entries) room) (entries ++ entry ∷ []) entries
-      (All-append (λ (e : Entry). e.start + e.count ≤ length written) entries (entry ∷ []) stored (All-cons (λ (e : Entry). e.start + e.count ≤ length written) entry [] within (All-nil (λ (e : Entry). e.start + e.count ≤ length written))))
-      stored
+    (All-append (λ (e : Entry). e.start + e.count ≤ length written) entries (entry ∷ []) stored (All-cons (λ (e : Entry). e.start + e.count ≤ length written) entry [] within (All-nil (λ (e : Entry). e.start + e.count ≤ length written))))
+    stored
 
 -- the ghost facts of a medium, once its record has one line more that puts nothing
 module _ (room : ℕ) (first written bytes : List ℕ) (entries more : List Entry) (call : DiskCall) (passed : Bool) (start : ℕ) (added : more ≡ with_one_more room entries (record { call = call; passed = passed; start = start; count = 0 })) (nothing : IsTrue passed → ChangesNothing call) where
@@ -113,3 +116,70 @@ module _ (room : ℕ) (first written bytes : List ℕ) (entries more : List Entr
   noted-lines le =
       let none : start + 0 - start ≡ 0 = omega arith in
       ap (lines_in written) added ∙ map-one_more (line_of written) room entries entry ∙ ap (λ put. with_one_more room (lines_in written entries) (record { call = call; passed = passed; put = put })) (ap (λ n. take n (drop start written)) none)
+
+-- the lines stay where more bytes are put behind
+line-stable : (written put : List ℕ) (entry : Entry) → entry.start + entry.count ≤ length written → line_of (written ++ put) entry ≡ line_of written entry
+line-stable written put entry within =
+    let end = entry.start + entry.count in
+    ap (λ (bytes : List ℕ). record { call = entry.call; passed = entry.passed; put = bytes })
+    (between_is (written ++ put) entry.start end ∙ ap (λ (bytes : List ℕ). drop entry.start bytes) (take-append-le end written put within) ∙ sym (between_is written entry.start end))
+
+pub lines-stable : (written put : List ℕ) (entries : List Entry) → AreStored written entries → lines_in (written ++ put) entries ≡ lines_in written entries
+lines-stable written put [] stored = refl
+lines-stable written put (entry ∷ entries) stored =
+    ap (λ line. line ∷ lines_in (written ++ put) entries) (line-stable written put entry (stored 0 entry (omega arith)))
+    ∙ ap (λ (lines : List Line). line_of written entry ∷ lines) (lines-stable written put entries (λ k d lt. stored (suc k) d (omega arith)))
+
+-- a record with room gets the line
+full-not : {X : Type 0} (room : ℕ) (xs : List X) (x : X) → length xs < room → with_one_more room xs x ≡ xs ++ x ∷ []
+full-not room xs x lt = ap (λ b. cond b (xs ++ x ∷ []) xs) (lt-ltb (length xs) room lt)
+
+-- the ghost facts of a medium, once a write has put bytes
+module _ (room at : ℕ) (first written all put bytes : List ℕ) (entries more : List Entry) (stores : all ≡ written ++ put) (fits : length entries < room) (added : more ≡ with_one_more room entries (record { call = Write at (length put); passed = true; start = length written; count = length put })) (stored : AreStored written entries) where
+  line : Line
+  line = record { call = Write at (length put); passed = true; put = put }
+
+  new_line : line_of (written ++ put) (record { call = Write at (length put); passed = true; start = length written; count = length put }) ≡ line
+  unfolding line
+  new_line =
+      let count : length written + length put - length written ≡ length put = omega arith in
+      ap (λ (bytes : List ℕ). record { call = Write at (length put); passed = true; put = bytes })
+      (ap (λ n. take n (drop (length written) (written ++ put))) count ∙ ap (λ (bytes : List ℕ). take (length put) bytes) (drop_at written put (length written) refl) ∙ take_all (length put) put (omega arith))
+
+  -- the record has the line of the write
+  wrote : lines_in (written ++ put) more ≡ lines_in written entries ++ line ∷ []
+  unfolding line
+  wrote =
+      ap (lines_in (written ++ put)) (added ∙ full-not room entries (record { call = Write at (length put); passed = true; start = length written; count = length put }) fits)
+      ∙ map-append (line_of (written ++ put)) entries (record { call = Write at (length put); passed = true; start = length written; count = length put } ∷ [])
+      ∙ ap (λ (lines : List Line). lines ++ line_of (written ++ put) (record { call = Write at (length put); passed = true; start = length written; count = length put }) ∷ []) (lines-stable written put entries stored)
+      ∙ ap (λ (l : Line). lines_in written entries ++ l ∷ []) new_line
+
+  pub wrote-lines : lines_in all more ≡ with_one_more room (lines_in written entries) (record { call = Write at (length put); passed = true; put = put })
+  unfolding line
+  wrote-lines =
+      ap (λ (bytes : List ℕ). lines_in bytes more) stores ∙ wrote
+      ∙ sym (full-not room (lines_in written entries) line (omega (arith, length-map entries (line_of written))))
+
+  events : events_of (lines_in all more) ≡ events_of (lines_in written entries) ++ Wrote at put ∷ []
+  unfolding line
+  events =
+      ap (λ (bytes : List ℕ). events_of (lines_in bytes more)) stores ∙ ap events_of wrote
+      ∙ map-append event_of (lines_in written entries) (line ∷ [])
+
+  pub wrote-replayed : bytes ≡ seen_after first (events_of (lines_in written entries)) → overwritten at put bytes ≡ seen_after first (events_of (lines_in all more))
+  wrote-replayed h =
+      ap (overwritten at put) h ∙ sym (seen_after-append first (events_of (lines_in written entries)) (Wrote at put)) ∙ ap (seen_after first) (sym events)
+
+  pub wrote-begins : bytes ≡ seen_after first (events_of (lines_in written entries)) → at ≤ length bytes → begin_within (settled_state first) (events_of (lines_in written entries)) ≡ true → begin_within (settled_state first) (events_of (lines_in all more)) ≡ true
+  wrote-begins h le ok =
+      ap (begin_within (settled_state first)) events
+      ∙ begin_within-append (settled_state first) (events_of (lines_in written entries)) (Wrote at put) ok
+      (and_from (nat_le at (length (seen_after first (events_of (lines_in written entries))))) true (le-leb at _ (subst (λ (xs : List ℕ). at ≤ length xs) h le)) refl)
+
+  pub wrote-stored : AreStored all more
+  wrote-stored =
+      let long : length all ≡ length written + length put = ap length stores ∙ length-append written put in
+      subst (AreStored all) (sym added)
+      (stored-more room all entries (record { call = Write at (length put); passed = true; start = length written; count = length put }) (omega arith)
+      (λ k d lt. omega (arith, stored k d lt)))

@@ -1,6 +1,7 @@
 //! What the disks in memory share: the bytes, and a record of all calls.
 
 ghost use Rattle.std.specs.Prelude.{◌≡◌, ℕ, ◌+◌, ◌≤◌, ◌<◌, min, length, IsTrue, vec_capacity, vec_len, [], ◌∷◌, ◌++◌};
+ghost use Rattle.store_spec.specs.Disk.{overwritten};
 ghost use Rattle.crash_disk.specs.Entries.{events_of, lines_in, AreStored, ChangesNothing, with_one_more};
 ghost use Rattle.crash_disk.specs.History.{settled_state, seen_after, begin_within};
 
@@ -40,8 +41,21 @@ fn add(entries: &mut Vec<Entry>, room: u64, entry: Entry)
     }
 }
 
+/// Puts bytes over those of a file from `at` on, and past its end.
+fn overwrite(file: &mut Vec<u8>, at: usize, bytes: &[u8])
+    requires at { at ≤ length file.old.items }
+    requires room { at + length bytes.now ≤ vec_capacity file.old }
+    ensures items { file.new.items ≡ overwritten at bytes.now file.old.items }
+    ensures capacity { vec_capacity file.old ≤ vec_capacity file.new }
+{
+    let within = bytes.len().min(file.len() - at);
+    file[at..at + within].copy_from_slice(&bytes[..within]);
+    file.extend_from_slice(&bytes[within..]).unwrap();
+}
+
 impl Medium {
-    ghost use Rattle.std.specs.Prelude.{true, false};
+    ghost use Rattle.std.specs.Prelude.{true, false, is_ok, IfOk, OnOk, OnErr, nat_lt, nat_le, ◌&&◌, slice_range, ◌↔◌};
+    ghost use Rattle.crash_disk.specs.declared.entry.DiskCall.TheVariants.{Size, Read, Write, Sync};
     ghost use Rattle.crash_disk.specs.Notes.{Notes};
 
     pub(crate) fn new(alloc: Global, first: Vec<u8>, room: Room) -> Result<Medium, Memory>
@@ -77,5 +91,116 @@ impl Medium {
         add(&mut self.entries, self.room.calls, entry);
         self.calls = self.calls.saturating_add(1);
         self.faults = self.faults.saturating_add(if passed { 0 } else { 1 });
+    }
+
+    /// Whether one call more may be recorded.
+    fn may_call(&self) -> bool
+        ensures { result ≡ nat_lt self.now.calls self.now.room.calls }
+    {
+        self.calls < self.room.calls
+    }
+
+    /// Whether one write more has room.
+    fn may_write(&self, at: u64, count: usize) -> bool
+        requires { at ≤ length self.now.bytes.items }
+        ensures { result ≡ (nat_le (at + count) self.now.room.size && nat_le (length self.now.written.items + count) self.now.room.written) }
+    {
+        count as u64 <= self.room.size - at
+            && count as u64 <= self.room.written - self.written.len() as u64
+    }
+
+    /// How many bytes there are, where the call is allowed.
+    pub(crate) fn size(&mut self, allowed: bool) -> Result<u64, Failed>
+        ensures passes { is_ok result ≡ (allowed && nat_lt self.old.calls self.old.room.calls) }
+        ensures noted { Notes (record { call = Size; passed = is_ok result; put = [] }) self.old self.new }
+        ensures bytes { self.new.bytes.items ≡ self.old.bytes.items }
+        ensures size { IfOk result (λ size. size ≡ length self.old.bytes.items) }
+    {
+        let passed = allowed && self.may_call();
+        self.note(DiskCall::Size, passed);
+        if passed {
+            Ok(self.bytes.len() as u64)
+        } else {
+            Err(Failed)
+        }
+    }
+
+    /// Reads the bytes from `at` on, where the call is allowed.
+    pub(crate) fn read(&mut self, at: u64, buf: &mut [u8], allowed: bool) -> Result<(), Failed>
+        requires { at + length buf.old ≤ length self.old.bytes.items }
+        ensures passes { is_ok result ≡ (allowed && nat_lt self.old.calls self.old.room.calls) }
+        ensures noted { Notes (record { call = Read at (length buf.old); passed = is_ok result; put = [] }) self.old self.new }
+        ensures bytes { self.new.bytes.items ≡ self.old.bytes.items }
+        ensures read { OnOk result (buf.new ≡ slice_range self.old.bytes.items at (at + length buf.old)) }
+    {
+        let passed = allowed && self.may_call();
+        let call = DiskCall::Read {
+            at,
+            count: buf.len(),
+        };
+        self.note(call, passed);
+        if !passed {
+            return Err(Failed);
+        }
+        let start = at as usize;
+        buf.copy_from_slice(&self.bytes[start..start + buf.len()]);
+        Ok(())
+    }
+
+    /// Settles what is there, where the call is allowed.
+    pub(crate) fn sync(&mut self, allowed: bool) -> Result<(), Failed>
+        ensures passes { is_ok result ≡ (allowed && nat_lt self.old.calls self.old.room.calls) }
+        ensures noted { Notes (record { call = Sync; passed = is_ok result; put = [] }) self.old self.new }
+        ensures bytes { self.new.bytes.items ≡ self.old.bytes.items }
+    {
+        let passed = allowed && self.may_call();
+        self.note(DiskCall::Sync, passed);
+        if passed { Ok(()) } else { Err(Failed) }
+    }
+
+    /// Writes over what is there, and past the end, where the call is allowed and there is room.
+    pub(crate) fn write_at(&mut self, at: u64, bytes: &[u8], allowed: bool) -> Result<(), Failed>
+        requires { at ≤ length self.old.bytes.items }
+        ensures passes { is_ok result ≡ (allowed && nat_lt self.old.calls self.old.room.calls
+            && (nat_le (at + length bytes.now) self.old.room.size && nat_le (length self.old.written.items + length bytes.now) self.old.room.written)) }
+        ensures noted { OnOk result (Notes (record { call = Write at (length bytes.now); passed = true; put = bytes.now }) self.old self.new) }
+        ensures noted_failed { OnErr result (Notes (record { call = Write at (length bytes.now); passed = false; put = [] }) self.old self.new) }
+        ensures written { OnOk result (self.new.bytes.items ≡ overwritten at bytes.now self.old.bytes.items) }
+        ensures unwritten { OnErr result (self.new.bytes.items ≡ self.old.bytes.items) }
+    {
+        if !(allowed && self.may_call() && self.may_write(at, bytes.len())) {
+            let call = DiskCall::Write {
+                at,
+                count: bytes.len(),
+            };
+            self.note(call, false);
+            return Err(Failed);
+        }
+        self.put(at, bytes);
+        Ok(())
+    }
+
+    /// Writes, and notes it.
+    fn put(&mut self, at: u64, bytes: &[u8])
+        requires at { at ≤ length self.old.bytes.items }
+        requires may_call { self.old.calls < self.old.room.calls }
+        requires size { at + length bytes.now ≤ self.old.room.size }
+        requires put { length self.old.written.items + length bytes.now ≤ self.old.room.written }
+        ensures noted { Notes (record { call = Write at (length bytes.now); passed = true; put = bytes.now }) self.old self.new }
+        ensures written { self.new.bytes.items ≡ overwritten at bytes.now self.old.bytes.items }
+    {
+        let entry = Entry {
+            call: DiskCall::Write {
+                at,
+                count: bytes.len(),
+            },
+            passed: true,
+            start: self.written.len(),
+            count: bytes.len(),
+        };
+        self.written.extend_from_slice(bytes).unwrap();
+        overwrite(&mut self.bytes, at as usize, bytes);
+        add(&mut self.entries, self.room.calls, entry);
+        self.calls += 1;
     }
 }
