@@ -1,4 +1,6 @@
 pub mod Entries
 pub mod History
 pub mod Laws
+pub mod Members
+pub mod Memory
 pub mod Notes

@@ -3,7 +3,7 @@
 ghost use Rattle.std.specs.Prelude.{◌≡◌, ℕ, ◌+◌, ◌≤◌, List, length, slice_range, Option, Some, option_map, is_some, IsSome, IfSome, IfOk, OnOk, OnErr};
 ghost use Rattle.std.specs.Option.{ForSome};
 ghost use Rattle.store_spec.specs.Fault.{Rose};
-ghost use Rattle.store_spec.specs.Disk.{after_calls, leaves_now, overwritten, torn_from, SeenTorn, Elapses, MayLeaveInside, MayLeaveNow, IsSettled};
+ghost use Rattle.store_spec.specs.Disk.{after_calls, leaves_now, overwritten, torn_from, SeenTorn, LeavesAtMost, LeavesExactly, MayLeaveInside, IsSettled};
 
 use outside_io::Failed;
 
@@ -26,9 +26,7 @@ pub trait Disk {
     fn size(&mut self) -> Result<u64, Failed>
         ensures size { IfOk result (λ size. IfSome (seen self.old) (λ bytes. size ≡ length bytes)) }
         ensures same_bytes { seen self.new ≡ seen self.old }
-        ensures moments { Elapses calls may_leave (leaves_now calls may_leave self.old) self.old self.new }
-        ensures inside { MayLeaveInside calls may_leave (leaves_now calls may_leave self.old) self.old self.new }
-        ensures after { MayLeaveNow calls may_leave (leaves_now calls may_leave self.old) self.new }
+        ensures images { LeavesExactly calls may_leave (leaves_now calls may_leave self.old) self.old self.new }
         ensures never_falls { faults self.old ≤ faults self.new }
         ensures cause { OnErr result (Rose (faults self.old) (faults self.new)) };
 
@@ -37,9 +35,7 @@ pub trait Disk {
         requires { ForSome (seen self.old) (λ bytes. at + length buf.old ≤ length bytes) }
         ensures read { OnOk result (IfSome (seen self.old) (λ bytes. buf.new ≡ slice_range bytes at (at + length buf.old))) }
         ensures same_bytes { seen self.new ≡ seen self.old }
-        ensures moments { Elapses calls may_leave (leaves_now calls may_leave self.old) self.old self.new }
-        ensures inside { MayLeaveInside calls may_leave (leaves_now calls may_leave self.old) self.old self.new }
-        ensures after { MayLeaveNow calls may_leave (leaves_now calls may_leave self.old) self.new }
+        ensures images { LeavesExactly calls may_leave (leaves_now calls may_leave self.old) self.old self.new }
         ensures never_falls { faults self.old ≤ faults self.new }
         ensures cause { OnErr result (Rose (faults self.old) (faults self.new)) };
 
@@ -49,9 +45,8 @@ pub trait Disk {
         requires { ForSome (seen self.old) (λ old. at ≤ length old) }
         ensures written { OnOk result (seen self.new ≡ option_map (overwritten at bytes.now) (seen self.old)) }
         ensures torn { OnErr result (SeenTorn at (length bytes.now) (seen self.old) (seen self.new)) }
-        ensures moments { Elapses calls may_leave (torn_from at (length bytes.now) (leaves_now calls may_leave self.old)) self.old self.new }
-        ensures inside { OnOk result (MayLeaveInside calls may_leave (torn_from at (length bytes.now) (leaves_now calls may_leave self.old)) self.old self.new) }
-        ensures after { OnOk result (MayLeaveNow calls may_leave (torn_from at (length bytes.now) (leaves_now calls may_leave self.old)) self.new) }
+        ensures images { LeavesAtMost calls may_leave (torn_from at (length bytes.now) (leaves_now calls may_leave self.old)) self.old self.new }
+        ensures any_bytes { OnOk result (LeavesExactly calls may_leave (torn_from at (length bytes.now) (leaves_now calls may_leave self.old)) self.old self.new) }
         ensures never_falls { faults self.old ≤ faults self.new }
         ensures cause { OnErr result (Rose (faults self.old) (faults self.new)) };
 
@@ -60,10 +55,10 @@ pub trait Disk {
     fn sync(&mut self) -> Result<(), Failed>
         ensures same_bytes { OnOk result (seen self.new ≡ seen self.old) }
         ensures told { is_some (seen self.new) ≡ is_some (seen self.old) }
-        ensures settled { OnOk result (IsSettled seen calls may_leave self.new) }
-        ensures moments { Elapses calls may_leave (leaves_now calls may_leave self.old) self.old self.new }
+        ensures images { LeavesAtMost calls may_leave (leaves_now calls may_leave self.old) self.old self.new }
         ensures inside { MayLeaveInside calls may_leave (leaves_now calls may_leave self.old) self.old self.new }
-        ensures unsettled { OnErr result (MayLeaveNow calls may_leave (leaves_now calls may_leave self.old) self.new) }
+        ensures settled { OnOk result (IsSettled seen calls may_leave self.new) }
+        ensures unsettled { OnErr result (LeavesExactly calls may_leave (leaves_now calls may_leave self.old) self.old self.new) }
         ensures never_falls { faults self.old ≤ faults self.new }
         ensures cause { OnErr result (Rose (faults self.old) (faults self.new)) };
 

@@ -4,6 +4,8 @@
 mod disk;
 mod entry;
 mod medium;
+mod memory;
 
 pub use disk::Disk;
 pub use entry::{DiskCall, Room};
+pub use memory::MemoryDisk;

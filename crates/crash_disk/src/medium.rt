@@ -93,13 +93,6 @@ impl Medium {
         self.faults = self.faults.saturating_add(if passed { 0 } else { 1 });
     }
 
-    /// Whether one call more may be recorded.
-    fn may_call(&self) -> bool
-        ensures { result ≡ nat_lt self.now.calls self.now.room.calls }
-    {
-        self.calls < self.room.calls
-    }
-
     /// Whether one write more has room.
     fn may_write(&self, at: u64, count: usize) -> bool
         requires { at ≤ length self.now.bytes.items }
@@ -109,37 +102,37 @@ impl Medium {
             && count as u64 <= self.room.written - self.written.len() as u64
     }
 
-    /// How many bytes there are, where the call is allowed.
-    pub(crate) fn size(&mut self, allowed: bool) -> Result<u64, Failed>
-        ensures passes { is_ok result ≡ (allowed && nat_lt self.old.calls self.old.room.calls) }
-        ensures noted { Notes (record { call = Size; passed = is_ok result; put = [] }) self.old self.new }
+    /// How many bytes there are, where the call passes.
+    pub(crate) fn size(&mut self, passes: bool) -> Result<u64, Failed>
+        requires { IsTrue passes → self.old.calls < self.old.room.calls }
+        ensures passes { is_ok result ≡ passes }
+        ensures noted { Notes (record { call = Size; passed = passes; put = [] }) self.old self.new }
         ensures bytes { self.new.bytes.items ≡ self.old.bytes.items }
         ensures size { IfOk result (λ size. size ≡ length self.old.bytes.items) }
     {
-        let passed = allowed && self.may_call();
-        self.note(DiskCall::Size, passed);
-        if passed {
+        self.note(DiskCall::Size, passes);
+        if passes {
             Ok(self.bytes.len() as u64)
         } else {
             Err(Failed)
         }
     }
 
-    /// Reads the bytes from `at` on, where the call is allowed.
-    pub(crate) fn read(&mut self, at: u64, buf: &mut [u8], allowed: bool) -> Result<(), Failed>
-        requires { at + length buf.old ≤ length self.old.bytes.items }
-        ensures passes { is_ok result ≡ (allowed && nat_lt self.old.calls self.old.room.calls) }
-        ensures noted { Notes (record { call = Read at (length buf.old); passed = is_ok result; put = [] }) self.old self.new }
+    /// Reads the bytes from `at` on, where the call passes.
+    pub(crate) fn read(&mut self, at: u64, buf: &mut [u8], passes: bool) -> Result<(), Failed>
+        requires within { at + length buf.old ≤ length self.old.bytes.items }
+        requires room { IsTrue passes → self.old.calls < self.old.room.calls }
+        ensures passes { is_ok result ≡ passes }
+        ensures noted { Notes (record { call = Read at (length buf.old); passed = passes; put = [] }) self.old self.new }
         ensures bytes { self.new.bytes.items ≡ self.old.bytes.items }
         ensures read { OnOk result (buf.new ≡ slice_range self.old.bytes.items at (at + length buf.old)) }
     {
-        let passed = allowed && self.may_call();
         let call = DiskCall::Read {
             at,
             count: buf.len(),
         };
-        self.note(call, passed);
-        if !passed {
+        self.note(call, passes);
+        if !passes {
             return Err(Failed);
         }
         let start = at as usize;
@@ -147,28 +140,28 @@ impl Medium {
         Ok(())
     }
 
-    /// Settles what is there, where the call is allowed.
-    pub(crate) fn sync(&mut self, allowed: bool) -> Result<(), Failed>
-        ensures passes { is_ok result ≡ (allowed && nat_lt self.old.calls self.old.room.calls) }
-        ensures noted { Notes (record { call = Sync; passed = is_ok result; put = [] }) self.old self.new }
+    /// Settles what is there, where the call passes.
+    pub(crate) fn sync(&mut self, passes: bool) -> Result<(), Failed>
+        requires { IsTrue passes → self.old.calls < self.old.room.calls }
+        ensures passes { is_ok result ≡ passes }
+        ensures noted { Notes (record { call = Sync; passed = passes; put = [] }) self.old self.new }
         ensures bytes { self.new.bytes.items ≡ self.old.bytes.items }
     {
-        let passed = allowed && self.may_call();
-        self.note(DiskCall::Sync, passed);
-        if passed { Ok(()) } else { Err(Failed) }
+        self.note(DiskCall::Sync, passes);
+        if passes { Ok(()) } else { Err(Failed) }
     }
 
-    /// Writes over what is there, and past the end, where the call is allowed and there is room.
-    pub(crate) fn write_at(&mut self, at: u64, bytes: &[u8], allowed: bool) -> Result<(), Failed>
-        requires { at ≤ length self.old.bytes.items }
-        ensures passes { is_ok result ≡ (allowed && nat_lt self.old.calls self.old.room.calls
-            && (nat_le (at + length bytes.now) self.old.room.size && nat_le (length self.old.written.items + length bytes.now) self.old.room.written)) }
+    /// Writes over what is there, and past the end, where the call passes and there is room.
+    pub(crate) fn write_at(&mut self, at: u64, bytes: &[u8], passes: bool) -> Result<(), Failed>
+        requires at { at ≤ length self.old.bytes.items }
+        requires room { IsTrue passes → self.old.calls < self.old.room.calls }
+        ensures passes { is_ok result ≡ (passes && (nat_le (at + length bytes.now) self.old.room.size && nat_le (length self.old.written.items + length bytes.now) self.old.room.written)) }
         ensures noted { OnOk result (Notes (record { call = Write at (length bytes.now); passed = true; put = bytes.now }) self.old self.new) }
         ensures noted_failed { OnErr result (Notes (record { call = Write at (length bytes.now); passed = false; put = [] }) self.old self.new) }
         ensures written { OnOk result (self.new.bytes.items ≡ overwritten at bytes.now self.old.bytes.items) }
         ensures unwritten { OnErr result (self.new.bytes.items ≡ self.old.bytes.items) }
     {
-        if !(allowed && self.may_call() && self.may_write(at, bytes.len())) {
+        if !(passes && self.may_write(at, bytes.len())) {
             let call = DiskCall::Write {
                 at,
                 count: bytes.len(),

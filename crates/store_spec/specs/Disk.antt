@@ -49,7 +49,7 @@ SeenTorn at n old new = ⊥
 
 -- The call is counted. No moment up to its start changes, and what a crash inside the call or after it may leave
 -- is among these images.
-pub record Elapses {D : Type 0} (calls : D → ℕ) (may_leave : D → ℕ → List ℕ → Type 0) (images : List ℕ → Type 0) (old new : D) : Type 0 where
+pub record LeavesAtMost {D : Type 0} (calls : D → ℕ) (may_leave : D → ℕ → List ℕ → Type 0) (images : List ℕ → Type 0) (old new : D) : Type 0 where
   pub counted : calls new ≡ next_count (calls old)
   pub past : calls old < LAST_COUNT → (m : ℕ) → m ≤ after_calls (calls old) → (c : List ℕ) → may_leave new m c ↔ may_leave old m c
   pub inside : calls old < LAST_COUNT → (c : List ℕ) → may_leave new (inside_next (calls old)) c → images c
@@ -59,9 +59,11 @@ pub record Elapses {D : Type 0} (calls : D → ℕ) (may_leave : D → ℕ → L
 abbrev pub MayLeaveInside : {D : Type 0} → (D → ℕ) → (D → ℕ → List ℕ → Type 0) → (List ℕ → Type 0) → D → D → Type 0
 MayLeaveInside calls may_leave images old new = calls old < LAST_COUNT → (c : List ℕ) → images c → may_leave new (inside_next (calls old)) c
 
--- a crash now may leave each of these images
-abbrev pub MayLeaveNow : {D : Type 0} → (D → ℕ) → (D → ℕ → List ℕ → Type 0) → (List ℕ → Type 0) → D → Type 0
-MayLeaveNow calls may_leave images disk = (c : List ℕ) → images c → leaves_now calls may_leave disk c
+-- what a crash inside the call or after it may leave is exactly these images
+pub record LeavesExactly {D : Type 0} (calls : D → ℕ) (may_leave : D → ℕ → List ℕ → Type 0) (images : List ℕ → Type 0) (old new : D) : Type 0 where
+  pub at_most : LeavesAtMost calls may_leave images old new
+  pub inside : MayLeaveInside calls may_leave images old new
+  pub after : (c : List ℕ) → images c → leaves_now calls may_leave new c
 
 -- a crash now leaves exactly what a read gives
 abbrev pub IsSettled : {D : Type 0} → (D → Option (List ℕ)) → (D → ℕ) → (D → ℕ → List ℕ → Type 0) → D → Type 0

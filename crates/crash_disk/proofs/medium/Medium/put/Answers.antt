@@ -39,5 +39,6 @@ returns-clause-noted c =
       room = search rules;
       calls = omega arith;
       faults = search rules;
+      never_falls = search rules;
       lines = wrote-lines c.args.self.now.room.calls c.args.at c.args.self.now.first.items written c.extend_from_slice.new.self.items c.args.bytes.now c.args.self.now.bytes.items entries c.add.new.entries.items stores fits added c.args.self.now.stored;
     }
