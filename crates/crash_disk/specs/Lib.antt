@@ -1,4 +1,5 @@
 pub mod Entries
+pub mod Fused
 pub mod History
 pub mod Laws
 pub mod Members

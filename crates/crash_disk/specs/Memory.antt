@@ -18,6 +18,10 @@ memory_calls disk = disk.medium.calls
 abbrev pub memory_faults : MemoryDisk → ℕ
 memory_faults disk = disk.medium.faults
 
+-- its record of calls
+abbrev pub memory_lines : MemoryDisk → List Line
+memory_lines disk = lines_of disk.medium
+
 -- whether the next call passes, but for the room that a write needs: there is room for it in the record, and its
 -- number, one more than the calls so far, is none of those that are to fail
 abbrev pub memory_passes : MemoryDisk → Bool

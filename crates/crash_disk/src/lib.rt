@@ -3,9 +3,11 @@
 
 mod disk;
 mod entry;
+mod fused;
 mod medium;
 mod memory;
 
 pub use disk::Disk;
 pub use entry::{DiskCall, Room};
+pub use fused::FusedDisk;
 pub use memory::MemoryDisk;

@@ -54,12 +54,19 @@ fn overwrite(file: &mut Vec<u8>, at: usize, bytes: &[u8])
 }
 
 impl Medium {
-    ghost use Rattle.std.specs.Prelude.{true, false, is_ok, IfOk, OnOk, OnErr, nat_lt, nat_le, ◌&&◌, slice_range, ◌↔◌};
+    ghost use Rattle.std.specs.Prelude.{true, false, IsSome, option_map, slice_get, is_ok, IfOk, OnOk, OnErr, nat_lt, nat_le, ◌&&◌, slice_range, ◌↔◌};
     ghost use Rattle.crash_disk.specs.declared.entry.DiskCall.TheVariants.{Size, Read, Write, Sync};
-    ghost use Rattle.crash_disk.specs.Notes.{Notes};
+    ghost use Rattle.std.specs.Option.{option_map_or};
+    ghost use Rattle.crash_disk.specs.Notes.{Notes, lines_of};
 
+    /// A medium with these bytes, and no calls. All its memory is taken here.
     pub(crate) fn new(alloc: Global, first: Vec<u8>, room: Room) -> Result<Medium, Memory>
         requires { length first.items ≤ room.size }
+        ensures bytes { IfOk result (λ medium. medium.bytes.items ≡ first.items) }
+        ensures first { IfOk result (λ medium. medium.first.items ≡ first.items) }
+        ensures lines { IfOk result (λ medium. lines_of medium ≡ []) }
+        ensures calls { IfOk result (λ medium. medium.calls ≡ 0) }
+        ensures room { IfOk result (λ medium. medium.room ≡ room) }
     {
         let mut bytes = Vec::with_capacity(alloc, room.size as usize)?;
         bytes.extend_from_slice(&first)?;
@@ -74,6 +81,24 @@ impl Medium {
             faults: 0,
             room,
         })
+    }
+
+    /// The call of this line of the record.
+    pub(crate) fn call_made(&self, index: u64) -> Option<DiskCall>
+        ensures call { result ≡ option_map (λ line. line.call) (slice_get (lines_of self.now) index) }
+        ensures made { IsSome result ↔ (index < min self.now.calls self.now.room.calls) }
+    {
+        self.entries.get(index as usize).map(|entry| entry.call)
+    }
+
+    /// What that call put.
+    pub(crate) fn put_at(&self, index: u64) -> &[u8]
+        ensures { result.now ≡ option_map_or (λ line. line.put) (slice_get (lines_of self.now) index) [] }
+    {
+        match self.entries.get(index as usize) {
+            Some(entry) => &self.written[entry.start..entry.start + entry.count],
+            None => &[],
+        }
     }
 
     /// Notes a call that puts no bytes.

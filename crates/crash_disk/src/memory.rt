@@ -1,6 +1,6 @@
 //! A disk in memory that fails at the calls it is told to.
 
-ghost use Rattle.std.specs.Prelude.{◌≡◌, ◌≤◌, ◌+◌, ◌==◌, ◌&&◌, ℕ, true, false, not, [], length, slice_range, option_map, is_some, IfSome, is_ok, IfOk, OnOk, OnErr, refl};
+ghost use Rattle.std.specs.Prelude.{◌<◌, ◌↔◌, min, slice_get, Some, IsSome, ◌≡◌, ◌≤◌, ◌+◌, ◌==◌, ◌&&◌, ℕ, true, false, not, [], length, slice_range, option_map, is_some, IfSome, is_ok, IfOk, OnOk, OnErr, refl};
 ghost use Rattle.std.specs.List.{list_any};
 ghost use Rattle.std.specs.Option.{ForSome};
 ghost use Rattle.crash_disk.specs.Members.{medium-image};
@@ -19,7 +19,9 @@ pub struct MemoryDisk {
 }
 
 impl MemoryDisk {
-    ghost use Rattle.crash_disk.specs.Memory.{memory_passes};
+    ghost use Rattle.std.specs.Option.{option_map_or};
+    ghost use Rattle.store_spec.specs.Disk.{IsSettled};
+    ghost use Rattle.crash_disk.specs.Memory.{memory_sees, memory_leaves, memory_calls, memory_lines, memory_passes};
 
     /// A disk with these bytes, all of them settled. All its memory is taken here. `failing` has the numbers of the
     /// calls that are to fail, counted from 1.
@@ -30,11 +32,40 @@ impl MemoryDisk {
         room: Room,
     ) -> Result<MemoryDisk, Memory>
         requires { length bytes.items ≤ room.size }
+        ensures bytes { IfOk result (λ disk. memory_sees disk ≡ Some bytes.items) }
+        ensures settled { IfOk result (λ disk. IsSettled memory_sees memory_calls memory_leaves disk) }
+        ensures no_calls { IfOk result (λ disk. memory_calls disk ≡ 0) }
+        ensures no_lines { IfOk result (λ disk. memory_lines disk ≡ []) }
+        ensures failing { IfOk result (λ disk. disk.failing.items ≡ failing.items) }
+        ensures room { IfOk result (λ disk. disk.medium.room ≡ room) }
     {
         Ok(MemoryDisk {
             medium: Medium::new(alloc, bytes, room)?,
             failing,
         })
+    }
+
+    /// The bytes that a read gives now.
+    pub fn bytes(&self) -> &[u8]
+        ensures { memory_sees self.now ≡ Some result.now }
+    {
+        &self.medium.bytes
+    }
+
+    /// The call of the record with this index, counted from 0, whether it succeeded or failed. There is none behind
+    /// the calls that were made, or behind those that the record has room for.
+    pub fn call_made(&self, index: u64) -> Option<DiskCall>
+        ensures call { result ≡ option_map (λ line. line.call) (slice_get (memory_lines self.now) index) }
+        ensures made { IsSome result ↔ (index < min (memory_calls self.now) self.now.medium.room.calls) }
+    {
+        self.medium.call_made(index)
+    }
+
+    /// What that call put: the bytes of a write that succeeded, and none where it is another call or there is none.
+    pub fn written(&self, index: u64) -> &[u8]
+        ensures { result.now ≡ option_map_or (λ line. line.put) (slice_get (memory_lines self.now) index) [] }
+    {
+        self.medium.put_at(index)
     }
 
     /// Whether the next call passes, but for the room that a write needs.

@@ -1,0 +1,10 @@
+use Rattle.std.proofs.Common.{◌≡◌, ◌<◌, [], length, rules, true, false}
+use Rattle.std.specs.Prelude.{is_ok, OnOk, OnErr}
+use Rattle.crash_disk.proofs.Elapsed.{size-images}
+use Rattle.crash_disk.specs.Notes.{Notes}
+use Rattle.crash_disk.specs.declared.entry.DiskCall.TheVariants.{Sync}
+use Rattle.crash_disk.specs.declared.fused.FusedDisk.{FusedDisk}
+use Rattle.crash_disk.proofs.fused.FusedDiskDisk.size.Goals as goal
+
+pub returns-clause-images : goal.returns-clause-images
+returns-clause-images c = size-images (λ (d : FusedDisk). d.medium) c.args.self.now (record c.args.self.now { medium = c.size.new.self }) c.may_pass-passes.result c.size.ensures.noted
