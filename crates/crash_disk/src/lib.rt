@@ -3,11 +3,13 @@
 
 mod disk;
 mod entry;
+mod file;
 mod fused;
 mod medium;
 mod memory;
 
 pub use disk::Disk;
 pub use entry::{DiskCall, Room};
+pub use file::FileDisk;
 pub use fused::FusedDisk;
 pub use memory::MemoryDisk;
