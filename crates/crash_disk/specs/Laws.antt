@@ -3,6 +3,7 @@ use Rattle.std.proofs.Common.{◌≡◌, ℕ, zero, suc, ◌+◌, ◌*◌, ◌�
 use Rattle.std.proofs.lemmas.Bool.{and_from, and_parts, leb-true, lt-ltb, le-ltb, cases_lt}
 use Rattle.store_spec.specs.Disk.{overwritten, torn_from, IsTorn, next_count}
 use Rattle.crash_disk.specs.Entries.{with_one_more}
+use Rattle.store_spec.proofs.DiskMoments.{next_count-le}
 use Rattle.store_spec.proofs.TornBytes.{overwritten-torn}
 use Rattle.crash_disk.specs.History.{Event, State, settled_state, state_after, state_inside, state_at, torn_in, left_in, left_at, seen_after, begin_within}
 use Rattle.crash_disk.specs.History.Event.{Wrote, Synced, Unchanged}
@@ -109,7 +110,7 @@ module _ (s : State) (es more : List Event) (e : Event) (calls next room : ℕ) 
       (λ (lt : calls < room).
       let same : length es ≡ calls = omega arith in
       let longer : length more ≡ length es + 1 = ap (λ (xs : List Event). length xs) (added lt) ∙ length-append es (e ∷ []) in
-      let two : 2 * next ≡ 2 * length es + 2 = omega arith in
+      let two : 2 * next ≡ 2 * length es + 2 = omega (arith, counted, next_count-le calls) in
       ap (λ (xs : List Event). state_at s xs (2 * next)) (added lt) ∙ ap (state_at s (es ++ e ∷ [])) two ∙ state_at-after s es e
       ∙ ap (λ n. state_after (state_at s es (2 * n)) e) same)
       (λ (ge : room ≤ calls).

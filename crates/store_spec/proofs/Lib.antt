@@ -1,1 +1,2 @@
+pub mod DiskMoments
 pub mod TornBytes

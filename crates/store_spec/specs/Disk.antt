@@ -1,7 +1,7 @@
 -- A disk: the bytes that a read gives now, and what a crash may leave at each moment. What was not synced may be lost,
 -- torn or reordered. The words take the members of a disk: `calls`, how many calls were made, and `may_leave`, what
 -- a crash at a moment may leave. Each list of bytes that it may leave is an image.
-use Rattle.std.specs.Prelude.{◌≡◌, ◌↔◌, ℕ, ◌+◌, ◌*◌, ◌<◌, ◌≤◌, min, max, List, ◌++◌, length, take, drop, Option, Some, None}
+use Rattle.std.specs.Prelude.{◌≡◌, ◌↔◌, ℕ, ◌+◌, ◌*◌, ◌<◌, ◌≤◌, max, nat_lt, if◌then◌else◌, List, ◌++◌, length, take, drop, Option, Some, None}
 use Rattle.store_spec.specs.Fault.{LAST_COUNT}
 
 -- ---- moments
@@ -15,7 +15,7 @@ inside_next n = 2 * n + 1
 
 -- a count of calls after one call more: it stays at its last value
 abbrev pub next_count : ℕ → ℕ
-next_count n = min (n + 1) LAST_COUNT
+next_count n = if nat_lt n LAST_COUNT then n + 1 else n
 
 -- what a crash now may leave
 abbrev pub leaves_now : {D : Type 0} → (D → ℕ) → (D → ℕ → List ℕ → Type 0) → D → List ℕ → Type 0
@@ -81,3 +81,7 @@ pub record LeavesOnly {D : Type 0} (calls : D → ℕ) (may_leave : D → ℕ �
   pub later : calls old ≤ calls new
   pub past : calls new < LAST_COUNT → (m : ℕ) → m ≤ after_calls (calls old) → (c : List ℕ) → may_leave new m c ↔ may_leave old m c
   pub each : calls new < LAST_COUNT → EachImage (may_leave new) (after_calls (calls old)) (after_calls (calls new)) P
+
+-- a crash now leaves these bytes, but for a range of n bytes from `at` on
+abbrev pub LeavesTorn : {D : Type 0} → (D → ℕ) → (D → ℕ → List ℕ → Type 0) → ℕ → ℕ → List ℕ → D → Type 0
+LeavesTorn calls may_leave at n bytes disk = (c : List ℕ) → leaves_now calls may_leave disk c → IsTorn at n bytes c

@@ -1,5 +1,6 @@
 use Rattle.std.proofs.Common.{◌≡◌, ℕ, ◌+◌, ◌≤◌, ◌<◌, ◌++◌, List, length, arith, rules, sym, ◌∙◌, ap, subst, true}
 use Rattle.crash_disk.proofs.Record.{wrote-replayed, wrote-begins, wrote-stored, wrote-lines}
+use Rattle.store_spec.proofs.DiskMoments.{next_count-below}
 use Rattle.crash_disk.specs.Entries.{with_one_more}
 use Rattle.crash_disk.specs.declared.entry.Entry.{Entry}
 use Rattle.crash_disk.specs.declared.entry.DiskCall.TheVariants.{Write}
@@ -37,7 +38,7 @@ returns-clause-noted c =
     record {
       first = search rules;
       room = search rules;
-      calls = omega arith;
+      calls = sym (next_count-below c.args.self.now.calls (omega arith));
       faults = search rules;
       never_falls = search rules;
       lines = wrote-lines c.args.self.now.room.calls c.args.at c.args.self.now.first.items written c.extend_from_slice.new.self.items c.args.bytes.now c.args.self.now.bytes.items entries c.add.new.entries.items stores fits added c.args.self.now.stored;
