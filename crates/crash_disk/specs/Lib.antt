@@ -1,4 +1,5 @@
 pub mod Entries
+pub mod Figures
 pub mod Fused
 pub mod History
 pub mod Laws

@@ -5,6 +5,7 @@ mod disk;
 mod entry;
 mod file;
 mod fused;
+mod laws;
 mod medium;
 mod memory;
 
@@ -12,4 +13,5 @@ pub use disk::Disk;
 pub use entry::{DiskCall, Room};
 pub use file::FileDisk;
 pub use fused::FusedDisk;
+pub use laws::{only_image, three_images_and_one, two_writes_and_a_sync};
 pub use memory::MemoryDisk;
