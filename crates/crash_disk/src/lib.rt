@@ -15,3 +15,6 @@ pub use file::FileDisk;
 pub use fused::FusedDisk;
 pub use laws::{only_image, three_images_and_one, two_writes_and_a_sync};
 pub use memory::MemoryDisk;
+
+#[cfg(test)]
+mod tests;
