@@ -1,10 +1,9 @@
 -- A disk that keeps its bytes and its record in a `Medium` keeps the disk model.
-use Rattle.std.proofs.Common.{◌≡◌, ℕ, ◌+◌, ◌*◌, ◌≤◌, ◌<◌, ◌↔◌, min, Bool, true, false, List, [], ◌∷◌, ◌++◌, length, refl, sym, ◌∙◌, ap, subst, arith}
-use Rattle.std.specs.Prelude.{Option, Some, None, Result, Ok, Err, is_ok, OnOk, OnErr, map}
-use Rattle.store_spec.specs.Disk.{after_calls, inside_next, leaves_now, overwritten, torn_from, LeavesAtMost, LeavesExactly, MayLeaveInside, IsSettled}
-use Rattle.store_spec.specs.Fault.{LAST_COUNT}
+use Rattle.std.proofs.Common.{◌≡◌, ℕ, ◌+◌, ◌*◌, ◌≤◌, ◌<◌, min, Bool, true, false, List, [], length, refl, sym, ◌∙◌, ap, subst, arith}
+use Rattle.std.specs.Prelude.{Option, Some, Result, Ok, Err, is_ok, OnOk, OnErr}
+use Rattle.store_spec.specs.Disk.{leaves_now, torn_from, LeavesAtMost, LeavesExactly, MayLeaveInside, IsSettled}
 use Rattle.crash_disk.specs.Entries.{Line, event_of, events_of, with_one_more}
-use Rattle.crash_disk.specs.History.{Event, State, settled_state, state_after, state_inside, state_at, left_in, left_at, seen_after}
+use Rattle.crash_disk.specs.History.{State, settled_state, state_after, state_inside, state_at, left_in}
 use Rattle.crash_disk.specs.History.Event.{Wrote, Synced, Unchanged}
 use Rattle.crash_disk.specs.Laws.{state_at-end, state-past, state-inside, state-after}
 use Rattle.crash_disk.specs.Members.{length-history, medium-image}

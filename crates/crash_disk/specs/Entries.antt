@@ -1,5 +1,5 @@
 -- What the record of a disk in memory stands for.
-use Rattle.std.specs.Prelude.{◌≡◌, ℕ, ◌+◌, ◌≤◌, nat_lt, Bool, if◌then◌else◌, List, [], ◌∷◌, ◌++◌, length, map, slice_range, All}
+use Rattle.std.specs.Prelude.{ℕ, ◌+◌, ◌≤◌, nat_lt, Bool, if◌then◌else◌, List, [], ◌∷◌, ◌++◌, length, map, slice_range, All}
 use Rattle.crash_disk.specs.History.{Event}
 use Rattle.crash_disk.specs.History.Event.{Wrote, Synced, Unchanged}
 use Rattle.crash_disk.specs.declared.entry.DiskCall.{DiskCall}

@@ -1,6 +1,6 @@
 -- What a crash may leave of a byte that was written over.
 use Rattle.std.specs.Prelude.{◌≡◌, ℕ, List, [], ◌∷◌}
-use Rattle.crash_disk.specs.History.{Event, left_at}
+use Rattle.crash_disk.specs.History.{left_at}
 use Rattle.crash_disk.specs.History.Event.{Wrote, Synced}
 
 -- after the write of 167 over 0: the old byte, the new one, or any other

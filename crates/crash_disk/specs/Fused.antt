@@ -1,7 +1,7 @@
 -- What a `FusedDisk` shows.
 use Rattle.std.specs.Prelude.{◌≡◌, ℕ, ◌+◌, nat_lt, nat_le, Bool, ◌&&◌, List, length, Option, Some}
 use Rattle.crash_disk.specs.Entries.{Line}
-use Rattle.crash_disk.specs.Notes.{Notes, lines_of, left_of}
+use Rattle.crash_disk.specs.Notes.{Notes, left_of}
 use Rattle.crash_disk.specs.declared.fused.FusedDisk.{FusedDisk}
 
 -- its members as a disk

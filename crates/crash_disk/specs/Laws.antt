@@ -1,11 +1,11 @@
 -- Laws of the history of a disk in memory.
-use Rattle.std.proofs.Common.{◌≡◌, ℕ, zero, suc, ◌+◌, ◌*◌, ◌≤◌, ◌<◌, min, max, Bool, true, false, ◌&&◌, List, [], ◌∷◌, ◌++◌, length, take, drop, refl, sym, ◌∙◌, ap, subst, arith, nat_le, cond, ⊎_elim, length-append}
+use Rattle.std.proofs.Common.{◌≡◌, ℕ, zero, suc, ◌+◌, ◌*◌, ◌≤◌, ◌<◌, min, true, List, [], ◌∷◌, ◌++◌, length, refl, sym, ◌∙◌, ap, subst, arith, nat_le, cond, ⊎_elim, length-append}
 use Rattle.std.proofs.lemmas.Bool.{and_from, and_parts, leb-true, lt-ltb, le-ltb, cases_lt}
-use Rattle.store_spec.specs.Disk.{overwritten, torn_from, IsTorn, next_count}
+use Rattle.store_spec.specs.Disk.{next_count}
 use Rattle.crash_disk.specs.Entries.{with_one_more}
 use Rattle.store_spec.proofs.DiskMoments.{next_count-le}
 use Rattle.store_spec.proofs.TornBytes.{overwritten-torn}
-use Rattle.crash_disk.specs.History.{Event, State, settled_state, state_after, state_inside, state_at, torn_in, left_in, left_at, seen_after, begin_within}
+use Rattle.crash_disk.specs.History.{Event, State, settled_state, state_after, state_inside, state_at, left_in, left_at, seen_after, begin_within}
 use Rattle.crash_disk.specs.History.Event.{Wrote, Synced, Unchanged}
 
 -- two moments on, one call less is left

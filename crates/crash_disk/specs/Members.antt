@@ -1,7 +1,7 @@
 -- The law of a disk in memory that its bytes are one of its images.
-use Rattle.std.proofs.Common.{◌≡◌, ℕ, ◌*◌, ◌≤◌, min, List, length, map, Option, Some, sym, ◌∙◌, ap, subst, arith}
+use Rattle.std.proofs.Common.{◌≡◌, ℕ, ◌*◌, min, List, length, Some, ◌∙◌, subst, arith}
 use Rattle.std.proofs.lemmas.List.{length-map}
-use Rattle.crash_disk.specs.Entries.{Line, event_of, lines_in, line_of}
+use Rattle.crash_disk.specs.Entries.{event_of, line_of}
 use Rattle.crash_disk.specs.Laws.{seen-left_at}
 use Rattle.crash_disk.specs.Notes.{lines_of, history_of, left_of}
 use Rattle.crash_disk.specs.declared.medium.Medium.{Medium}

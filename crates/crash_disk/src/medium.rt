@@ -207,14 +207,12 @@ impl Medium {
         ensures noted { Notes (record { call = Write at (length bytes.now); passed = true; put = bytes.now }) self.old self.new }
         ensures written { self.new.bytes.items ≡ overwritten at bytes.now self.old.bytes.items }
     {
+        let count = bytes.len();
         let entry = Entry {
-            call: DiskCall::Write {
-                at,
-                count: bytes.len(),
-            },
+            call: DiskCall::Write { at, count },
             passed: true,
             start: self.written.len(),
-            count: bytes.len(),
+            count,
         };
         self.written.extend_from_slice(bytes).unwrap();
         overwrite(&mut self.bytes, at as usize, bytes);

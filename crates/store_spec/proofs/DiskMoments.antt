@@ -1,5 +1,5 @@
 -- How runs of disk calls go on. A proof about a layer cites these at each call, and looks at no bytes.
-use Rattle.std.proofs.Common.{◌≡◌, ℕ, ◌+◌, ◌*◌, ◌≤◌, ◌<◌, ◌↔◌, min, List, refl, sym, ◌∙◌, ap, subst, arith, ⊎_elim}
+use Rattle.std.proofs.Common.{◌≡◌, ℕ, ◌+◌, ◌≤◌, ◌<◌, List, sym, ◌∙◌, subst, arith, ⊎_elim}
 use Rattle.std.proofs.lemmas.Bool.{cases_lt, cond-true, lt-ltb}
 use Rattle.std.proofs.lemmas.Bool.Decides.{nat_tests}
 use Rattle.std.specs.Prelude.{Option, Some, nat_lt}
@@ -28,8 +28,8 @@ module _ {D : Type 0} (calls : D → ℕ) (may_leave : D → ℕ → List ℕ �
     later = omega arith;
     past = λ _ m le c. (λ left. left, λ left. left);
     each = λ _ m from to c left.
-      let now : m ≡ after_calls (calls disk) = omega arith in
-      here c (subst (λ t. may_leave disk t c) now left);
+        let now : m ≡ after_calls (calls disk) = omega arith in
+        here c (subst (λ t. may_leave disk t c) now left);
   }
 
   -- one call more, where each image that it may leave has P
@@ -39,23 +39,23 @@ module _ {D : Type 0} (calls : D → ℕ) (may_leave : D → ℕ → List ℕ �
       record {
         later = omega (arith, so_far.later);
         past = λ lt m le c.
-          let so = so_far.past (omega arith) m le c in
-          let step = call.past (omega arith) m (omega (arith, so_far.later)) c in
-          (λ left. so.0 (step.0 left), λ left. step.1 (so.1 left));
+            let so = so_far.past (omega arith) m le c in
+            let step = call.past (omega arith) m (omega (arith, so_far.later)) c in
+            (λ left. so.0 (step.0 left), λ left. step.1 (so.1 left));
         each = λ lt m from to c left.
-          let early : calls mid < LAST_COUNT = omega arith in
-          let next : calls new ≡ calls mid + 1 = call.counted ∙ next_count-below (calls mid) early in
-          ⊎_elim
+            let early : calls mid < LAST_COUNT = omega arith in
+            let next : calls new ≡ calls mid + 1 = call.counted ∙ next_count-below (calls mid) early in
+            ⊎_elim
             (λ (before : m < after_calls (calls mid) + 1). so_far.each early m from (omega arith) c ((call.past early m (omega arith) c).0 left))
             (λ (later : after_calls (calls mid) + 1 ≤ m).
-              ⊎_elim
-                (λ (inside : m < inside_next (calls mid) + 1).
-                  let is : m ≡ inside_next (calls mid) = omega arith in
-                  here early c (call.inside early c (subst (λ t. may_leave new t c) is left)))
-                (λ (after : inside_next (calls mid) + 1 ≤ m).
-                  let is : m ≡ after_calls (calls new) = omega arith in
-                  here early c (call.after c (subst (λ t. may_leave new t c) is left)))
-                (cases_lt m (inside_next (calls mid) + 1)))
+            ⊎_elim
+            (λ (inside : m < inside_next (calls mid) + 1).
+            let is : m ≡ inside_next (calls mid) = omega arith in
+            here early c (call.inside early c (subst (λ t. may_leave new t c) is left)))
+            (λ (after : inside_next (calls mid) + 1 ≤ m).
+            let is : m ≡ after_calls (calls new) = omega arith in
+            here early c (call.after c (subst (λ t. may_leave new t c) is left)))
+            (cases_lt m (inside_next (calls mid) + 1)))
             (cases_lt m (after_calls (calls mid) + 1));
       }
 
@@ -63,18 +63,18 @@ module _ {D : Type 0} (calls : D → ℕ) (may_leave : D → ℕ → List ℕ �
   pub goes_on_same : (old mid new : D) (P : List ℕ → Type 0) → LeavesOnly calls may_leave old mid P → LeavesAtMost calls may_leave (leaves_now calls may_leave mid) mid new → LeavesOnly calls may_leave old new P
   goes_on_same old mid new P so_far call =
       goes_on old mid new P (leaves_now calls may_leave mid) so_far call
-        (λ lt c left. so_far.each lt (after_calls (calls mid)) (omega (arith, so_far.later)) (omega arith) c left)
+      (λ lt c left. so_far.each lt (after_calls (calls mid)) (omega (arith, so_far.later)) (omega arith) c left)
 
   -- two runs, one after the other
   pub joined : (old mid new : D) (P : List ℕ → Type 0) → LeavesOnly calls may_leave old mid P → LeavesOnly calls may_leave mid new P → LeavesOnly calls may_leave old new P
   joined old mid new P one two = record {
     later = omega (arith, one.later, two.later);
     past = λ lt m le c.
-      let first = one.past (omega (arith, two.later)) m le c in
-      let second = two.past lt m (omega (arith, one.later)) c in
-      (λ left. first.0 (second.0 left), λ left. second.1 (first.1 left));
+        let first = one.past (omega (arith, two.later)) m le c in
+        let second = two.past lt m (omega (arith, one.later)) c in
+        (λ left. first.0 (second.0 left), λ left. second.1 (first.1 left));
     each = λ lt m from to c left.
-      ⊎_elim
+        ⊎_elim
         (λ (before : m < after_calls (calls mid)). one.each (omega (arith, two.later)) m from (omega arith) c ((two.past lt m (omega arith) c).0 left))
         (λ (after : after_calls (calls mid) ≤ m). two.each lt m after to c left)
         (cases_lt m (after_calls (calls mid)));
@@ -98,9 +98,9 @@ module _ {D : Type 0} (calls : D → ℕ) (may_leave : D → ℕ → List ℕ �
   pub range-more : (old new : D) (P : List ℕ → Type 0) (from : ℕ) → LeavesOnly calls may_leave old new P → calls new < LAST_COUNT → EachImage (may_leave old) from (after_calls (calls old)) P → EachImage (may_leave new) from (after_calls (calls new)) P
   range-more old new P from run lt range m begins le c left =
       ⊎_elim
-        (λ (before : m < after_calls (calls old)). range m begins (omega arith) c ((run.past lt m (omega arith) c).0 left))
-        (λ (after : after_calls (calls old) ≤ m). run.each lt m after le c left)
-        (cases_lt m (after_calls (calls old)))
+      (λ (before : m < after_calls (calls old)). range m begins (omega arith) c ((run.past lt m (omega arith) c).0 left))
+      (λ (after : after_calls (calls old) ≤ m). run.each lt m after le c left)
+      (cases_lt m (after_calls (calls old)))
 
   -- ---- written ranges
 
@@ -112,7 +112,7 @@ module _ {D : Type 0} (calls : D → ℕ) (may_leave : D → ℕ → List ℕ �
   pub goes_on_write : (at n from k : ℕ) (bytes : List ℕ) (old mid new : D) (P : List ℕ → Type 0) → LeavesOnly calls may_leave old mid P → LeavesTorn calls may_leave at n bytes mid → at ≤ from → from + k ≤ at + n → LeavesAtMost calls may_leave (torn_from from k (leaves_now calls may_leave mid)) mid new → ((c : List ℕ) → IsTorn at n bytes c → P c) → LeavesOnly calls may_leave old new P
   goes_on_write at n from k bytes old mid new P so_far torn begins ends call here =
       goes_on old mid new P (torn_from from k (leaves_now calls may_leave mid)) so_far call
-        (λ _ c left. here c (torn-write at n from k bytes mid c begins ends torn left))
+      (λ _ c left. here c (torn-write at n from k bytes mid c begins ends torn left))
 
   -- and what it leaves now
   pub torn-after_write : (at n from k : ℕ) (bytes : List ℕ) (mid new : D) → LeavesTorn calls may_leave at n bytes mid → at ≤ from → from + k ≤ at + n → LeavesAtMost calls may_leave (torn_from from k (leaves_now calls may_leave mid)) mid new → LeavesTorn calls may_leave at n bytes new

@@ -1,6 +1,6 @@
 -- What a torn range, and a write that succeeds, leave of the bytes.
-use Rattle.std.proofs.Common.{◌≡◌, ℕ, ◌+◌, ◌-◌, ◌≤◌, ◌<◌, min, max, List, [], ◌∷◌, ◌++◌, length, take, drop, refl, sym, ◌∙◌, ap, arith, length-append, length-drop, take-append-drop, append_assoc}
-use Rattle.std.proofs.lemmas.List.{length-take, take-take, drop-drop, take-append-le, take_all, drop_all, take_at, drop_at}
+use Rattle.std.proofs.Common.{◌≡◌, ℕ, ◌+◌, ◌-◌, ◌≤◌, max, List, ◌++◌, length, take, drop, refl, sym, ◌∙◌, ap, arith, length-append, length-drop, append_assoc}
+use Rattle.std.proofs.lemmas.List.{length-take, take-take, drop-drop, take_at, drop_at}
 use Rattle.std.proofs.lemmas.Slice.{between_is}
 use Rattle.std.specs.Prelude.{slice_range}
 use Rattle.store_spec.specs.Disk.{overwritten, IsTorn}

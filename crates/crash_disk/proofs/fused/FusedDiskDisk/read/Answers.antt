@@ -1,8 +1,5 @@
-use Rattle.std.proofs.Common.{◌≡◌, ◌<◌, [], length, rules, true, false}
-use Rattle.std.specs.Prelude.{is_ok, OnOk, OnErr}
+use Rattle.std.proofs.Common.{length}
 use Rattle.crash_disk.proofs.Elapsed.{read-images}
-use Rattle.crash_disk.specs.Notes.{Notes}
-use Rattle.crash_disk.specs.declared.entry.DiskCall.TheVariants.{Sync}
 use Rattle.crash_disk.specs.declared.fused.FusedDisk.{FusedDisk}
 use Rattle.crash_disk.proofs.fused.FusedDiskDisk.read.Goals as goal
 

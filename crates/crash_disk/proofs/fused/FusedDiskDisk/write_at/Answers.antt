@@ -1,8 +1,6 @@
-use Rattle.std.proofs.Common.{◌≡◌, ◌<◌, [], length, rules, true, false}
-use Rattle.std.specs.Prelude.{is_ok, OnOk, OnErr}
+use Rattle.std.proofs.Common.{◌<◌, length, rules}
+use Rattle.std.specs.Prelude.{OnOk}
 use Rattle.crash_disk.proofs.Elapsed.{write-unchanged, write-any, write-images}
-use Rattle.crash_disk.specs.Notes.{Notes}
-use Rattle.crash_disk.specs.declared.entry.DiskCall.TheVariants.{Sync}
 use Rattle.crash_disk.specs.declared.fused.FusedDisk.{FusedDisk}
 use Rattle.crash_disk.proofs.fused.FusedDiskDisk.write_at.Goals as goal
 

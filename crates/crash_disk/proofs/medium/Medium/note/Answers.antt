@@ -1,5 +1,5 @@
-use Rattle.std.proofs.Common.{◌≡◌, ℕ, ◌+◌, ◌≤◌, ◌<◌, arith, rules, sym, ◌∙◌, ap, subst}
-use Rattle.crash_disk.proofs.Record.{noted-replayed, noted-begins, noted-stored, noted-lines}
+use Rattle.std.proofs.Common.{arith}
+use Rattle.crash_disk.proofs.Record.{noted-replayed, noted-begins, noted-stored}
 use Rattle.crash_disk.proofs.medium.Medium.note.Goals as goal
 
 pub invariant_of-self-clause-replayed : goal.invariant_of-self-clause-replayed

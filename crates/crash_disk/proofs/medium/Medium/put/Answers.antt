@@ -1,8 +1,7 @@
-use Rattle.std.proofs.Common.{◌≡◌, ℕ, ◌+◌, ◌≤◌, ◌<◌, ◌++◌, List, length, arith, rules, sym, ◌∙◌, ap, subst, true}
+use Rattle.std.proofs.Common.{◌≡◌, ◌<◌, ◌++◌, length, arith, rules, sym, ◌∙◌, true}
 use Rattle.crash_disk.proofs.Record.{wrote-replayed, wrote-begins, wrote-stored, wrote-lines}
 use Rattle.store_spec.proofs.DiskMoments.{next_count-below}
 use Rattle.crash_disk.specs.Entries.{with_one_more}
-use Rattle.crash_disk.specs.declared.entry.Entry.{Entry}
 use Rattle.crash_disk.specs.declared.entry.DiskCall.TheVariants.{Write}
 use Rattle.crash_disk.proofs.medium.Medium.put.Goals as goal
 

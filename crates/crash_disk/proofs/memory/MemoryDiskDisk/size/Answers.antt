@@ -1,8 +1,4 @@
-use Rattle.std.proofs.Common.{◌≡◌, ◌<◌, [], length, rules, true, false}
-use Rattle.std.specs.Prelude.{is_ok, OnOk, OnErr}
 use Rattle.crash_disk.proofs.Elapsed.{size-images}
-use Rattle.crash_disk.specs.Notes.{Notes}
-use Rattle.crash_disk.specs.declared.entry.DiskCall.TheVariants.{Sync}
 use Rattle.crash_disk.specs.declared.memory.MemoryDisk.{MemoryDisk}
 use Rattle.crash_disk.proofs.memory.MemoryDiskDisk.size.Goals as goal
 

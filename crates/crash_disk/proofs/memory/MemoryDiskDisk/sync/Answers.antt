@@ -1,5 +1,5 @@
-use Rattle.std.proofs.Common.{◌≡◌, ◌<◌, [], length, rules, true, false}
-use Rattle.std.specs.Prelude.{is_ok, OnOk, OnErr}
+use Rattle.std.proofs.Common.{◌<◌, [], rules}
+use Rattle.std.specs.Prelude.{is_ok, OnOk}
 use Rattle.crash_disk.proofs.Elapsed.{sync-images, sync-inside, sync-settled, sync-unsettled}
 use Rattle.crash_disk.specs.Notes.{Notes}
 use Rattle.crash_disk.specs.declared.entry.DiskCall.TheVariants.{Sync}
