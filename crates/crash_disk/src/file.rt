@@ -24,7 +24,11 @@ pub struct FileDisk<'a, F: Files> {
 }
 
 impl<'a, F: Files> FileDisk<'a, F> {
-    pub fn new(rt: &'a F, path: &'a str) -> FileDisk<'a, F> {
+    /// A disk over the file of this path. It opens nothing yet.
+    pub fn new(rt: &'a F, path: &'a str) -> FileDisk<'a, F>
+        ensures no_calls { result.calls ≡ 0 }
+        ensures no_faults { result.faults ≡ 0 }
+    {
         FileDisk {
             files: rt,
             path,

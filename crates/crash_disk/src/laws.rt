@@ -1,6 +1,6 @@
 //! Laws of every disk, and of the disks in memory.
 
-ghost use Rattle.std.specs.Prelude.{◌≡◌, ℕ, ◌+◌, ◌≤◌, List, Some};
+ghost use Rattle.std.specs.Prelude.{◌≡◌, ℕ, ◌+◌, ◌≤◌, List, Some, None};
 ghost use Rattle.store_spec.specs.Disk.{leaves_now, torn_from, IsTorn, IsSettled, LeavesAtMost, LeavesOnly};
 ghost use Rattle.crash_disk.specs.Figures.{HasThreeImages, HasOneImage};
 
@@ -10,6 +10,11 @@ use crate::disk::Disk;
 pub fn only_image<D: Disk>()
     ensures only { (disk : D) (bytes c : List ℕ) → IsSettled D.seen D.calls D.may_leave disk → D.seen disk ≡ Some bytes → leaves_now D.calls D.may_leave disk c → c ≡ bytes }
     ensures image { (disk : D) (bytes : List ℕ) → IsSettled D.seen D.calls D.may_leave disk → D.seen disk ≡ Some bytes → leaves_now D.calls D.may_leave disk bytes }
+{}
+
+/// A disk that does not tell its bytes owes nothing: it is settled.
+pub fn untold_is_settled<D: Disk>()
+    ensures { (disk : D) → D.seen disk ≡ None → IsSettled D.seen D.calls D.may_leave disk }
 {}
 
 /// Two writes to a settled disk and a sync, whatever each of them answers: at each moment from the first call to the

@@ -106,8 +106,7 @@ fn file_disk_keeps_what_is_written(rt: HostRuntime) -> Result<(), Fail> {
     assert_eq!(rt; disk.write_at(1, b"x"), Err(Failed), "there is no byte 0");
     assert_eq!(rt; disk.write_at(0, b"abcd"), Ok(()));
     assert_eq!(rt; disk.write_at(4, b"efgh"), Ok(()));
-    assert_eq!(rt; disk.write_at(2, b"XY"), Ok(()));
-    assert_eq!(rt; disk.sync(), Ok(()));
+    assert_eq!(rt; replace(&mut disk, 2, b"XY"), Ok(()));
     assert_eq!(rt; disk.size(), Ok(8));
     let mut back = [0; 5];
     assert_eq!(rt; disk.read(1, &mut back), Ok(()));
