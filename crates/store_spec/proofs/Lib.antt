@@ -11,3 +11,5 @@ pub mod LaidOut
 pub mod OrderedCells
 pub mod Placing
 pub mod ValidMarks
+pub mod DiskMoments
+pub mod TornBytes

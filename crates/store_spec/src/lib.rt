@@ -6,6 +6,10 @@ pub mod line_laws;
 
 ghost use Rattle.store_spec.specs.Figures.{ExampleHomes, ExampleSizes, ExampleLayout, ExampleLines};
 
+mod disk;
+
+pub use disk::{torn_again, torn_range, written_range};
+
 /// The homes of some numbers under the example election.
 pub fn example_homes()
     ensures { ExampleHomes }
