@@ -1,7 +1,7 @@
 -- The numbers of a list in ascending order: whichever way the list is listed, and with the list's own numbers.
-use Rattle.std.proofs.Common.{◌≡◌, if◌then◌else◌, ◌==◌, ◌≢◌, ℕ, zero, suc, ◌+◌, ◌<◌, ◌≤◌, ◌⊎◌, inl, inr, ⊎_elim, List, [], ◌∷◌, length, get_or, set, sym, refl, ap, ◌∙◌, subst, arith}
+use Rattle.std.proofs.Common.{◌≡◌, if◌then◌else◌, ◌==◌, ◌≢◌, ℕ, zero, suc, ◌<◌, ◌≤◌, ◌⊎◌, inl, inr, ⊎_elim, List, [], ◌∷◌, length, get_or, set, sym, refl, ap, ◌∙◌, subst, arith}
 use Rattle.std.proofs.lemmas.Bool.{eq-eqb, ne_eqb, cases_lt, le-leb, lt-leb, cond-true, cond-false, cases_eq}
-use Rattle.std.proofs.lemmas.List.{get_or_default, set-get_or, get_or-set_other, get_or-set_same, length-set}
+use Rattle.std.proofs.lemmas.List.{get_or_default, get_or-set_other, get_or-set_same, length-set}
 use Rattle.std.proofs.lemmas.List.Kept.{AllPairs-cons}
 use Rattle.std.proofs.lemmas.List.Sorted.{IsPermutation-keeps}
 use Rattle.std.proofs.lemmas.List.Edits.{swap_is}
@@ -23,34 +23,34 @@ put_twice_tie v w xs e = ap (λ n. put_in_order n (put_in_order w xs)) e ∙ ap 
 put_twice_up : (v w : ℕ) (xs : List ℕ) → v < w → put_in_order v (put_in_order w xs) ≡ put_in_order w (put_in_order v xs)
 put_twice_up v w [] h = put_first v w [] (omega arith) ∙ sym (put_later w v [] h)
 put_twice_up v w (x ∷ xs) h = ⊎_elim
-  (λ (below : x < v).
-      ap (put_in_order v) (put_later w x xs (omega arith))
-      ∙ put_later v x (put_in_order w xs) below
-      ∙ ap (λ ys. x ∷ ys) (put_twice_up v w xs h)
-      ∙ sym (put_later w x (put_in_order v xs) (omega arith))
-      ∙ ap (put_in_order w) (sym (put_later v x xs below)))
-  (λ (above : v ≤ x).
-      let right : put_in_order w (put_in_order v (x ∷ xs)) ≡ v ∷ put_in_order w (x ∷ xs) =
-        ap (put_in_order w) (put_first v x xs above) ∙ put_later w v (x ∷ xs) h in
-      ⊎_elim
-      (λ (between : x < w).
-          ap (put_in_order v) (put_later w x xs between)
-          ∙ put_first v x (put_in_order w xs) above
-          ∙ ap (λ ys. v ∷ ys) (sym (put_later w x xs between))
-          ∙ sym right)
-      (λ (last : w ≤ x).
-          ap (put_in_order v) (put_first w x xs last)
-          ∙ put_first v w (x ∷ xs) (omega arith)
-          ∙ ap (λ ys. v ∷ ys) (sym (put_first w x xs last))
-          ∙ sym right)
-      (cases_lt x w))
-  (cases_lt x v)
+    (λ (below : x < v).
+    ap (put_in_order v) (put_later w x xs (omega arith))
+    ∙ put_later v x (put_in_order w xs) below
+    ∙ ap (λ ys. x ∷ ys) (put_twice_up v w xs h)
+    ∙ sym (put_later w x (put_in_order v xs) (omega arith))
+    ∙ ap (put_in_order w) (sym (put_later v x xs below)))
+    (λ (above : v ≤ x).
+    let right : put_in_order w (put_in_order v (x ∷ xs)) ≡ v ∷ put_in_order w (x ∷ xs) =
+    ap (put_in_order w) (put_first v x xs above) ∙ put_later w v (x ∷ xs) h in
+    ⊎_elim
+    (λ (between : x < w).
+    ap (put_in_order v) (put_later w x xs between)
+    ∙ put_first v x (put_in_order w xs) above
+    ∙ ap (λ ys. v ∷ ys) (sym (put_later w x xs between))
+    ∙ sym right)
+    (λ (last : w ≤ x).
+    ap (put_in_order v) (put_first w x xs last)
+    ∙ put_first v w (x ∷ xs) (omega arith)
+    ∙ ap (λ ys. v ∷ ys) (sym (put_first w x xs last))
+    ∙ sym right)
+    (cases_lt x w))
+    (cases_lt x v)
 
 put_twice : (v w : ℕ) (xs : List ℕ) → put_in_order v (put_in_order w xs) ≡ put_in_order w (put_in_order v xs)
 put_twice v w xs = ⊎_elim
-  (λ up. put_twice_up v w xs up)
-  (λ (h : w ≤ v). ⊎_elim (λ down. sym (put_twice_up w v xs down)) (λ (k : v ≤ w). put_twice_tie v w xs (omega arith)) (cases_lt w v))
-  (cases_lt v w)
+    (λ up. put_twice_up v w xs up)
+    (λ (h : w ≤ v). ⊎_elim (λ down. sym (put_twice_up w v xs down)) (λ (k : v ≤ w). put_twice_tie v w xs (omega arith)) (cases_lt w v))
+    (cases_lt v w)
 
 -- the list without the first such number
 abbrev without_first : ℕ → List ℕ → List ℕ
@@ -60,14 +60,14 @@ without_first v (x ∷ xs) = if x == v then xs else x ∷ without_first v xs
 without_put : (v : ℕ) (xs : List ℕ) → without_first v (put_in_order v xs) ≡ xs
 without_put v [] = cond-true _ _ _ (eq-eqb v v refl)
 without_put v (x ∷ xs) = ⊎_elim
-  (λ (below : x < v).
-      ap (without_first v) (put_later v x xs below)
-      ∙ cond-false _ _ _ (ne_eqb x v (λ e. omega arith))
-      ∙ ap (λ ys. x ∷ ys) (without_put v xs))
-  (λ (above : v ≤ x).
-      ap (without_first v) (put_first v x xs above)
-      ∙ cond-true _ _ _ (eq-eqb v v refl))
-  (cases_lt x v)
+    (λ (below : x < v).
+    ap (without_first v) (put_later v x xs below)
+    ∙ cond-false _ _ _ (ne_eqb x v (λ e. omega arith))
+    ∙ ap (λ ys. x ∷ ys) (without_put v xs))
+    (λ (above : v ≤ x).
+    ap (without_first v) (put_first v x xs above)
+    ∙ cond-true _ _ _ (eq-eqb v v refl))
+    (cases_lt x v)
 
 put_cancel : (v : ℕ) (xs ys : List ℕ) → put_in_order v xs ≡ put_in_order v ys → xs ≡ ys
 put_cancel v xs ys e = sym (without_put v xs) ∙ ap (without_first v) e ∙ without_put v ys
@@ -87,13 +87,13 @@ ascending_swap xs i j hi hj =
     let b = get_or xs j 0 in
     let once = set xs i b in
     let still : get_or once j 0 ≡ b = ⊎_elim
-      (λ (e : j ≡ i). ap (λ k. get_or once k 0) e ∙ get_or-set_same xs i b 0 hi)
-      (λ (n : j ≢ i). get_or-set_other xs i j b 0 n)
-      (cases_eq j i) in
+    (λ (e : j ≡ i). ap (λ k. get_or once k 0) e ∙ get_or-set_same xs i b 0 hi)
+    (λ (n : j ≢ i). get_or-set_other xs i j b 0 n)
+    (cases_eq j i) in
     let twice : put_in_order b (ascending (set once j a)) ≡ put_in_order b (ascending xs) =
-      ap (λ v. put_in_order v (ascending (set once j a))) (sym still)
-      ∙ ascending_set once j a (omega (arith, length-set xs i b))
-      ∙ ascending_set xs i b hi in
+    ap (λ v. put_in_order v (ascending (set once j a))) (sym still)
+    ∙ ascending_set once j a (omega (arith, length-set xs i b))
+    ∙ ascending_set xs i b hi in
     ap ascending (sym (swap_is xs i j 0 hi hj)) ∙ put_cancel b _ _ twice
 
 pub ascending-IsPermutation : (xs ys : List ℕ) → IsPermutation xs ys → ascending ys ≡ ascending xs
@@ -128,22 +128,22 @@ contains_from_in v (x ∷ xs) (inr h) = let c = contains_from_in v xs h in (suc 
 in_put : (v w : ℕ) (xs : List ℕ) → (w ≡ v) ⊎ IsIn v xs → IsIn v (put_in_order w xs)
 in_put v w [] h = h
 in_put v w (x ∷ xs) h = ⊎_elim
-  (λ (below : x < w).
-      let P = λ (ys : List ℕ). IsIn v ys in
-      subst P (sym (put_later w x xs below))
-      (⊎_elim (λ e. inr (in_put v w xs (inl e))) (λ k. ⊎_elim (λ e. inl e) (λ m. inr (in_put v w xs (inr m))) k) h))
-  (λ (above : w ≤ x). let P = λ (ys : List ℕ). IsIn v ys in subst P (sym (put_first w x xs above)) h)
-  (cases_lt x w)
+    (λ (below : x < w).
+    let P = λ (ys : List ℕ). IsIn v ys in
+    subst P (sym (put_later w x xs below))
+    (⊎_elim (λ e. inr (in_put v w xs (inl e))) (λ k. ⊎_elim (λ e. inl e) (λ m. inr (in_put v w xs (inr m))) k) h))
+    (λ (above : w ≤ x). let P = λ (ys : List ℕ). IsIn v ys in subst P (sym (put_first w x xs above)) h)
+    (cases_lt x w)
 
 from_put : (v w : ℕ) (xs : List ℕ) → IsIn v (put_in_order w xs) → (w ≡ v) ⊎ IsIn v xs
 from_put v w [] h = h
 from_put v w (x ∷ xs) h = ⊎_elim
-  (λ (below : x < w).
-      let P = λ (ys : List ℕ). IsIn v ys in
-      let k : IsIn v (x ∷ put_in_order w xs) = subst P (put_later w x xs below) h in
-      ⊎_elim (λ e. inr (inl e)) (λ m. ⊎_elim (λ e. inl e) (λ n. inr (inr n)) (from_put v w xs m)) k)
-  (λ (above : w ≤ x). let P = λ (ys : List ℕ). IsIn v ys in subst P (put_first w x xs above) h)
-  (cases_lt x w)
+    (λ (below : x < w).
+    let P = λ (ys : List ℕ). IsIn v ys in
+    let k : IsIn v (x ∷ put_in_order w xs) = subst P (put_later w x xs below) h in
+    ⊎_elim (λ e. inr (inl e)) (λ m. ⊎_elim (λ e. inl e) (λ n. inr (inr n)) (from_put v w xs m)) k)
+    (λ (above : w ≤ x). let P = λ (ys : List ℕ). IsIn v ys in subst P (put_first w x xs above) h)
+    (cases_lt x w)
 
 pub in_ascending : (v : ℕ) (xs : List ℕ) → IsIn v xs → IsIn v (ascending xs)
 in_ascending v [] h = absurd h
@@ -157,9 +157,9 @@ from_ascending v (x ∷ xs) h = ⊎_elim inl (λ k. inr (from_ascending v xs k))
 length_put : (v : ℕ) (xs : List ℕ) → length (put_in_order v xs) ≡ suc (length xs)
 length_put v [] = refl
 length_put v (x ∷ xs) = ⊎_elim
-  (λ (below : x < v). ap length (put_later v x xs below) ∙ ap suc (length_put v xs))
-  (λ (above : v ≤ x). ap length (put_first v x xs above))
-  (cases_lt x v)
+    (λ (below : x < v). ap length (put_later v x xs below) ∙ ap suc (length_put v xs))
+    (λ (above : v ≤ x). ap length (put_first v x xs above))
+    (cases_lt x v)
 
 pub length-ascending : (xs : List ℕ) → length (ascending xs) ≡ length xs
 length-ascending [] = refl
@@ -175,16 +175,16 @@ IsRising (x ∷ xs) = ((y : ℕ) → IsIn y xs → x < y) × IsRising xs
 put_rising : (v : ℕ) (xs : List ℕ) → (IsIn v xs → ⊥) → IsRising xs → IsRising (put_in_order v xs)
 put_rising v [] new h = (λ y i. absurd i, tt)
 put_rising v (x ∷ xs) new h = ⊎_elim
-  (λ (below : x < v).
-      let P = λ (ys : List ℕ). IsRising ys in
-      subst P (sym (put_later v x xs below))
-      (λ y i. ⊎_elim (λ (e : v ≡ y). omega arith) (λ m. h.0 y m) (from_put y v xs i), put_rising v xs (λ i. new (inr i)) h.1))
-  (λ (above : v ≤ x).
-      let P = λ (ys : List ℕ). IsRising ys in
-      let apart : x ≢ v = λ e. new (inl e) in
-      subst P (sym (put_first v x xs above))
-      (λ y i. ⊎_elim (λ (e : x ≡ y). omega arith) (λ m. let later : x < y = h.0 y m in omega arith) i, h))
-  (cases_lt x v)
+    (λ (below : x < v).
+    let P = λ (ys : List ℕ). IsRising ys in
+    subst P (sym (put_later v x xs below))
+    (λ y i. ⊎_elim (λ (e : v ≡ y). omega arith) (λ m. h.0 y m) (from_put y v xs i), put_rising v xs (λ i. new (inr i)) h.1))
+    (λ (above : v ≤ x).
+    let P = λ (ys : List ℕ). IsRising ys in
+    let apart : x ≢ v = λ e. new (inl e) in
+    subst P (sym (put_first v x xs above))
+    (λ y i. ⊎_elim (λ (e : x ≡ y). omega arith) (λ m. let later : x < y = h.0 y m in omega arith) i, h))
+    (cases_lt x v)
 
 pub ascending_distinct : (xs : List ℕ) → AllPairs (λ a b. a ≢ b) xs → IsRising (ascending xs)
 ascending_distinct [] h = tt
@@ -196,14 +196,14 @@ ascending_distinct (x ∷ xs) h =
 rising_without : (v : ℕ) (xs : List ℕ) → IsRising (put_in_order v xs) → (IsIn v xs → ⊥) × IsRising xs
 rising_without v [] h = (λ i. i, tt)
 rising_without v (x ∷ xs) h = ⊎_elim
-  (λ (below : x < v).
-      let k : IsRising (x ∷ put_in_order v xs) = subst (λ (ys : List ℕ). IsRising ys) (put_later v x xs below) h in
-      let rest = rising_without v xs k.1 in
-      (λ i. ⊎_elim (λ (e : x ≡ v). omega arith) (λ m. rest.0 m) i, (λ y m. k.0 y (in_put y v xs (inr m)), rest.1)))
-  (λ (above : v ≤ x).
-      let k : IsRising (v ∷ x ∷ xs) = subst (λ (ys : List ℕ). IsRising ys) (put_first v x xs above) h in
-      (λ i. let less : v < v = k.0 v i in omega arith, k.1))
-  (cases_lt x v)
+    (λ (below : x < v).
+    let k : IsRising (x ∷ put_in_order v xs) = subst (λ (ys : List ℕ). IsRising ys) (put_later v x xs below) h in
+    let rest = rising_without v xs k.1 in
+    (λ i. ⊎_elim (λ (e : x ≡ v). omega arith) (λ m. rest.0 m) i, (λ y m. k.0 y (in_put y v xs (inr m)), rest.1)))
+    (λ (above : v ≤ x).
+    let k : IsRising (v ∷ x ∷ xs) = subst (λ (ys : List ℕ). IsRising ys) (put_first v x xs above) h in
+    (λ i. let less : v < v = k.0 v i in omega arith, k.1))
+    (cases_lt x v)
 
 -- numbers are distinct where they rise in order
 pub distinct_from_ascending : (xs : List ℕ) → IsRising (ascending xs) → AllPairs (λ a b. a ≢ b) xs
@@ -211,7 +211,7 @@ distinct_from_ascending [] h = λ i j d lt within. absurd (omega arith)
 distinct_from_ascending (x ∷ xs) h =
     let parts = rising_without x (ascending xs) h in
     let apart : All (λ b. x ≢ b) xs = λ k d within. λ e.
-      parts.0 (in_ascending x xs (in_from_contains x xs (k, within, get_or_default xs k x d within ∙ sym e))) in
+    parts.0 (in_ascending x xs (in_from_contains x xs (k, within, get_or_default xs k x d within ∙ sym e))) in
     AllPairs-cons (λ a b. a ≢ b) x xs apart (distinct_from_ascending xs parts.1)
 
 -- so they are in any order

@@ -1,18 +1,18 @@
 -- The layout of a set of numbers is ordered, holds exactly these numbers, and leaves its last cell empty.
-use Rattle.std.proofs.Common.{◌≡◌, ◌≢◌, ℕ, zero, suc, ◌+◌, ◌-◌, ◌<◌, ◌≤◌, ◌⊎◌, inl, inr, ⊎_elim, List, [], ◌∷◌, length, get_or, set, replicate, drop, sym, refl, ap, ◌∙◌, subst, arith}
+use Rattle.std.proofs.Common.{◌≡◌, ◌≢◌, ℕ, zero, suc, ◌+◌, ◌-◌, ◌<◌, ◌≤◌, inl, inr, ⊎_elim, List, [], ◌∷◌, length, get_or, set, replicate, drop, sym, refl, ap, ◌∙◌, subst, arith}
 use Rattle.std.proofs.lemmas.Bool.{cases_eq, cases_lt}
 use Rattle.std.proofs.lemmas.List.{get_or-set_other, get_or-set_same, length-set, length-replicate, length-drop, drop_more}
 use Rattle.std.proofs.lemmas.List.Elements.{All-contains, Contains-get_or}
 use Rattle.std.proofs.lemmas.List.Kept.{AllPairs-cons}
 use Rattle.std.proofs.lemmas.List.Sorted.{All-permutation, length_permutation}
-use Rattle.std.specs.List.{All, Contains, AllPairs}
+use Rattle.std.specs.List.{All, AllPairs}
 use Rattle.std.specs.List.Sorted.{IsPermutation, IsNonDecreasing}
 use Rattle.std.specs.Prelude.{slice_index}
-use Rattle.store_spec.proofs.Ascending.{IsIn, IsRising, in_ascending, from_ascending, in_from_contains, contains_from_in, length-ascending, ascending_distinct, ascending-IsPermutation, ascending_rising, distinct-IsPermutation}
-use Rattle.store_spec.proofs.OrderedCells.{same_cells, place_from_contains, contains_from_place, place_within}
+use Rattle.store_spec.proofs.Ascending.{IsIn, IsRising, in_ascending, from_ascending, in_from_contains, contains_from_in, length-ascending, ascending_distinct, ascending_rising, distinct-IsPermutation}
+use Rattle.store_spec.proofs.OrderedCells.{same_cells, place_from_contains, contains_from_place}
 use Rattle.store_spec.proofs.Placing.{first_empty, placed_at, filled, filled_none, filled_set, filled_to_end}
 use Rattle.store_spec.specs.Probe.{IsFilled, IsFirstEmpty}
-use Rattle.store_spec.specs.Layout.{placed, laid_out, ascending, layout_of, IsOrdered, HoldsExactly, HasRoom, IsLayout}
+use Rattle.store_spec.specs.Layout.{laid_out, ascending, layout_of, IsOrdered, HoldsExactly, HasRoom, IsLayout}
 
 -- what placing keeps, number by number
 pub record IsLaidOut (home : ℕ → ℕ) (count : ℕ) (numbers cells : List ℕ) : Type 0 where
@@ -36,11 +36,11 @@ none_laid_out home count = record {
   size = length-replicate count 0;
   ordered = record {
     from_home = λ p n. absurd (n (empty_cell count p));
-    greater_before = λ p q n from before. absurd (n (empty_cell count p))
+    greater_before = λ p q n from before. absurd (n (empty_cell count p));
   };
   each = λ v i. absurd i;
   only = λ p n. absurd (n (empty_cell count p));
-  few = omega (arith, filled_none count)
+  few = omega (arith, filled_none count);
 }
 
 -- one number more, less than all the others, in the first empty cell
@@ -54,22 +54,22 @@ more_ordered home v greater cells p least h only first =
     let old = λ (q : ℕ) (n : q ≢ p). get_or-set_other cells p q v 0 n in
     record {
       from_home = λ q n. ⊎_elim
-        (λ (e : q ≡ p). subst (λ (w : ℕ). home w ≤ q) (sym (new q e)) (let le = first.after in omega arith))
-        (λ (d : q ≢ p). subst (λ (w : ℕ). home w ≤ q) (sym (old q d)) (h.from_home q (λ z. n (old q d ∙ z))))
-        (cases_eq q p);
+          (λ (e : q ≡ p). subst (λ (w : ℕ). home w ≤ q) (sym (new q e)) (let le = first.after in omega arith))
+          (λ (d : q ≢ p). subst (λ (w : ℕ). home w ≤ q) (sym (old q d)) (h.from_home q (λ z. n (old q d ∙ z))))
+          (cases_eq q p);
       greater_before = λ q k n from before. ⊎_elim
-        (λ (e : q ≡ p).
-            let from_v : home v ≤ k = subst (λ (w : ℕ). home w ≤ k) (new q e) from in
-            let other : k ≢ p = λ z. omega arith in
-            let held = first.full k from_v (omega arith) in
-            let more : v < get_or cells k 0 = least _ (only k held) in
-            omega (arith, new q e, old k other))
-        (λ (d : q ≢ p).
-            let held : get_or cells q 0 ≢ 0 = λ z. n (old q d ∙ z) in
-            let more : get_or cells q 0 < get_or cells k 0 = h.greater_before q k held (subst (λ (w : ℕ). home w ≤ k) (old q d) from) before in
-            let other : k ≢ p = λ z. let gone : get_or cells k 0 ≡ 0 = ap (λ m. get_or cells m 0) z ∙ first.empty in omega arith in
-            omega (arith, old q d, old k other))
-        (cases_eq q p)
+          (λ (e : q ≡ p).
+          let from_v : home v ≤ k = subst (λ (w : ℕ). home w ≤ k) (new q e) from in
+          let other : k ≢ p = λ z. omega arith in
+          let held = first.full k from_v (omega arith) in
+          let more : v < get_or cells k 0 = least _ (only k held) in
+          omega (arith, new q e, old k other))
+          (λ (d : q ≢ p).
+          let held : get_or cells q 0 ≢ 0 = λ z. n (old q d ∙ z) in
+          let more : get_or cells q 0 < get_or cells k 0 = h.greater_before q k held (subst (λ (w : ℕ). home w ≤ k) (old q d) from) before in
+          let other : k ≢ p = λ z. let gone : get_or cells k 0 ≡ 0 = ap (λ m. get_or cells m 0) z ∙ first.empty in omega arith in
+          omega (arith, old q d, old k other))
+          (cases_eq q p);
     }
 
 more_laid_out : (home : ℕ → ℕ) (count v : ℕ) (greater cells : List ℕ) (p : ℕ) → v ≢ 0 → ((y : ℕ) → IsIn y greater → (y ≢ 0) × (v < y)) → IsLaidOut home count greater cells → IsFirstEmpty cells (home v) p → IsLaidOut home count (v ∷ greater) (set cells p v)
@@ -80,25 +80,25 @@ more_laid_out home count v greater cells p n least h first =
       size = length-set cells p v ∙ h.size;
       ordered = more_ordered home v greater cells p (λ y i. (least y i).1) h.ordered h.only first;
       each = λ y i. ⊎_elim
-        (λ (e : v ≡ y). (p, omega (arith, length-set cells p v, first.within), new p refl ∙ e))
-        (λ j.
-            let s = h.each y j in
-            let other : s.0 ≢ p = λ z. (least y j).0 (sym s.2 ∙ ap (λ m. get_or cells m 0) z ∙ first.empty) in
-            (s.0, omega (arith, length-set cells p v, s.1), old s.0 other ∙ s.2))
-        i;
+          (λ (e : v ≡ y). (p, omega (arith, length-set cells p v, first.within), new p refl ∙ e))
+          (λ j.
+          let s = h.each y j in
+          let other : s.0 ≢ p = λ z. (least y j).0 (sym s.2 ∙ ap (λ m. get_or cells m 0) z ∙ first.empty) in
+          (s.0, omega (arith, length-set cells p v, s.1), old s.0 other ∙ s.2))
+          i;
       only = λ q some. ⊎_elim
-        (λ (e : q ≡ p). inl (sym (new q e)))
-        (λ (d : q ≢ p). inr (subst (λ (w : ℕ). IsIn w greater) (sym (old q d)) (h.only q (λ z. some (old q d ∙ z)))))
-        (cases_eq q p);
-      few = omega (arith, filled_set cells p v, h.few)
+          (λ (e : q ≡ p). inl (sym (new q e)))
+          (λ (d : q ≢ p). inr (subst (λ (w : ℕ). IsIn w greater) (sym (old q d)) (h.only q (λ z. some (old q d ∙ z)))))
+          (cases_eq q p);
+      few = omega (arith, filled_set cells p v, h.few);
     }
 
 -- the place that the next number finds
 pub place_of_next : (home : ℕ → ℕ) (homes count v : ℕ) (greater cells : List ℕ) → home v < homes → homes + length (v ∷ greater) ≤ count → IsLaidOut home count greater cells → (p : ℕ) × IsFirstEmpty cells (home v) p
 place_of_next home homes count v greater cells homed room h = ⊎_elim
-  (λ s. s)
-  (λ full. absurd (omega (arith, filled_to_end (home v) cells full, h.few, h.size)))
-  (first_empty (home v) cells)
+    (λ s. s)
+    (λ full. absurd (omega (arith, filled_to_end (home v) cells full, h.few, h.size)))
+    (first_empty (home v) cells)
 
 pub laid_out_is : (home : ℕ → ℕ) (homes count : ℕ) (numbers : List ℕ) → IsRising numbers → AreHomed home homes numbers → homes + length numbers ≤ count → IsLaidOut home count numbers (laid_out home count numbers)
 laid_out_is home homes count [] rising homed room = none_laid_out home count
@@ -114,16 +114,16 @@ laid_out_is home homes count (v ∷ greater) rising homed room =
 -- the last cell is empty
 pub last_cell : (home : ℕ → ℕ) (homes count : ℕ) (numbers cells : List ℕ) → AreHomed home homes numbers → homes + length numbers ≤ count → IsLaidOut home count numbers cells → get_or cells (count - 1) 0 ≡ 0
 last_cell home homes count numbers cells homed room h = ⊎_elim
-  (λ (e : get_or cells (count - 1) 0 ≡ 0). e)
-  (λ (n : get_or cells (count - 1) 0 ≢ 0).
-      let last = get_or cells (count - 1) 0 in
-      let own = homed last (h.only (count - 1) n) in
-      let full : IsFilled cells (home last) (length cells) = λ k from to. ⊎_elim
-        (λ (before : k < count - 1). let more = h.ordered.greater_before (count - 1) k n from before in λ z. omega arith)
-        (λ (end : count - 1 ≤ k). let same : k ≡ count - 1 = omega (arith, h.size) in λ z. n (ap (λ m. get_or cells m 0) (sym same) ∙ z))
-        (cases_lt k (count - 1)) in
-      absurd (omega (arith, filled_to_end (home last) cells full, h.few, h.size, own.1)))
-  (cases_eq (get_or cells (count - 1) 0) 0)
+    (λ (e : get_or cells (count - 1) 0 ≡ 0). e)
+    (λ (n : get_or cells (count - 1) 0 ≢ 0).
+    let last = get_or cells (count - 1) 0 in
+    let own = homed last (h.only (count - 1) n) in
+    let full : IsFilled cells (home last) (length cells) = λ k from to. ⊎_elim
+    (λ (before : k < count - 1). let more = h.ordered.greater_before (count - 1) k n from before in λ z. omega arith)
+    (λ (end : count - 1 ≤ k). let same : k ≡ count - 1 = omega (arith, h.size) in λ z. n (ap (λ m. get_or cells m 0) (sym same) ∙ z))
+    (cases_lt k (count - 1)) in
+    absurd (omega (arith, filled_to_end (home last) cells full, h.few, h.size, own.1)))
+    (cases_eq (get_or cells (count - 1) 0) 0)
 
 -- ---- the laws
 
@@ -146,11 +146,11 @@ layout_of_is home homes count numbers h =
       exactly = record {
         each = λ v c. let s = laid.each v (in_ascending v numbers (in_from_contains v numbers c)) in contains_from_place cells v s.0 s.1 s.2;
         only = λ v n c.
-          let s = place_from_contains cells v c in
-          let i = laid.only s.0 (λ z. n (sym s.2 ∙ z)) in
-          contains_from_in v numbers (from_ascending v numbers (subst (λ (w : ℕ). IsIn w (ascending numbers)) s.2 i))
+            let s = place_from_contains cells v c in
+            let i = laid.only s.0 (λ z. n (sym s.2 ∙ z)) in
+            contains_from_in v numbers (from_ascending v numbers (subst (λ (w : ℕ). IsIn w (ascending numbers)) s.2 i));
       };
-      last_empty = last_cell home homes count (ascending numbers) cells (homed_ascending home homes count numbers h) (omega (arith, h.room, length-ascending numbers)) laid
+      last_empty = last_cell home homes count (ascending numbers) cells (homed_ascending home homes count numbers h) (omega (arith, h.room, length-ascending numbers)) laid;
     }
 
 pub ordered_is_layout_of : (home : ℕ → ℕ) (homes count : ℕ) (numbers cells : List ℕ) → HasRoom home homes count numbers → length cells ≡ count → IsOrdered home cells → HoldsExactly cells numbers → cells ≡ layout_of home count numbers
@@ -178,7 +178,7 @@ room-IsPermutation home homes count xs ys p h = record {
   distinct = distinct-IsPermutation xs ys p h.distinct;
   some = All-permutation (λ v. v ≢ 0) xs ys p h.some;
   homed = All-permutation (λ v. home v < homes) xs ys p h.homed;
-  room = let len = length_permutation xs ys p in let enough = h.room in omega arith
+  room = let len = length_permutation xs ys p in let enough = h.room in omega arith;
 }
 
 -- ---- the next number down

@@ -1,5 +1,5 @@
 -- Ordered cells with the same numbers are equal.
-use Rattle.std.proofs.Common.{◌≡◌, ◌≢◌, ℕ, zero, suc, ◌+◌, ◌<◌, ◌≤◌, ◌⊎◌, inl, inr, ⊎_elim, List, [], ◌∷◌, length, get_or, sym, refl, ap, ◌∙◌, subst, arith}
+use Rattle.std.proofs.Common.{◌≡◌, ◌≢◌, ℕ, zero, suc, ◌+◌, ◌<◌, ◌≤◌, ⊎_elim, List, [], ◌∷◌, length, get_or, sym, refl, ap, ◌∙◌, subst, arith}
 use Rattle.std.proofs.lemmas.Bool.{cases_order, cases_eq, cases_lt}
 use Rattle.std.proofs.lemmas.List.{get_or_default, get_or_past, ext_get_or}
 use Rattle.std.specs.List.{Contains}
@@ -42,18 +42,18 @@ above_before home cells v p q h n e from before =
 
 one_way : (home : ℕ → ℕ) (a b : List ℕ) (v p q : ℕ) → IsOrdered home a → IsOrdered home b → v ≢ 0 → AgreeAbove v a b → AgreeAbove v b a → get_or a p 0 ≡ v → get_or b q 0 ≡ v → get_or b p 0 ≡ v
 one_way home a b v p q ha hb n ab ba ea eb = ⊎_elim
-  (λ (same : p ≡ q). ap (λ k. get_or b k 0) same ∙ eb)
-  (λ s. ⊎_elim
+    (λ (same : p ≡ q). ap (λ k. get_or b k 0) same ∙ eb)
+    (λ s. ⊎_elim
     (λ (early : p < q).
-        let more : v < get_or b p 0 = above_before home b v q p hb n eb (home_before home a v p ha n ea) early in
-        let there : get_or a p 0 ≡ get_or b p 0 = ba _ p more refl in
-        absurd (omega arith))
+    let more : v < get_or b p 0 = above_before home b v q p hb n eb (home_before home a v p ha n ea) early in
+    let there : get_or a p 0 ≡ get_or b p 0 = ba _ p more refl in
+    absurd (omega arith))
     (λ (late : q < p).
-        let more : v < get_or a q 0 = above_before home a v p q ha n ea (home_before home b v q hb n eb) late in
-        let there : get_or b q 0 ≡ get_or a q 0 = ab _ q more refl in
-        absurd (omega arith))
+    let more : v < get_or a q 0 = above_before home a v p q ha n ea (home_before home b v q hb n eb) late in
+    let there : get_or b q 0 ≡ get_or a q 0 = ab _ q more refl in
+    absurd (omega arith))
     s)
-  (cases_order p q)
+    (cases_order p q)
 
 -- the numbers of the first stand in the second too
 abbrev AllStandIn : List ℕ → List ℕ → Type 0
@@ -68,22 +68,23 @@ same_places home a b ha hb ab ba zero v few n =
     (λ p e. absurd (omega (arith, le_total a p)), λ p e. absurd (omega (arith, le_total b p)))
 same_places home a b ha hb ab ba (suc left) v few n =
     let above_ab : AgreeAbove v a b = λ w p lt e. (same_places home a b ha hb ab ba left w (omega arith) (omega arith)).0 p e in
-    let above_ba : AgreeAbove v b a = λ w p lt e. (same_places home a b ha hb ab ba left w (omega arith) (omega arith)).1 p e in
-    (λ p e.
-        let other = place_from_contains b v (ab v n (contains_from_place a v p (place_within a p (λ z. n (sym e ∙ z))) e)) in
-        one_way home a b v p other.0 ha hb n above_ab above_ba e other.2,
+    let above_ba : AgreeAbove v b a = λ w p lt e. (same_places home a b ha hb ab ba left w (omega arith) (omega arith)).1 p e in (
       λ p e.
-        let other = place_from_contains a v (ba v n (contains_from_place b v p (place_within b p (λ z. n (sym e ∙ z))) e)) in
-        one_way home b a v p other.0 hb ha n above_ba above_ab e other.2)
+          let other = place_from_contains b v (ab v n (contains_from_place a v p (place_within a p (λ z. n (sym e ∙ z))) e)) in
+          one_way home a b v p other.0 ha hb n above_ab above_ba e other.2,
+      λ p e.
+          let other = place_from_contains a v (ba v n (contains_from_place b v p (place_within b p (λ z. n (sym e ∙ z))) e)) in
+          one_way home b a v p other.0 hb ha n above_ba above_ab e other.2,
+    )
 
 same_cell : (home : ℕ → ℕ) (a b : List ℕ) → IsOrdered home a → IsOrdered home b → AllStandIn a b → AllStandIn b a → (p : ℕ) → get_or a p 0 ≡ get_or b p 0
 same_cell home a b ha hb ab ba p =
     let both = λ (v : ℕ) (n : v ≢ 0). same_places home a b ha hb ab ba (total a + total b + 1) v (omega arith) n in
     ⊎_elim
     (λ (empty : get_or a p 0 ≡ 0). ⊎_elim
-      (λ (also : get_or b p 0 ≡ 0). empty ∙ sym also)
-      (λ (n : get_or b p 0 ≢ 0). (both (get_or b p 0) n).1 p refl)
-      (cases_eq (get_or b p 0) 0))
+    (λ (also : get_or b p 0 ≡ 0). empty ∙ sym also)
+    (λ (n : get_or b p 0 ≢ 0). (both (get_or b p 0) n).1 p refl)
+    (cases_eq (get_or b p 0) 0))
     (λ (n : get_or a p 0 ≢ 0). sym ((both (get_or a p 0) n).0 p refl))
     (cases_eq (get_or a p 0) 0)
 

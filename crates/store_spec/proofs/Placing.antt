@@ -1,6 +1,6 @@
 -- Putting one number into the first empty cell at or after a place, and how many cells are filled.
-use Rattle.std.proofs.Common.{◌≡◌, ◌≢◌, if◌then◌else◌, ◌==◌, ℕ, zero, suc, ◌+◌, ◌<◌, ◌≤◌, ◌⊎◌, inl, inr, ⊎_elim, List, [], ◌∷◌, length, get_or, set, replicate, sym, refl, ap, ◌∙◌, subst, arith}
-use Rattle.std.proofs.lemmas.Bool.{eq-eqb, ne_eqb, cases_lt, cond-true, cond-false, cases_eq}
+use Rattle.std.proofs.Common.{◌≡◌, ◌≢◌, if◌then◌else◌, ◌==◌, ℕ, zero, suc, ◌+◌, ◌<◌, ◌≤◌, ◌⊎◌, inl, inr, ⊎_elim, List, [], ◌∷◌, length, get_or, set, replicate, refl, ap, ◌∙◌, arith}
+use Rattle.std.proofs.lemmas.Bool.{eq-eqb, ne_eqb, cond-true, cond-false, cases_eq}
 use Rattle.store_spec.specs.Layout.{placed}
 use Rattle.store_spec.specs.Probe.{IsFilled, IsFirstEmpty}
 
@@ -27,16 +27,16 @@ filled_after cell cells to n h (suc k) le lt = h k (omega arith) (omega arith)
 pub first_empty : (place : ℕ) (cells : List ℕ) → ((p : ℕ) × IsFirstEmpty cells place p) ⊎ IsFilled cells place (length cells)
 first_empty place [] = inr (λ k le lt. absurd (omega arith))
 first_empty zero (cell ∷ cells) = ⊎_elim
-  (λ (e : cell ≡ 0). inl (0, record { after = omega arith; within = omega arith; empty = e; full = λ k le lt. absurd (omega arith) }))
-  (λ (n : cell ≢ 0). ⊎_elim
+    (λ (e : cell ≡ 0). inl (0, record { after = omega arith; within = omega arith; empty = e; full = λ k le lt. absurd (omega arith) }))
+    (λ (n : cell ≢ 0). ⊎_elim
     (λ s. let h = s.1 in let lt = h.within in inl (suc s.0, record { after = omega arith; within = omega arith; empty = h.empty; full = filled_after cell cells s.0 n h.full }))
     (λ full. inr (filled_after cell cells (length cells) n full))
     (first_empty zero cells))
-  (cases_eq cell 0)
+    (cases_eq cell 0)
 first_empty (suc place) (cell ∷ cells) = ⊎_elim
-  (λ s. let h = s.1 in let le = h.after in let lt = h.within in inl (suc s.0, record { after = omega arith; within = omega arith; empty = h.empty; full = filled_on cell cells place s.0 h.full }))
-  (λ full. inr (filled_on cell cells place (length cells) full))
-  (first_empty place cells)
+    (λ s. let h = s.1 in let le = h.after in let lt = h.within in inl (suc s.0, record { after = omega arith; within = omega arith; empty = h.empty; full = filled_on cell cells place s.0 h.full }))
+    (λ full. inr (filled_on cell cells place (length cells) full))
+    (first_empty place cells)
 
 -- how many cells are filled
 abbrev pub filled : List ℕ → ℕ
@@ -56,9 +56,9 @@ filled_none (suc n) = filled_none n
 pub filled_set : (cells : List ℕ) (p v : ℕ) → filled (set cells p v) ≤ filled cells + 1
 filled_set [] p v = omega arith
 filled_set (cell ∷ cells) zero v = ⊎_elim
-  (λ (e : v ≡ 0). ⊎_elim (λ (d : cell ≡ 0). omega (arith, filled_no v cells e, filled_no cell cells d)) (λ (d : cell ≢ 0). omega (arith, filled_no v cells e, filled_yes cell cells d)) (cases_eq cell 0))
-  (λ (n : v ≢ 0). ⊎_elim (λ (d : cell ≡ 0). omega (arith, filled_yes v cells n, filled_no cell cells d)) (λ (d : cell ≢ 0). omega (arith, filled_yes v cells n, filled_yes cell cells d)) (cases_eq cell 0))
-  (cases_eq v 0)
+    (λ (e : v ≡ 0). ⊎_elim (λ (d : cell ≡ 0). omega (arith, filled_no v cells e, filled_no cell cells d)) (λ (d : cell ≢ 0). omega (arith, filled_no v cells e, filled_yes cell cells d)) (cases_eq cell 0))
+    (λ (n : v ≢ 0). ⊎_elim (λ (d : cell ≡ 0). omega (arith, filled_yes v cells n, filled_no cell cells d)) (λ (d : cell ≢ 0). omega (arith, filled_yes v cells n, filled_yes cell cells d)) (cases_eq cell 0))
+    (cases_eq v 0)
 filled_set (cell ∷ cells) (suc p) v =
     let more = filled_set cells p v in
     ⊎_elim

@@ -7,5 +7,4 @@ ghost use Rattle.store_spec.specs.Layout.{layout_of};
 pub fn any_listing()
     ensures { (home : ℕ → ℕ) (count : ℕ) (xs ys : List ℕ) → IsPermutation xs ys
         → layout_of home count xs ≡ layout_of home count ys }
-{
-}
+{}

@@ -8,23 +8,19 @@ ghost use Rattle.store_spec.specs.Figures.{ExampleHomes, ExampleSizes, ExampleLa
 /// The homes of some numbers under the example election.
 pub fn example_homes()
     ensures { ExampleHomes }
-{
-}
+{}
 
 /// The sizes of the example election's store.
 pub fn example_sizes()
     ensures { ExampleSizes }
-{
-}
+{}
 
 /// Where three numbers stand under the example election.
 pub fn example_layout()
     ensures { ExampleLayout }
-{
-}
+{}
 
 /// How a text is cut into lines.
 pub fn example_lines()
     ensures { ExampleLines }
-{
-}
+{}
