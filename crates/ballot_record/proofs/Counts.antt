@@ -1,7 +1,7 @@
 -- What a contract sees of an election's contests and styles, and where they are kept.
 use Rattle.std.proofs.Common.{◌≡◌, ℕ, zero, suc, ◌<◌, ◌≤◌, List, [], ◌∷◌, length, get_or, take, map, Some, refl, ap, sym, ◌∙◌, arith}
 use Rattle.std.specs.Prelude.{slice_get, All}
-use Rattle.std.proofs.lemmas.List.{length-take-le, length-map, get_or-map, get_or-take, get_or_default}
+use Rattle.std.proofs.lemmas.List.{length-take-le, length-map}
 use Rattle.ballot_record.specs.declared.contest.Contest.{Contest}
 use Rattle.ballot_record.specs.Contest.{contest_of, contests_of}
 use Rattle.ballot_record.specs.Kept.{election_of, IsKept}

@@ -1,4 +1,9 @@
+mod CellAnswers
+mod CellReading
 mod Cells
 mod Counts
+mod LineAnswers
+mod LineMarks
+mod LineSets
 mod OnStyle
 mod Places

@@ -1,5 +1,5 @@
 -- How an election is kept: its contests and styles at the front of two arrays, which are empty behind them.
-use Rattle.std.proofs.Common.{◌≡◌, ℕ, ◌-◌, ◌≤◌, List, [], ◌∷◌, ◌++◌, length, take, drop, map, replicate, refl, ap, sym, ◌∙◌, arith, length-take, take-append-drop}
+use Rattle.std.proofs.Common.{◌≡◌, ℕ, ◌-◌, ◌≤◌, List, [], ◌∷◌, ◌++◌, length, take, drop, map, replicate, refl, ap, sym, ◌∙◌, arith, take-append-drop}
 use Rattle.std.proofs.lemmas.List.{length-take-le, length-map}
 use Rattle.ballot_record.specs.declared.contest.Contest.{Contest}
 use Rattle.ballot_record.specs.Contest.{contest_of, contests_of, contest_like, no_contest}

@@ -1,10 +1,19 @@
 //! Elections, the ballots cast in them, and the cells and lines that hold a ballot.
 #![tactic(auto)]
 
+mod cell;
 mod contest;
 mod election;
+mod fault;
+mod line;
 mod record;
 
+pub use cell::{CellRead, take_cell};
 pub use contest::{Contest, MAX_CHOICES};
 pub use election::{Election, MAX_BITS, MAX_CONTESTS, MAX_LIMIT, MAX_STYLES};
+pub use fault::{LineFault, LineWhy};
+pub use line::read_line;
 pub use record::Record;
+
+#[cfg(test)]
+mod tests;

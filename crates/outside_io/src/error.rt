@@ -1,4 +1,3 @@
-
 use std::alloc::{AllocError, AllocFailed};
 use std::error::Error;
 use std::fmt;

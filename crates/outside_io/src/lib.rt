@@ -2,5 +2,20 @@
 #![tactic(auto)]
 
 mod error;
+mod lines;
+mod memory;
+mod sink;
+mod source;
+mod standard;
+mod sure;
 
 pub use error::{Failed, Memory};
+pub use lines::{LineEndFault, Lines, NextLine};
+pub use memory::{MemorySink, MemorySource};
+pub use sink::Sink;
+pub use source::Source;
+pub use standard::{StdinSource, StdoutSink};
+pub use sure::{SureSink, SureSource};
+
+#[cfg(test)]
+mod tests;

@@ -1,6 +1,13 @@
+pub mod LineReading
+pub mod LineNumbers
+pub mod LineGroups
+pub mod LineWhole
+pub mod MarkSets
+pub mod LineLaws
 pub mod Ascending
 pub mod Displaced
 pub mod Fronts
 pub mod LaidOut
 pub mod OrderedCells
 pub mod Placing
+pub mod ValidMarks

@@ -8,7 +8,7 @@
 --     choice      = decimal, 1 to 32, strictly ascending within a group
 --
 -- A decimal has no sign and no leading zero.
-use Rattle.std.specs.Prelude.{◌≡◌, ℕ, ◌+◌, ◌-◌, ◌^◌, ◌<◌, ◌≤◌, List, [], ◌∷◌, ◌++◌, length, map, sum_by, replicate, All}
+use Rattle.std.specs.Prelude.{◌≡◌, ℕ, ◌-◌, ◌^◌, ◌<◌, ◌≤◌, List, [], ◌∷◌, ◌++◌, length, map, sum_by, replicate, All}
 use Rattle.std.specs.List.{join_with_byte}
 use Rattle.std.specs.List.Sorted.{IsStrictlyIncreasing}
 use Rattle.std.specs.Fmt.{decimal}
@@ -48,6 +48,10 @@ pub record ReadsAs (bytes : List ℕ) (line : Line) : Type 0 where
   pub parts : IsLine line
   pub spelled : bytes ≡ line_text line
 
+-- the bytes are in the grammar
+abbrev pub IsRecordLine : List ℕ → Type 0
+IsRecordLine bytes = (line : Line) × ReadsAs bytes line
+
 -- the mark set of some choices
 abbrev pub mark_set : List ℕ → ℕ
 mark_set choices = sum_by (λ c. 2 ^ (c - 1)) choices
@@ -67,3 +71,7 @@ pub record Spells (e : Election) (bytes : List ℕ) (b : Ballot) : Type 0 where
   pub a_group_each : length line.groups ≡ length e.contests
   pub is : b ≡ ballot_of_line line
   pub valid : IsValid e b
+
+-- the bytes are a line of this election, for some ballot
+abbrev pub IsLineOf : Election → List ℕ → Type 0
+IsLineOf e bytes = (b : Ballot) × Spells e bytes b

@@ -1,8 +1,8 @@
 -- What record lines build: a set of ballots, or the first bad line and why it is refused.
-use Rattle.std.specs.Prelude.{◌≡◌, ◌≢◌, ℕ, ◌+◌, ◌<◌, ◌≤◌, List, length, take, slice_get, Some, Contains, Any, Result, Ok, Err}
+use Rattle.std.specs.Prelude.{◌≡◌, ◌≢◌, ℕ, ◌+◌, List, length, take, slice_get, Some, Contains, Any, Result, Ok, Err}
 use Rattle.std.specs.List.{AllZip}
 use Rattle.store_spec.specs.Ballot.{Ballot, IsBallotSet}
-use Rattle.store_spec.specs.BallotLine.{Line, ReadsAs, Spells}
+use Rattle.store_spec.specs.BallotLine.{IsRecordLine, Spells, IsLineOf}
 use Rattle.store_spec.specs.Election.{Election}
 
 -- why a line is refused
@@ -20,8 +20,8 @@ pub record IsSetOf (e : Election) (lines : List (List ℕ)) (ballots : List Ball
 
 -- The line is refused for this reason after the lines of these ballots. The first reason that fits counts.
 abbrev pub IsRefused : Election → List Ballot → List ℕ → Reason → Type 0
-IsRefused e before bytes Malformed = (line : Line) → ¬ ReadsAs bytes line
-IsRefused e before bytes Invalid = ((line : Line) × ReadsAs bytes line) × ((b : Ballot) → ¬ Spells e bytes b)
+IsRefused e before bytes Malformed = ¬ IsRecordLine bytes
+IsRefused e before bytes Invalid = IsRecordLine bytes × ¬ IsLineOf e bytes
 IsRefused e before bytes Duplicate = (b : Ballot) × Spells e bytes b × Contains before b
 IsRefused e before bytes Conflict = (b : Ballot) × Spells e bytes b × Any (λ other. (other.number ≡ b.number) × (other ≢ b)) before
 IsRefused e before bytes Full = (b : Ballot) × Spells e bytes b × ¬ Any (λ other. other.number ≡ b.number) before × (length before ≡ e.limit)

@@ -8,4 +8,5 @@ pub mod Home
 pub mod Image
 pub mod Input
 pub mod Layout
+pub mod LineLaws
 pub mod Probe

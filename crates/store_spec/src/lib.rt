@@ -2,6 +2,7 @@
 #![tactic(auto)]
 
 pub mod layout;
+pub mod line_laws;
 
 ghost use Rattle.store_spec.specs.Figures.{ExampleHomes, ExampleSizes, ExampleLayout, ExampleLines};
 

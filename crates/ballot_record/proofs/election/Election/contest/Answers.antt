@@ -1,8 +1,8 @@
-use Rattle.std.proofs.Common.{◌≡◌, ◌-◌, ◌<◌, ◌≤◌, length, Some, ap, sym, subst, ◌∙◌, arith}
+use Rattle.std.proofs.Common.{◌-◌, ◌<◌, ◌≤◌, length, ap, sym, subst, ◌∙◌, arith}
 use Rattle.std.specs.Prelude.{slice_get}
 use Rattle.std.proofs.lemmas.List.{get_or-take}
 use Rattle.ballot_record.proofs.Counts.{contest_count, contest_count_of, contest_at, All-unmap}
-use Rattle.ballot_record.specs.Contest.{contest_of, contests_of, no_contest}
+use Rattle.ballot_record.specs.Contest.{contest_of, no_contest}
 use Rattle.ballot_record.specs.declared.contest.Contest.{Contest}
 use Rattle.std.proofs.Math.ListN.{take}
 use Rattle.store_spec.specs.Election.{Election, IsContest}

@@ -1,0 +1,46 @@
+-- What the bytes of a cell say of the ballot that is read from them.
+use Rattle.std.proofs.Common.{◌≡◌, ℕ, List, length, replicate, All, sym, ap, subst, ◌∙◌}
+use Rattle.store_spec.specs.Ballot.{Ballot, IsValid}
+use Rattle.store_spec.specs.Election.{Election, IsElection, cell_size}
+use Rattle.store_spec.specs.Image.{ballot_bytes}
+use Rattle.ballot_record.specs.CellReading.{ballot_at}
+use Rattle.ballot_record.specs.Record.{ballot}
+use Rattle.ballot_record.specs.declared.record.Record.{Record}
+use Rattle.ballot_record.proofs.CellReading.{AreBytes, cell_spelled, cell_again, zeros_from_all, all_from_zeros}
+
+pub record IsCell (e : Election) (bytes : List ℕ) (r : Record) : Type 0 where
+  pub election : IsElection e
+  pub fits : AreBytes bytes
+  pub long : length bytes ≡ cell_size e
+  pub read : ballot r ≡ ballot_at (length e.contests) bytes
+
+pub cell_read : (e : Election) (bytes : List ℕ) (r : Record) (contests : ℕ) → IsElection e → AreBytes bytes → length bytes ≡ cell_size e → contests ≡ length e.contests → ballot r ≡ ballot_at contests bytes → IsCell e bytes r
+cell_read e bytes r contests election fits long count read = record { election = election; fits = fits; long = long; read = read ∙ ap (λ n. ballot_at n bytes) count }
+
+pub spelled : (e : Election) (bytes : List ℕ) (r : Record) → IsCell e bytes r → bytes ≡ ballot_bytes e (ballot r)
+spelled e bytes r cell = cell_spelled e bytes cell.fits cell.long ∙ ap (ballot_bytes e) (sym cell.read)
+
+-- no other valid ballot has these bytes
+pub only : (e : Election) (bytes : List ℕ) (r : Record) → IsCell e bytes r → (b : Ballot) → IsValid e b → bytes ≡ ballot_bytes e b → ballot r ≡ b
+only e bytes r cell b valid is = cell.read ∙ ap (ballot_at (length e.contests)) is ∙ cell_again e b cell.election valid
+
+pub held_by : (e : Election) (bytes : List ℕ) (r : Record) → IsCell e bytes r → IsValid e (ballot r) → (other : Record) → r ≡ other → IsValid e (ballot other) × (bytes ≡ ballot_bytes e (ballot other))
+held_by e bytes r cell valid other same =
+    let Holds : Record → Type 0 = λ r. IsValid e (ballot r) × (bytes ≡ ballot_bytes e (ballot r)) in
+    subst Holds same (valid, spelled e bytes r cell)
+
+record_like : Ballot → Record
+record_like b = record { number = b.number; style = b.style; marks = b.marks }
+
+pub only_record : (e : Election) (bytes : List ℕ) (r : Record) → IsCell e bytes r → (other : Record) → IsValid e (ballot other) → bytes ≡ ballot_bytes e (ballot other) → r ≡ other
+unfolding record_like
+only_record e bytes r cell other valid is = ap record_like (only e bytes r cell (ballot other) valid is)
+
+pub valid_too : (e : Election) (bytes : List ℕ) (r : Record) → IsCell e bytes r → (b : Ballot) → IsValid e b → bytes ≡ ballot_bytes e b → IsValid e (ballot r)
+valid_too e bytes r cell b valid is = subst (IsValid e) (sym (only e bytes r cell b valid is)) valid
+
+pub zeros_of : (e : Election) (bytes : List ℕ) → length bytes ≡ cell_size e → All {X = ℕ} (λ byte. byte ≡ 0) bytes → bytes ≡ replicate (cell_size e) 0
+zeros_of e bytes long all = zeros_from_all bytes all ∙ ap (λ n. replicate n 0) long
+
+pub each_zero : (bytes : List ℕ) (n : ℕ) → bytes ≡ replicate n 0 → All {X = ℕ} (λ byte. byte ≡ 0) bytes
+each_zero bytes n zeros = subst (All {X = ℕ} (λ byte. byte ≡ 0)) (sym zeros) (all_from_zeros n)

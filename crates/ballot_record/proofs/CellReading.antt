@@ -1,0 +1,157 @@
+-- What is read from a cell is spelled so, and what is spelled so is read.
+use Rattle.std.proofs.Common.{◌≡◌, ℕ, zero, suc, ◌+◌, ◌-◌, ◌*◌, ◌%◌, ◌^◌, ◌<◌, ◌≤◌, List, [], ◌∷◌, ◌++◌, length, get_or, take, drop, replicate, set, inl, inr, refl, sym, ap, ap₂, subst, ◌∙◌, append_assoc, append-nil, arith, length-append, length-take, length-drop, take-append-drop, take_at, drop_at, get_or-take, get_or-drop, mod-eq_of_lt}
+use Rattle.std.specs.Prelude.{All}
+use Rattle.std.specs.Int.{from_be_bytes, to_be_bytes, w32, w64}
+use Rattle.std.specs.List.{flat_map}
+use Rattle.std.proofs.lemmas.Bool.{cases_lt}
+use Rattle.std.proofs.lemmas.List.{get_or_past, set_at, nil_from_length, drop_more, get_or-append_right, get_or-replicate, length-replicate}
+use Rattle.std.proofs.lemmas.List.Concat.{flat_map-cons}
+use Rattle.std.proofs.lemmas.Nat.{be_bytes_4, be_bytes_8, from_be_bytes-to_be_bytes_4, from_be_bytes-to_be_bytes_8}
+use Rattle.store_spec.specs.Ballot.{Ballot, IsValid}
+use Rattle.store_spec.specs.Election.{Election, IsElection}
+use Rattle.store_spec.specs.Image.{ballot_bytes}
+use Rattle.store_spec.proofs.ValidMarks.{small_set, marks_kept}
+use Rattle.ballot_record.specs.CellReading.{sets_at, ballot_at}
+
+abbrev pub AreBytes : List ℕ → Type 0
+AreBytes bytes = (i : ℕ) → get_or bytes i 0 < 256
+
+AreBytes-drop : (n : ℕ) (bytes : List ℕ) → AreBytes bytes → AreBytes (drop n bytes)
+AreBytes-drop n bytes fits i = rw get_or-drop (fits (n + i))
+
+AreBytes-take : (n : ℕ) (bytes : List ℕ) → AreBytes bytes → AreBytes (take n bytes)
+AreBytes-take n bytes fits i =
+    elim (cases_lt i n) [
+      | inl within ↦ rw (get_or-take n bytes i 0 within) (fits i)
+      | inr past ↦ rw (get_or_past (take n bytes) i 0 (omega (arith, length-take n bytes))) (omega arith)
+    ]
+
+length-sets_at : (n : ℕ) (bytes : List ℕ) → length (sets_at n bytes) ≡ n
+unfolding sets_at
+length-sets_at zero bytes = refl
+length-sets_at (suc n) bytes = ap suc (length-sets_at n (drop 4 bytes))
+
+sets_spelled : (n : ℕ) (bytes : List ℕ) → AreBytes bytes → length bytes ≡ 4 * n → flat_map (to_be_bytes w32) (sets_at n bytes) ≡ bytes
+unfolding sets_at
+sets_spelled zero bytes fits long = sym (nil_from_length bytes (omega arith))
+sets_spelled (suc n) bytes fits long =
+    let first : to_be_bytes w32 (from_be_bytes w32 (take 4 bytes)) ≡ take 4 bytes = be_bytes_4 (take 4 bytes) _ (omega (arith, length-take 4 bytes)) (AreBytes-take 4 bytes fits) refl in
+    let rest = sets_spelled n (drop 4 bytes) (AreBytes-drop 4 bytes fits) (omega (arith, length-drop 4 bytes)) in
+    flat_map-cons (to_be_bytes w32) (from_be_bytes w32 (take 4 bytes)) (sets_at n (drop 4 bytes)) ∙ ap₂ (λ x y. x ++ y) first rest ∙ take-append-drop 4 bytes
+
+sets_again : (sets : List ℕ) → ((i : ℕ) → i < length sets → get_or sets i 0 < 2 ^ 32) → sets_at (length sets) (flat_map (to_be_bytes w32) sets) ≡ sets
+unfolding sets_at
+sets_again [] small = refl
+sets_again (set ∷ sets) small =
+    let first = to_be_bytes w32 set in
+    let rest = flat_map (to_be_bytes w32) sets in
+    ap (sets_at (suc (length sets))) (flat_map-cons (to_be_bytes w32) set sets)
+    ∙ ap₂ (λ x y. x ∷ y)
+    (ap (from_be_bytes w32) (take_at first rest 4 refl) ∙ from_be_bytes-to_be_bytes_4 set (small 0 (omega arith)))
+    (ap (sets_at (length sets)) (drop_at first rest 4 refl) ∙ sets_again sets (λ i within. small (suc i) (omega arith)))
+
+-- ---- the whole cell
+
+joined : (number_bytes : List ℕ) (style : ℕ) (set_bytes bytes : List ℕ) → number_bytes ≡ take 8 bytes → style ≡ get_or bytes 8 0 → set_bytes ≡ drop 9 bytes → 9 ≤ length bytes → bytes ≡ (number_bytes ++ style ∷ []) ++ set_bytes
+joined number_bytes style set_bytes bytes number_is style_is sets_are long =
+    sym (append_assoc number_bytes (style ∷ []) set_bytes ∙ ap₂ (λ x y. x ++ y) number_is (ap₂ (λ x y. x ∷ y) style_is sets_are ∙ sym (drop_more bytes 8 0 (omega arith))) ∙ take-append-drop 8 bytes)
+
+record AreParted (number_bytes : List ℕ) (style : ℕ) (set_bytes bytes : List ℕ) : Type 0 where
+  number : take 8 bytes ≡ number_bytes
+  style_is : get_or bytes 8 0 ≡ style
+  sets : drop 9 bytes ≡ set_bytes
+
+parted : (number_bytes : List ℕ) (style : ℕ) (set_bytes : List ℕ) → length number_bytes ≡ 8 → AreParted number_bytes style set_bytes ((number_bytes ++ style ∷ []) ++ set_bytes)
+parted number_bytes style set_bytes eight =
+    let regrouped = append_assoc number_bytes (style ∷ []) set_bytes in
+    record {
+      number = ap (take 8) regrouped ∙ take_at number_bytes (style ∷ set_bytes) 8 eight;
+      style_is = ap (λ bytes. get_or bytes 8 0) regrouped ∙ get_or-append_right number_bytes (style ∷ set_bytes) 8 8 0 eight (omega arith);
+      sets = drop_at (number_bytes ++ style ∷ []) set_bytes 9 (omega (arith, length-append number_bytes (style ∷ []), eight));
+    }
+
+-- the bytes are those of the ballot that was read
+pub cell_spelled : (e : Election) (bytes : List ℕ) → AreBytes bytes → length bytes ≡ 9 + 4 * length e.contests → bytes ≡ ballot_bytes e (ballot_at (length e.contests) bytes)
+cell_spelled e bytes fits long =
+    let n = length e.contests in
+    let sets = sets_at n (drop 9 bytes) in
+    let zeros : List ℕ = replicate (16 - n) 0 in
+    let number : to_be_bytes w64 (from_be_bytes w64 (take 8 bytes)) ≡ take 8 bytes = be_bytes_8 (take 8 bytes) _ (omega (arith, length-take 8 bytes)) (AreBytes-take 8 bytes fits) refl in
+    let style : get_or bytes 8 0 % 256 ≡ get_or bytes 8 0 = mod-eq_of_lt (fits 8) in
+    let set_bytes : flat_map (to_be_bytes w32) (take n (sets ++ zeros)) ≡ drop 9 bytes =
+    ap (flat_map (to_be_bytes w32)) (take_at sets zeros n (length-sets_at n (drop 9 bytes))) ∙ sets_spelled n (drop 9 bytes) (AreBytes-drop 9 bytes fits) (omega (arith, length-drop 9 bytes)) in
+    joined (to_be_bytes w64 (from_be_bytes w64 (take 8 bytes))) (get_or bytes 8 0 % 256) (flat_map (to_be_bytes w32) (take n (sets ++ zeros))) bytes number style set_bytes (omega arith)
+
+-- a valid ballot is read from its bytes
+pub cell_again : (e : Election) (b : Ballot) → IsElection e → IsValid e b → ballot_at (length e.contests) (ballot_bytes e b) ≡ b
+cell_again e b election valid =
+    let n = length e.contests in
+    let front = take n b.marks in
+    let count : length front ≡ n = omega (arith, length-take n b.marks, valid.sixteen, election.few_contests) in
+    let small : (i : ℕ) → i < length front → get_or front i 0 < 2 ^ 32 = λ i within.
+    subst (λ set. set < 2 ^ 32) (sym (get_or-take n b.marks i 0 (omega (arith, count)))) (small_set e b election valid i (omega (arith, count, election.few_contests))) in
+    let parts = parted (to_be_bytes w64 b.number) (b.style % 256) (flat_map (to_be_bytes w32) front) refl in
+    let made : ℕ → ℕ → List ℕ → Ballot = λ number style sets. record { number = number; style = style; marks = sets ++ replicate (16 - n) 0 } in
+    let number : from_be_bytes w64 (take 8 (ballot_bytes e b)) ≡ b.number = ap (from_be_bytes w64) parts.number ∙ from_be_bytes-to_be_bytes_8 b.number valid.short_number in
+    let style : get_or (ballot_bytes e b) 8 0 ≡ b.style = parts.style_is ∙ mod-eq_of_lt (omega (arith, valid.known_style, election.few_styles)) in
+    let sets : sets_at n (drop 9 (ballot_bytes e b)) ≡ front =
+    ap (sets_at n) parts.sets ∙ ap (λ k. sets_at k (flat_map (to_be_bytes w32) front)) (sym count) ∙ sets_again front small in
+    ap (λ k. made k (get_or (ballot_bytes e b) 8 0) (sets_at n (drop 9 (ballot_bytes e b)))) number
+    ∙ ap (λ k. made b.number k (sets_at n (drop 9 (ballot_bytes e b)))) style
+    ∙ ap (made b.number b.style) sets
+    ∙ ap (λ marks. record { number = b.number; style = b.style; marks = marks }) (sym (marks_kept e b election valid))
+
+-- ---- zeros
+
+pub zeros_from_all : (bytes : List ℕ) → All {X = ℕ} (λ byte. byte ≡ 0) bytes → bytes ≡ replicate (length bytes) 0
+zeros_from_all [] zeros = refl
+zeros_from_all (byte ∷ bytes) zeros =
+    let first : byte ≡ 0 = zeros 0 0 (omega arith) in
+    let rest = zeros_from_all bytes (λ k d within. zeros (suc k) d (omega arith)) in
+    ap₂ (λ x y. x ∷ y) first rest
+
+pub all_from_zeros : (n : ℕ) → All {X = ℕ} (λ byte. byte ≡ 0) (replicate n 0)
+all_from_zeros n k d within = let long : length (replicate {A = ℕ} n 0) ≡ n = length-replicate n 0 in get_or-replicate n k 0 d (omega arith)
+
+-- ---- set after set
+
+pub record AreSetsSoFar (contests : ℕ) (bytes : List ℕ) (place : ℕ) (marks rest : List ℕ) : Type 0 where
+  pub before : List ℕ
+  pub counted : length before ≡ place
+  pub kept : marks ≡ before ++ replicate (16 - place) 0
+  pub long : length rest ≡ 4 * (contests - place)
+  pub more : before ++ sets_at (contests - place) rest ≡ sets_at contests bytes
+
+pub no_sets_yet : (contests : ℕ) (bytes : List ℕ) → length bytes ≡ 4 * contests → AreSetsSoFar contests bytes 0 (replicate 16 0) bytes
+no_sets_yet contests bytes long = record {
+  before = [];
+  counted = refl;
+  kept = refl;
+  long = omega arith;
+  more = ap (λ n. sets_at n bytes) (let same : contests - 0 ≡ contests = omega arith in same);
+}
+
+pub next_set : (contests : ℕ) (bytes : List ℕ) (place : ℕ) (marks rest : List ℕ) (read : ℕ) (after : List ℕ) → contests ≤ 16 → place < contests → AreSetsSoFar contests bytes place marks rest
+    → read ≡ from_be_bytes w32 (take 4 rest) → after ≡ drop 4 rest → AreSetsSoFar contests bytes (place + 1) (set marks place read) after
+unfolding sets_at
+next_set contests bytes place marks rest read after few within so_far is rest_is =
+    let one_more : contests - place ≡ suc (contests - (place + 1)) = omega arith in
+    let one_left : 16 - place ≡ suc (16 - (place + 1)) = omega arith in
+    let behind : List ℕ = replicate (16 - (place + 1)) 0 in
+    record {
+      before = so_far.before ++ read ∷ [];
+      counted = omega (arith, length-append so_far.before (read ∷ []), so_far.counted);
+      kept = ap (λ marks. set marks place read) (so_far.kept ∙ ap (λ n. so_far.before ++ replicate n 0) one_left)
+          ∙ set_at so_far.before 0 behind read place so_far.counted ∙ sym (append_assoc so_far.before (read ∷ []) behind);
+      long = omega (arith, ap length rest_is, length-drop 4 rest, so_far.long);
+      more = append_assoc so_far.before (read ∷ []) (sets_at (contests - (place + 1)) after)
+          ∙ ap (λ sets. so_far.before ++ sets) (ap₂ (λ x y. x ∷ sets_at (contests - (place + 1)) y) is rest_is ∙ ap (λ n. sets_at n rest) (sym one_more))
+          ∙ so_far.more;
+    }
+
+pub all_sets : (contests : ℕ) (bytes : List ℕ) (place : ℕ) (marks rest : List ℕ) → place ≡ contests → AreSetsSoFar contests bytes place marks rest → marks ≡ sets_at contests bytes ++ replicate (16 - contests) 0
+unfolding sets_at
+all_sets contests bytes place marks rest all so_far =
+    let none : contests - place ≡ 0 = omega arith in
+    let sets : so_far.before ≡ sets_at contests bytes = sym (append-nil so_far.before) ∙ ap (λ n. so_far.before ++ sets_at n rest) (sym none) ∙ so_far.more in
+    so_far.kept ∙ ap₂ (λ x n. x ++ replicate (16 - n) 0) sets all

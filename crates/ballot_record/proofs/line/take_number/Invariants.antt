@@ -1,0 +1,10 @@
+use Rattle.std.proofs.Common.{◌≡◌, length}
+use Rattle.store_spec.proofs.LineReading.{digits_at}
+use Rattle.ballot_record.proofs.line.take_number.Given as goal
+
+-- what is left goes on with the value so far as the whole does with none
+abbrev pub invariant-loop-rest : goal.invariant-loop-rest
+invariant-loop-rest l = digits_at l.limit l.value l.rest ≡ digits_at l.limit 0 l.bytes
+
+abbrev pub decreases-loop-rest : goal.decreases-loop-rest
+decreases-loop-rest l = length l.rest

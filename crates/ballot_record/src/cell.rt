@@ -1,0 +1,88 @@
+ghost use Rattle.std.specs.Prelude.{◌≡◌, ◌≢◌, ◌+◌, ◌-◌, ◌*◌, ◌≤◌, ◌++◌, ◌↔◌, length, take, drop, replicate, All, IsTrue};
+ghost use Rattle.std.specs.Int.{from_be_bytes, w32};
+ghost use Rattle.store_spec.specs.Ballot.{Ballot, IsValid};
+ghost use Rattle.store_spec.specs.Election.{cell_size};
+ghost use Rattle.store_spec.specs.Image.{ballot_bytes};
+ghost use Rattle.ballot_record.specs.CellReading.{sets_at, ballot_at};
+ghost use Rattle.ballot_record.specs.Record.{ballot};
+ghost use Rattle.ballot_record.specs.declared.record.Record as declared;
+
+use crate::{Election, MAX_CONTESTS, Record};
+
+/// What stands in a cell.
+#[derive(Clone, Copy, Debug, PartialEq, Eq)]
+pub enum CellRead {
+    /// Nothing: all bytes are 0.
+    Empty,
+    /// The bytes of a valid record.
+    Held(Record),
+    /// Other bytes, which no store writes.
+    Bad,
+}
+
+fn take_set(bytes: &[u8]) -> (u32, &[u8])
+    requires { 4 ≤ length bytes.now }
+    ensures set { result.0 ≡ from_be_bytes w32 (take 4 bytes.now) }
+    ensures rest { result.1.now ≡ drop 4 bytes.now }
+{
+    let (front, rest) = bytes.split_at(4);
+    let set = u32::from_be_bytes([front[0], front[1], front[2], front[3]]);
+    (set, rest)
+}
+
+fn take_sets(bytes: &[u8], contests: usize) -> [u32; MAX_CONTESTS]
+    requires few { contests ≤ 16 }
+    requires long { length bytes.now ≡ 4 * contests }
+    ensures { result ≡ sets_at contests bytes.now ++ replicate (16 - contests) 0 }
+{
+    let mut marks = [0; MAX_CONTESTS];
+    let mut rest = bytes;
+    for place in 0..contests {
+        let (set, after) = take_set(rest);
+        marks[place] = set;
+        rest = after;
+    }
+    marks
+}
+
+/// The record that the bytes of a cell spell, valid or not.
+fn record_at(bytes: &[u8], contests: usize) -> Record
+    requires few { contests ≤ 16 }
+    requires long { length bytes.now ≡ 9 + 4 * contests }
+    ensures { ballot result ≡ ballot_at contests bytes.now }
+{
+    let (front, rest) = bytes.split_at(8);
+    let number = u64::from_be_bytes([
+        front[0], front[1], front[2], front[3], front[4], front[5], front[6], front[7],
+    ]);
+    Record {
+        number,
+        style: rest[0],
+        marks: take_sets(&rest[1..], contests),
+    }
+}
+
+fn are_zero(bytes: &[u8]) -> bool
+    ensures { IsTrue result ↔ All (λ byte. byte ≡ 0) bytes.now }
+{
+    bytes.iter().all(|byte| *byte == 0)
+}
+
+/// What stands in a cell of the election's store.
+pub fn take_cell(bytes: &[u8], election: &Election) -> CellRead
+    requires { length bytes.now ≡ cell_size election.now }
+    ensures empty { (result ≡ CellRead.Empty) ↔ (bytes.now ≡ replicate (cell_size election.now) 0) }
+    ensures held { (r : declared.Record) → (result ≡ CellRead.Held r) ↔ (IsValid election.now (ballot r) × (bytes.now ≡ ballot_bytes election.now (ballot r))) }
+
+    // No cell of a store holds these bytes.
+    ensures bad { (result ≡ CellRead.Bad) ↔ ((bytes.now ≢ replicate (cell_size election.now) 0) × ((b : Ballot) → IsValid election.now b → bytes.now ≢ ballot_bytes election.now b)) }
+{
+    let record = record_at(bytes, election.contests());
+    if record.valid(election) {
+        CellRead::Held(record)
+    } else if are_zero(bytes) {
+        CellRead::Empty
+    } else {
+        CellRead::Bad
+    }
+}

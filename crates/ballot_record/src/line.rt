@@ -1,0 +1,121 @@
+ghost use Rattle.std.specs.Prelude.{◌≡◌, ℕ, ◌^◌, ◌<◌, ◌≤◌, ◌↔◌, option_map, option_copied, Some, None, Ok, Err, IfOk};
+ghost use Rattle.store_spec.specs.BallotLine.{IsRecordLine, Spells, IsLineOf};
+ghost use Rattle.store_spec.proofs.LineReading.{digits_at, past_byte, choices_at, group_at, groups_of, line_of};
+ghost use Rattle.ballot_record.specs.Line.{set_seen, sets_seen, line_seen};
+ghost use Rattle.ballot_record.specs.Record.{ballot};
+
+use crate::{Election, LineFault, MAX_CHOICES, MAX_CONTESTS, MAX_STYLES, Record};
+
+/// What follows a byte, where it stands first.
+fn after_byte(bytes: &[u8], byte: u8) -> Option<&[u8]>
+    ensures { option_copied result ≡ past_byte byte bytes.now (λ rest. Some rest) None }
+{
+    match bytes {
+        [first, rest @ ..] if *first == byte => Some(rest),
+        _ => None,
+    }
+}
+
+/// The number from 1 to the limit that stands first, and the bytes after it.
+#[tactic(auto, unfolding(store_spec::proofs::LineReading::digits_at))]
+fn take_number(bytes: &[u8], limit: u64) -> Option<(u64, &[u8])>
+    ensures { option_map (λ x. (x.0, x.1.now)) result ≡ digits_at limit 0 bytes.now }
+{
+    let mut value: u64 = 0;
+    let mut rest = bytes;
+    while let [byte @ b'0'..=b'9', after @ ..] = rest {
+        let digit = u64::from(*byte - b'0');
+        value = value.checked_mul(10)?.checked_add(digit)?;
+        if value == 0 || value > limit {
+            return None;
+        }
+        rest = after;
+    }
+    if value == 0 {
+        None
+    } else {
+        Some((value, rest))
+    }
+}
+
+/// The mark set of choices in ascending order, with commas between them, and the bytes after them.
+fn take_choices(bytes: &[u8]) -> Option<(u32, &[u8])>
+    ensures { option_map (λ x. (x.0, x.1.now)) result ≡ option_map set_seen (choices_at 32 0 bytes.now) }
+{
+    let mut set: u32 = 0;
+    let mut last = 0;
+    let mut rest = bytes;
+    loop {
+        let (choice, after) = take_number(rest, MAX_CHOICES as u64)?;
+        if choice <= last {
+            return None;
+        }
+        set |= 1 << (choice - 1);
+        last = choice;
+        match after_byte(after, b',') {
+            Some(more) => rest = more,
+            None => return Some((set, after)),
+        }
+    }
+}
+
+/// The mark set of a group, and the bytes after it.
+#[tactic(auto, unfolding(store_spec::proofs::LineReading::group_at))]
+fn take_group(bytes: &[u8]) -> Option<(u32, &[u8])>
+    ensures { option_map (λ x. (x.0, x.1.now)) result ≡ option_map set_seen (group_at bytes.now) }
+{
+    match after_byte(bytes, b'-') {
+        Some(rest) => Some((0, rest)),
+        None => take_choices(bytes),
+    }
+}
+
+/// The mark sets of the groups up to the end, and how many groups there are.
+fn all_groups(bytes: &[u8]) -> Option<([u32; MAX_CONTESTS], usize)>
+    ensures { result ≡ option_map sets_seen (groups_of 16 bytes.now) }
+{
+    let mut marks = [0; MAX_CONTESTS];
+    let mut rest = bytes;
+    for place in 0..MAX_CONTESTS {
+        let (set, after) = take_group(rest)?;
+        marks[place] = set;
+        if after.is_empty() {
+            return Some((marks, place + 1));
+        }
+        rest = after_byte(after, b'/')?;
+    }
+    None
+}
+
+/// The record that a line in the grammar spells, and how many groups it has.
+#[tactic(auto, unfolding(store_spec::proofs::LineReading::line_of))]
+fn parts(line: &[u8]) -> Option<(Record, usize)>
+    ensures { option_map (λ x. (ballot x.0, x.1)) result ≡ option_map line_seen (line_of line.now) }
+{
+    let (number, rest) = take_number(line, u64::MAX)?;
+    let (style, rest) = take_number(after_byte(rest, b' ')?, MAX_STYLES as u64)?;
+    let (marks, count) = all_groups(after_byte(rest, b' ')?)?;
+    let record = Record {
+        number,
+        style: style as u8,
+        marks,
+    };
+    Some((record, count))
+}
+
+/// The record of a line under an election. The whole line is judged by the grammar of record lines before any part
+/// of it is judged by the election: it is `Malformed` where it is not in the grammar, and `Invalid` where it is, but
+/// has not a group for each contest, or its record is not valid.
+pub fn read_line(line: &[u8], election: &Election) -> Result<Record, LineFault>
+    ensures read { IfOk result (λ r. Spells election.now line.now (ballot r)) }
+    ensures malformed { (result ≡ Err LineFault.Malformed) ↔ (¬ IsRecordLine line.now) }
+    ensures invalid { (result ≡ Err LineFault.Invalid) ↔ (IsRecordLine line.now × ¬ IsLineOf election.now line.now) }
+{
+    let Some((record, groups)) = parts(line) else {
+        return Err(LineFault::Malformed);
+    };
+    if groups != election.contests() || !record.valid(election) {
+        return Err(LineFault::Invalid);
+    }
+    Ok(record)
+}

@@ -1,0 +1,98 @@
+-- Records under their numbers.
+use Rattle.std.proofs.Common.{◌≡◌, ◌≢◌, ℕ, zero, suc, ◌+◌, ◌<◌, ◌≤◌, ◌⊎◌, Bool, true, false, cond, eqb, List, [], ◌∷◌, ◌++◌, length, get_or, map, Option, Some, None, refl, ap, sym, ◌∙◌, inl, inr, arith, length-append, Ordering}
+use Rattle.std.proofs.lemmas.Bool.{cases_eq, cases_lt}
+use Rattle.std.proofs.lemmas.List.Folds.{find-append}
+use Rattle.std.specs.Cmp.{nat_cmp_is}
+use Rattle.std.specs.Option.{option_or}
+use Rattle.std.specs.declared.cmp.Ordering.TheVariants.{Less, Equal, Greater}
+use Rattle.std.proofs.lemmas.Bool.Decides.{nat_tests}
+use Rattle.std.proofs.lemmas.List.{map_push, get_or-map, length-map}
+use Rattle.std.proofs.lemmas.List.Elements.{All-push}
+use Rattle.std.proofs.lemmas.List.Quantifiers.{all_pairs_push}
+use Rattle.std.specs.Ordering.{nat_cmp, is_eq}
+use Rattle.std.specs.Prelude.{find, Contains, Any, All, AllPairs, ◌==◌}
+use Rattle.ballot_record.specs.declared.record.Record.{Record}
+use Rattle.ballot_record.specs.Record.{ballot}
+use Rattle.store_spec.specs.Ballot.{Ballot, IsBallotSet, IsValid}
+use Rattle.store_spec.specs.Election.{Election}
+
+abbrev pub found_in : List Record → ℕ → Option Record
+found_in records number = find (λ (r : Record). r.number == number) records
+
+-- what is found stands in the list, with its number
+pub record IsFound (records : List Record) (number : ℕ) (r : Record) : Type 0 where
+  pub place : ℕ
+  pub within : place < length records
+  pub is : (d : Record) → get_or records place d ≡ r
+  pub numbered : r.number ≡ number
+
+pub found : (records : List Record) (number : ℕ) (r : Record) → found_in records number ≡ Some r → IsFound records number r
+found [] number r is = absurd cc
+found (x ∷ xs) number r is =
+    let test : (b : Bool) → (b ≡ true → x.number ≡ number) → cond b (Some x) (found_in xs number) ≡ Some r → IsFound (x ∷ xs) number r = elim [
+      | true ↦ λ same here. let first : x ≡ r = cc in record { place = 0; within = omega arith; is = λ d. first; numbered = sym (ap (λ (r : Record). r.number) first) ∙ same refl }
+      | false ↦ λ same here. let rest = found xs number r here in record { place = suc rest.place; within = omega (arith, rest.within); is = λ d. rest.is d; numbered = rest.numbered }
+    ] in
+    test (eqb x.number number) (λ h. grind (arith, nat_tests)) is
+
+missing_front : (x : Record) (xs : List Record) (number : ℕ) → found_in (x ∷ xs) number ≡ None → (x.number ≢ number) × (found_in xs number ≡ None)
+missing_front x xs number is =
+    let test : (b : Bool) → (b ≡ false → x.number ≢ number) → cond b (Some x) (found_in xs number) ≡ None → (x.number ≢ number) × (found_in xs number ≡ None) = elim [
+      | true ↦ λ other none. absurd cc
+      | false ↦ λ other none. (other refl, none)
+    ] in
+    test (eqb x.number number) (λ h. grind (arith, nat_tests)) is
+
+-- where nothing is found no record has the number
+pub missing : (records : List Record) (number : ℕ) → found_in records number ≡ None → (k : ℕ) (d : Record) → k < length records → (get_or records k d).number ≢ number
+missing [] number is k d below = absurd (omega arith)
+missing (x ∷ xs) number is zero d below = (missing_front x xs number is).0
+missing (x ∷ xs) number is (suc k) d below = missing xs number (missing_front x xs number is).1 k d (omega arith)
+
+-- the same of the ballots
+pub ballot_missing : (records : List Record) (number : ℕ) → found_in records number ≡ None → (k : ℕ) (d : Ballot) → k < length (map ballot records) → (get_or (map ballot records) k d).number ≢ number
+ballot_missing [] number is k d below = absurd (omega arith)
+ballot_missing (x ∷ xs) number is zero d below = (missing_front x xs number is).0
+ballot_missing (x ∷ xs) number is (suc k) d below = ballot_missing xs number (missing_front x xs number is).1 k d (omega arith)
+
+pub ballot_found : (records : List Record) (number : ℕ) (r : Record) → IsFound records number r → (d : Ballot) → Some r ≡ Some r → (k : ℕ) × (k < length (map ballot records)) × (get_or (map ballot records) k d ≡ ballot r)
+ballot_found records number r found d same =
+    (found.place, omega (arith, length-map records ballot, found.within), get_or-map ballot records found.place r d found.within ∙ ap ballot (found.is r))
+
+same_number : (a b : ℕ) → a ≡ b → is_eq (nat_cmp a b) ≡ true
+same_number a b same = ap is_eq (sym (nat_cmp_is a b Equal same))
+
+other_number : (a b : ℕ) → a ≢ b → is_eq (nat_cmp a b) ≡ false
+other_number a b other = elim (cases_lt a b) [
+  | inl less ↦ ap is_eq (sym (nat_cmp_is a b Less less))
+  | inr more ↦ ap is_eq (sym (nat_cmp_is a b Greater (omega arith)))
+]
+
+or_none : (found : Option Record) → option_or found None ≡ found
+or_none None = refl
+or_none (Some r) = refl
+
+-- an index with one record more
+pub index_grown : (old new : ℕ → Option Record) (records : List Record) (cast : Record) → ((number : ℕ) → old number ≡ found_in records number) → old cast.number ≡ None → ((number : ℕ) → new number ≡ cond (is_eq (nat_cmp cast.number number)) (Some cast) (old number)) → (number : ℕ) → new number ≡ found_in (records ++ cast ∷ []) number
+index_grown old new records cast indexed none updated number =
+    let last = λ (test : Bool). option_or (found_in records number) (cond test (Some cast) None) in
+    let all : found_in (records ++ cast ∷ []) number ≡ last (eqb cast.number number) = find-append (λ (r : Record). r.number == number) records (cast ∷ []) in
+    elim (cases_eq cast.number number) [
+      | inl same ↦
+          let test : eqb cast.number number ≡ true = grind (arith, nat_tests) in
+          let nothing : found_in records number ≡ None = sym (indexed number) ∙ ap old (sym same) ∙ none in
+          updated number ∙ ap (λ t. cond t (Some cast) (old number)) (same_number cast.number number same)
+          ∙ sym (all ∙ ap last test ∙ ap (λ (r : Option Record). option_or r (Some cast)) nothing)
+      | inr other ↦
+          let test : eqb cast.number number ≡ false = grind (arith, nat_tests) in
+          updated number ∙ ap (λ t. cond t (Some cast) (old number)) (other_number cast.number number other) ∙ indexed number
+          ∙ sym (all ∙ ap last test ∙ or_none (found_in records number))
+    ]
+
+-- a set with one ballot more
+pub set_grown : (e : Election) (ballots : List Ballot) (b : Ballot) → IsBallotSet e ballots → IsValid e b → ((k : ℕ) (d : Ballot) → k < length ballots → (get_or ballots k d).number ≢ b.number) → length ballots < e.limit → IsBallotSet e (ballots ++ b ∷ [])
+set_grown e ballots b set valid new room = record {
+  valid = All-push (IsValid e) ballots b set.valid valid;
+  distinct = all_pairs_push (λ a b. a.number ≢ b.number) ballots b set.distinct new;
+  within_limit = omega (arith, length-append ballots (b ∷ []));
+}

@@ -1,0 +1,4 @@
+pub mod Ballots
+pub mod Build
+pub mod Script
+pub mod Words

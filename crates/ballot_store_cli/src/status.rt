@@ -1,0 +1,68 @@
+use ballot_record::LineWhy;
+use outside_io::Memory;
+use std::fmt;
+
+/// Which of the two inputs of a run.
+#[derive(Clone, Copy, Debug, PartialEq, Eq)]
+pub enum Which {
+    Election,
+    Script,
+}
+
+/// How a run ended.
+#[derive(Clone, Copy, Debug, PartialEq, Eq)]
+pub enum Status {
+    /// The run did all that it was asked.
+    Ok,
+    /// The words are no command form.
+    Usage,
+    /// A source gave more bytes than its limit.
+    TooLong { which: Which },
+    /// A source failed.
+    ReadFault { which: Which },
+    /// The sink failed.
+    WriteFault,
+    /// There was no memory.
+    Memory,
+    /// A line of a script was refused; lines count from 1.
+    BadLine { line: u64, why: LineWhy },
+}
+
+impl Status {
+    /// The exit status of the program.
+    pub fn number(&self) -> u8 {
+        match self {
+            Status::Ok => 0,
+            Status::Usage => 2,
+            Status::TooLong { .. } => 4,
+            Status::ReadFault { .. } => 6,
+            Status::WriteFault => 7,
+            Status::Memory => 8,
+            Status::BadLine { .. } => 15,
+        }
+    }
+}
+
+impl fmt::Display for Status {
+    fn fmt<W: fmt::Write>(&self, f: &mut fmt::Formatter<W>) -> fmt::Result {
+        match self {
+            Status::Ok => f.write_str("ok"),
+            Status::Usage => f.write_str("usage"),
+            Status::TooLong {
+                which: Which::Election,
+            } => f.write_str("election too long"),
+            Status::TooLong {
+                which: Which::Script,
+            } => f.write_str("script too long"),
+            Status::ReadFault {
+                which: Which::Election,
+            } => f.write_str("election read fault"),
+            Status::ReadFault {
+                which: Which::Script,
+            } => f.write_str("script read fault"),
+            Status::WriteFault => f.write_str("write fault"),
+            Status::Memory => f.write_str("out of memory"),
+            Status::BadLine { line, .. } => write!(f, "bad line {line}"),
+        }
+    }
+}

@@ -1,0 +1,212 @@
+-- What a call of `next_line` answers, from what its parts do.
+use Rattle.std.proofs.Common.{◌≡◌, ℕ, zero, suc, ◌+◌, ◌-◌, ◌<◌, ◌≤◌, ◌⊎◌, Bool, true, false, cond, eqb, leb, ltb, List, [], ◌∷◌, ◌++◌, length, take, drop, map, Option, Some, None, Ok, Err, refl, ap, sym, ◌∙◌, subst, inl, inr, arith, append_assoc, length-append, length-drop, length-take}
+use Rattle.std.proofs.lemmas.List.{take-append-le, drop-append-le, drop_all, drop_at, drop-drop, nil_from_length, append-nil, take_all, length-take-le}
+use Rattle.std.specs.Option.{option_map, IfSome}
+use Rattle.std.proofs.Common.{le-leb}
+use Rattle.std.proofs.lemmas.Bool.{cases_lt, lt-leb}
+use Rattle.outside_io.specs.declared.lines.LineEndFault.TheVariants.{TooLong}
+use Rattle.outside_io.specs.Lines.{HandsOut, LooksLike, Answers, AnswersTold, IfTold, IsAnswerFor, CutsOff, StaysSame, TakesLast}
+use Rattle.outside_io.specs.declared.lines.NextLine.{NextLine}
+use Rattle.outside_io.specs.declared.lines.NextLine.TheVariants.{Whole, TooWide, End}
+use Rattle.outside_io.specs.Window.{Kept}
+use Rattle.outside_io.proofs.FirstLine.{first_width-le, first_width-append, first_width-more, first_width-same, lines_within-first, lines_within-none, lines_within-too_long}
+use Rattle.store_spec.specs.Input.{LINE_LIMIT, first_width, taken_line, taken_within, IsTooLong}
+
+-- ---- lines as they are taken
+
+pub taken_line-narrow : (line : List ℕ) → length line ≤ LINE_LIMIT → taken_line line ≡ Some line
+taken_line-narrow line narrow = ap (λ test. cond test (Some line) None) (le-leb (length line) LINE_LIMIT narrow)
+
+pub taken_line-wide : (line : List ℕ) → LINE_LIMIT < length line → taken_line line ≡ None
+taken_line-wide line wide = ap (λ test. cond test (Some line) None) (lt-leb (length line) LINE_LIMIT wide)
+
+-- ---- texts that look alike
+
+pub looks_same : (text : List ℕ) → LooksLike text text
+looks_same text = record { width = refl; line = refl; behind = refl; size = refl }
+
+pub looks_on : (a b c : List ℕ) → LooksLike a b → LooksLike b c → LooksLike a c
+looks_on a b c ab bc = record {
+  width = bc.width ∙ ab.width;
+  line = ap (λ n. taken_line (take n c)) (sym ab.width) ∙ bc.line ∙ ap (λ n. taken_line (take n b)) ab.width ∙ ab.line;
+  behind = ap (λ n. drop n c) (sym ab.width) ∙ bc.behind ∙ ap (λ n. drop n b) ab.width ∙ ab.behind;
+  size = bc.size ∙ ab.size;
+}
+
+-- the first line with a wide front is too wide
+wide_line : (front rest : List ℕ) (n : ℕ) → LINE_LIMIT < length front → n ≡ length front + first_width rest → taken_line (take n (front ++ rest)) ≡ None
+wide_line front rest n wide is =
+    taken_line-wide (take n (front ++ rest)) (omega (arith, length-take n (front ++ rest), length-append front rest, first_width-le rest))
+
+behind_front : (front rest : List ℕ) (n : ℕ) → n ≡ length front + first_width rest → drop n (front ++ rest) ≡ drop (first_width rest) rest
+behind_front front rest n is =
+    ap (λ k. drop k (front ++ rest)) is ∙ sym (drop-drop (first_width rest) (length front) (front ++ rest))
+    ∙ ap (λ others. drop (first_width rest) others) (drop_at front rest (length front) refl)
+
+pub looks_forgotten : (a b rest : List ℕ) → first_width a ≡ length a → first_width b ≡ length b → length b ≡ length a → (length a ≤ LINE_LIMIT → b ≡ a) → LooksLike (a ++ rest) (b ++ rest)
+looks_forgotten a b rest none_a none_b same narrow = elim (cases_lt LINE_LIMIT (length a)) [
+  | inl wide ↦
+      let width_a = first_width-append a rest none_a in
+      let width_b = first_width-append b rest none_b in
+      record {
+        width = omega arith;
+        line = wide_line b rest (first_width (a ++ rest)) (omega arith) (omega arith) ∙ sym (wide_line a rest (first_width (a ++ rest)) wide width_a);
+        behind = behind_front b rest (first_width (a ++ rest)) (omega arith) ∙ sym (behind_front a rest (first_width (a ++ rest)) width_a);
+        size = omega (arith, length-append a rest, length-append b rest);
+      }
+  | inr few ↦
+      let P : List ℕ → Type 0 = λ front. LooksLike (a ++ rest) (front ++ rest) in
+      subst P (sym (narrow few)) (looks_same (a ++ rest))
+]
+
+pub too_long_alike : (before now : List ℕ) (room : ℕ) → LooksLike before now → IsTooLong now room → IsTooLong before room
+too_long_alike before now room alike long = record {
+  more = omega (arith, alike.size, long.more);
+  no_end = omega (arith, alike.width, long.no_end);
+}
+
+pub too_long_more : (text rest : List ℕ) (room : ℕ) → IsTooLong text room → IsTooLong (text ++ rest) room
+too_long_more text rest room long = record {
+  more = omega (arith, length-append text rest, long.more);
+  no_end = omega (arith, first_width-more text rest, long.no_end);
+}
+
+-- ---- what is told
+
+pub told_start : (left : Option (List ℕ)) (text : List ℕ) → IfTold left left (λ before after. LooksLike (text ++ before) (text ++ after))
+told_start None text = tt
+told_start (Some left) text = looks_same (text ++ left)
+
+pub told_more : (a b c : Option (List ℕ)) (s t u : List ℕ) → IfTold a b (λ x y. LooksLike (s ++ x) (t ++ y)) → IfTold b c (λ x y. LooksLike (t ++ x) (u ++ y)) → IfTold a c (λ x y. LooksLike (s ++ x) (u ++ y))
+told_more None None None s t u ab bc = tt
+told_more None None (Some z) s t u ab bc = bc
+told_more None (Some y) c s t u ab bc = absurd ab
+told_more (Some x) None c s t u ab bc = absurd ab
+told_more (Some x) (Some y) None s t u ab bc = absurd bc
+told_more (Some x) (Some y) (Some z) s t u ab bc = looks_on (s ++ x) (t ++ y) (u ++ z) ab bc
+
+-- a piece came behind what was kept, of which a front may have been forgotten
+pub filled : (before after : Option (List ℕ)) (old mid now piece : List ℕ) → first_width old ≡ length old → first_width mid ≡ length mid → length mid ≡ length old → (length old ≤ LINE_LIMIT → mid ≡ old) → now ≡ mid ++ piece → before ≡ option_map (λ rest. piece ++ rest) after → IfTold before after (λ x y. LooksLike (old ++ x) (now ++ y))
+filled None None old mid now piece none_old none_mid same narrow is gives = tt
+filled None (Some y) old mid now piece none_old none_mid same narrow is gives = absurd cc
+filled (Some x) None old mid now piece none_old none_mid same narrow is gives = absurd cc
+filled (Some x) (Some y) old mid now piece none_old none_mid same narrow is gives =
+    let given : x ≡ piece ++ y = cc in
+    let joined : mid ++ x ≡ now ++ y = ap (λ rest. mid ++ rest) given ∙ sym (append_assoc mid piece y) ∙ ap (λ front. front ++ y) (sym is) in
+    let P : List ℕ → Type 0 = λ text. LooksLike (old ++ x) text in
+    subst P joined (looks_forgotten old mid x none_old none_mid same narrow)
+
+-- nothing came behind what was kept, of which a front may have been forgotten
+pub not_filled : (before after : Option (List ℕ)) (old mid now : List ℕ) → first_width old ≡ length old → first_width mid ≡ length mid → length mid ≡ length old → (length old ≤ LINE_LIMIT → mid ≡ old) → now ≡ mid → after ≡ before → IfTold before after (λ x y. LooksLike (old ++ x) (now ++ y))
+not_filled None None old mid now none_old none_mid same narrow is still = tt
+not_filled None (Some y) old mid now none_old none_mid same narrow is still = absurd cc
+not_filled (Some x) None old mid now none_old none_mid same narrow is still = absurd cc
+not_filled (Some x) (Some y) old mid now none_old none_mid same narrow is still =
+    let left : y ≡ x = cc in
+    let P : List ℕ → Type 0 = λ text. LooksLike (old ++ x) text in
+    subst P (ap (λ front. front ++ x) (sym is) ∙ ap (λ rest. now ++ rest) (sym left)) (looks_forgotten old mid x none_old none_mid same narrow)
+
+-- an empty piece came from a source that has ended
+pub still_ended : (before after : Option (List ℕ)) (piece : List ℕ) → before ≡ option_map (λ rest. piece ++ rest) after → piece ≡ [] → IfSome before (λ left. left ≡ []) → IfSome after (λ left. left ≡ [])
+still_ended None None piece gives nothing ended = tt
+still_ended None (Some y) piece gives nothing ended = absurd cc
+still_ended (Some x) None piece gives nothing ended = tt
+still_ended (Some x) (Some y) piece gives nothing ended =
+    let given : x ≡ piece ++ y = cc in
+    sym (ap (λ front. front ++ y) nothing) ∙ sym given ∙ ended
+
+-- ---- the answers
+
+-- the first line of a text and what stands behind it, from those of a text that looks like it
+hands_alike : (line : Option (List ℕ)) (text all rest : List ℕ) (room room_left : ℕ) → LooksLike text all → 0 < length all → ¬ IsTooLong all room → taken_line (take (first_width all) all) ≡ line → rest ≡ drop (first_width all + 1) all → room + length rest ≡ room_left + length all → HandsOut line text room rest room_left
+hands_alike line text all rest room room_left alike some short taken behind counted =
+    let w = first_width text in
+    let width : first_width all + 1 ≡ w + 1 = ap (λ n. n + 1) alike.width in
+    let behind_text : rest ≡ drop (w + 1) text =
+    behind ∙ ap (λ n. drop n all) width ∙ sym (drop-drop 1 w all) ∙ ap (λ others. drop 1 others) alike.behind ∙ drop-drop 1 w text in
+    let within : ¬ IsTooLong text room = λ long. short (record { more = omega (arith, alike.size, long.more); no_end = omega (arith, alike.width, long.no_end) }) in
+    let first : taken_line (take w text) ≡ line = sym alike.line ∙ ap (λ n. taken_line (take n all)) (sym alike.width) ∙ taken in
+    let counted_text : room + length (drop (w + 1) text) ≡ room_left + length text = omega (arith, counted, alike.size, ap length behind_text) in
+    record {
+      lines = ap (map taken_line) (lines_within-first room room_left text (omega (arith, alike.size)) within counted_text)
+          ∙ ap (λ taken. taken ∷ taken_within room_left (drop (w + 1) text)) first ∙ ap (λ others. line ∷ taken_within room_left others) (sym behind_text);
+      behind = behind_text;
+      counted = omega (arith, counted, alike.size);
+      within = within;
+    }
+
+-- a line was cut off
+cut_hands : (line : Option (List ℕ)) (old now : Kept) (text left : List ℕ) (room : ℕ) → LooksLike text (old.text ++ left) → old.room ≡ room → first_width old.text < length old.text → first_width old.text < old.room → now.text ≡ drop (first_width old.text + 1) old.text → old.room ≡ now.room + (first_width old.text + 1) → taken_line (take (first_width old.text) old.text) ≡ line → HandsOut line text room (now.text ++ left) now.room
+cut_hands line old now text left room alike same ends within rest counted taken =
+    let w = first_width old.text in
+    let all = old.text ++ left in
+    let width : first_width all ≡ w = first_width-same old.text left ends in
+    let size = length-append old.text left in
+    let behind : drop (w + 1) all ≡ now.text ++ left = drop-append-le (w + 1) old.text left (omega arith) ∙ ap (λ front. front ++ left) (sym rest) in
+    let first : taken_line (take (first_width all) all) ≡ line =
+    ap (λ n. taken_line (take n all)) width ∙ ap taken_line (take-append-le w old.text left (omega arith)) ∙ taken in
+    hands_alike line text all (now.text ++ left) room now.room alike (omega arith) (λ long. absurd (omega (arith, long.no_end))) first
+    (sym behind ∙ ap (λ n. drop (n + 1) all) (sym width)) (omega (arith, ap length behind, length-drop (w + 1) all))
+
+-- the last line was handed out
+last_hands : (line : Option (List ℕ)) (old now : Kept) (text : List ℕ) (room : ℕ) → LooksLike text (old.text ++ []) → old.room ≡ room → first_width old.text ≡ length old.text → length old.text ≤ old.room → 0 < length old.text → now.text ≡ [] → old.room ≡ now.room + length old.text → taken_line old.text ≡ line → HandsOut line text room (now.text ++ []) now.room
+last_hands line old now text room alike same none within some rest counted taken =
+    let all = old.text ++ [] in
+    let is : all ≡ old.text = append-nil old.text in
+    let nothing : now.text ++ [] ≡ [] = append-nil now.text ∙ rest in
+    let size : length all ≡ length old.text = ap length is in
+    let width : first_width all ≡ length old.text = ap first_width is ∙ none in
+    hands_alike line text all (now.text ++ []) room now.room alike (omega arith) (λ long. absurd (omega (arith, long.more)))
+    (ap taken_line (take_all (first_width all) all (omega arith) ∙ is) ∙ taken)
+    (nothing ∙ sym (drop_all (first_width all + 1) all (omega arith))) (omega (arith, ap length nothing))
+
+pub answers_line : (answer : NextLine) (old now : Kept) (text left : List ℕ) (room : ℕ) → LooksLike text (old.text ++ left) → old.room ≡ room → CutsOff answer old now → Answers (Ok answer) text room now (now.text ++ left)
+answers_line Whole old now text left room alike same cut =
+    cut_hands (Some now.line) old now text left room alike same cut.ends cut.within cut.rest cut.room
+    (taken_line-narrow (take (first_width old.text) old.text) cut.answer.0 ∙ ap Some (sym cut.answer.1))
+answers_line TooWide old now text left room alike same cut =
+    cut_hands None old now text left room alike same cut.ends cut.within cut.rest cut.room (taken_line-wide (take (first_width old.text) old.text) cut.answer)
+answers_line End old now text left room alike same cut = absurd cut.answer
+
+answers_end : (answer : NextLine) (old now : Kept) (text : List ℕ) (room : ℕ) → LooksLike text (old.text ++ []) → old.room ≡ room → first_width old.text ≡ length old.text → length old.text ≤ old.room → TakesLast answer old now → Answers (Ok answer) text room now (now.text ++ [])
+answers_end Whole old now text room alike same none within last =
+    last_hands (Some now.line) old now text room alike same none within last.0 last.2 last.3 (taken_line-narrow old.text last.1.0 ∙ ap Some (sym last.1.1))
+answers_end TooWide old now text room alike same none within last =
+    last_hands None old now text room alike same none within last.0 last.2 last.3 (taken_line-wide old.text last.1)
+answers_end End old now text room alike same none within last =
+    let empty : old.text ++ [] ≡ [] = append-nil old.text ∙ last.0 in
+    let nothing : text ≡ [] = nil_from_length text (omega (arith, alike.size, ap length empty)) in
+    let lines : taken_within room text ≡ [] = ap (λ bytes. taken_within room bytes) nothing ∙ ap (map taken_line) (lines_within-none room) in
+    (record { lines = lines; empty = nothing }, append-nil now.text ∙ last.1.text ∙ last.0, last.1.room ∙ same)
+
+pub answers_last : (answer : NextLine) (old now : Kept) (text left : List ℕ) (room : ℕ) → LooksLike text (old.text ++ left) → old.room ≡ room → first_width old.text ≡ length old.text → length old.text ≤ old.room → left ≡ [] → TakesLast answer old now → Answers (Ok answer) text room now (now.text ++ left)
+answers_last answer old now text left room alike same none within ended last =
+    let P : List ℕ → Type 0 = λ left. LooksLike text (old.text ++ left) → Answers (Ok answer) text room now (now.text ++ left) in
+    subst P (sym ended) (λ alike. answers_end answer old now text room alike same none within last) alike
+
+-- ---- the same, where the source tells its bytes
+
+pub told_line : (answer : NextLine) (before left : Option (List ℕ)) (old mid now : Kept) → IfTold before left (λ x y. LooksLike (old.text ++ x) (mid.text ++ y)) → mid.room ≡ old.room → CutsOff answer mid now → AnswersTold (Ok answer) old before now left
+told_line answer None None old mid now alike same cut = tt
+told_line answer None (Some y) old mid now alike same cut = absurd alike
+told_line answer (Some x) None old mid now alike same cut = absurd alike
+told_line answer (Some x) (Some y) old mid now alike same cut = answers_line answer mid now (old.text ++ x) y old.room alike same cut
+
+pub told_too_long : (before left : Option (List ℕ)) (old mid now : Kept) → IfTold before left (λ x y. LooksLike (old.text ++ x) (mid.text ++ y)) → mid.room ≡ old.room → IsTooLong mid.text mid.room → StaysSame mid now → AnswersTold (Err TooLong) old before now left
+told_too_long None None old mid now alike same long still = tt
+told_too_long None (Some y) old mid now alike same long still = absurd alike
+told_too_long (Some x) None old mid now alike same long still = absurd alike
+told_too_long (Some x) (Some y) old mid now alike same long still =
+    let P : List ℕ → Type 0 = λ text. LooksLike (old.text ++ x) (text ++ y) in
+    let R : ℕ → Type 0 = λ room. IsTooLong mid.text room in
+    let T : List ℕ → Type 0 = λ text. IsTooLong text now.room in
+    let long_now : IsTooLong mid.text now.room = subst R (sym still.room) long in
+    let long_old : IsTooLong mid.text old.room = subst R same long in
+    let too_long = too_long_alike (old.text ++ x) (mid.text ++ y) old.room alike (too_long_more mid.text y old.room long_old) in
+    (record { lines = ap (map taken_line) (lines_within-too_long old.room (old.text ++ x) too_long); too_long = too_long }, subst P (sym still.text) alike, subst T (sym still.text) long_now, still.room ∙ same)
+
+pub told_last : (answer : NextLine) (before left : Option (List ℕ)) (old mid now : Kept) → IfTold before left (λ x y. LooksLike (old.text ++ x) (mid.text ++ y)) → mid.room ≡ old.room → first_width mid.text ≡ length mid.text → length mid.text ≤ mid.room → IfSome left (λ rest. rest ≡ []) → TakesLast answer mid now → AnswersTold (Ok answer) old before now left
+told_last answer None None old mid now alike same none within ended last = tt
+told_last answer None (Some y) old mid now alike same none within ended last = absurd alike
+told_last answer (Some x) None old mid now alike same none within ended last = absurd alike
+told_last answer (Some x) (Some y) old mid now alike same none within ended last = answers_last answer mid now (old.text ++ x) y old.room alike same none within ended last

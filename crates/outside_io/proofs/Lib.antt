@@ -1,0 +1,4 @@
+mod Answered
+mod FirstLine
+mod Pieces
+mod Windows

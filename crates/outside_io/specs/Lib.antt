@@ -1,0 +1,5 @@
+pub mod Lines
+pub mod Memory
+pub mod Stream
+pub mod Sure
+pub mod Window

@@ -1,0 +1,86 @@
+-- How a source is cut into lines, whatever the pieces in which it gives its bytes.
+use Rattle.std.specs.Prelude.{◌≡◌, ℕ, ◌+◌, ◌-◌, ◌<◌, ◌≤◌, List, [], ◌∷◌, ◌++◌, length, take, drop, Option, Some, None, Result, Ok, Err}
+use Rattle.outside_io.specs.declared.lines.Found.{Found}
+use Rattle.outside_io.specs.declared.lines.Found.TheVariants.{Line, TooMuch, Nothing}
+use Rattle.outside_io.specs.declared.lines.LineEndFault.{LineEndFault}
+use Rattle.outside_io.specs.declared.lines.LineEndFault.TheVariants.{TooLong, ReadFault}
+use Rattle.outside_io.specs.declared.lines.NextLine.{NextLine}
+use Rattle.outside_io.specs.declared.lines.NextLine.TheVariants.{Whole, TooWide, End}
+use Rattle.outside_io.specs.Window.{Kept}
+use Rattle.store_spec.specs.Input.{LINE_LIMIT, first_width, taken_line, taken_within, IsTooLong}
+
+-- The first line of a text was handed out: it is none where it is too wide. What is left of the text and of the room
+-- stands behind it and its end.
+pub record HandsOut (line : Option (List ℕ)) (text : List ℕ) (room : ℕ) (rest : List ℕ) (room_left : ℕ) : Type 0 where
+  pub lines : taken_within room text ≡ line ∷ taken_within room_left rest
+  pub behind : rest ≡ drop (first_width text + 1) text
+  pub counted : room + length rest ≡ room_left + length text
+  pub within : ¬ IsTooLong text room
+
+-- there is nothing to hand out
+pub record HandsNothing (text : List ℕ) (room : ℕ) : Type 0 where
+  pub lines : taken_within room text ≡ []
+  pub empty : text ≡ []
+
+-- no further line ends within the room, and there are more bytes
+pub record HasTooMuch (text : List ℕ) (room : ℕ) : Type 0 where
+  pub lines : taken_within room text ≡ []
+  pub too_long : IsTooLong text room
+
+-- The text is as it was, but that bytes of a first line which is too wide may have been forgotten: its width is kept.
+pub record LooksLike (before now : List ℕ) : Type 0 where
+  pub width : first_width now ≡ first_width before
+  pub line : taken_line (take (first_width before) now) ≡ taken_line (take (first_width before) before)
+  pub behind : drop (first_width before) now ≡ drop (first_width before) before
+  pub size : length now ≡ length before
+
+-- What a call answers for the text that was kept or left then, and what is kept and left of it now.
+abbrev pub Answers : Result NextLine LineEndFault → List ℕ → ℕ → Kept → List ℕ → Type 0
+Answers (Ok Whole) text room now rest = HandsOut (Some now.line) text room rest now.room
+Answers (Ok TooWide) text room now rest = HandsOut None text room rest now.room
+Answers (Ok End) text room now rest = HandsNothing text room × (rest ≡ []) × (now.room ≡ room)
+Answers (Err TooLong) text room now rest = HasTooMuch text room × LooksLike text rest × IsTooLong now.text now.room × (now.room ≡ room)
+Answers (Err ReadFault) text room now rest = LooksLike text rest × (now.room ≡ room)
+
+-- a relation of the bytes that a source has left before and after, which it tells both times or never
+abbrev pub IfTold : Option (List ℕ) → Option (List ℕ) → (List ℕ → List ℕ → Type 0) → Type 0
+IfTold None None Related = Unit {0}
+IfTold None (Some left) Related = ⊥
+IfTold (Some before) None Related = ⊥
+IfTold (Some before) (Some left) Related = Related before left
+
+-- the same, where the source tells its bytes
+abbrev pub AnswersTold : Result NextLine LineEndFault → Kept → Option (List ℕ) → Kept → Option (List ℕ) → Type 0
+AnswersTold answer old before now left =
+    IfTold before left (λ before left. Answers answer (old.text ++ before) old.room now (now.text ++ left))
+
+-- ---- what the parts of a call do
+
+-- the answer for a line, of which the last argument is kept
+abbrev pub IsAnswerFor : NextLine → List ℕ → List ℕ → Type 0
+IsAnswerFor Whole line kept = (length line ≤ LINE_LIMIT) × (kept ≡ line)
+IsAnswerFor TooWide line kept = LINE_LIMIT < length line
+IsAnswerFor End line kept = ⊥
+
+-- a line that ends within the room is cut off
+pub record CutsOff (told : NextLine) (old now : Kept) : Type 0 where
+  pub ends : first_width old.text < length old.text
+  pub within : first_width old.text < old.room
+  pub answer : IsAnswerFor told (take (first_width old.text) old.text) now.line
+  pub rest : now.text ≡ drop (first_width old.text + 1) old.text
+  pub room : old.room ≡ now.room + (first_width old.text + 1)
+
+pub record StaysSame (old now : Kept) : Type 0 where
+  pub text : now.text ≡ old.text
+  pub room : now.room ≡ old.room
+
+-- what stands in the text that is kept
+abbrev pub Finds : Found → Kept → Kept → Type 0
+Finds (Line answer) old now = CutsOff answer old now
+Finds TooMuch old now = IsTooLong old.text old.room × StaysSame old now
+Finds Nothing old now = (first_width old.text ≡ length old.text) × (length old.text ≤ old.room) × StaysSame old now
+
+-- all that is kept is the last line, or nothing is
+abbrev pub TakesLast : NextLine → Kept → Kept → Type 0
+TakesLast End old now = (old.text ≡ []) × StaysSame old now
+TakesLast answer old now = (0 < length old.text) × IsAnswerFor answer old.text now.line × (now.text ≡ []) × (old.room ≡ now.room + length old.text)

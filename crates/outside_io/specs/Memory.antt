@@ -1,0 +1,36 @@
+-- A source and a sink in memory, which fail at calls that are known before.
+use Rattle.std.specs.Prelude.{◌≡◌, ℕ, ◌+◌, ◌<◌, ◌≤◌, ◌⊎◌, min, List, length, drop, Contains}
+use Rattle.outside_io.specs.declared.memory.MemorySource.{MemorySource}
+use Rattle.outside_io.specs.declared.memory.MemorySink.{MemorySink}
+use Rattle.store_spec.specs.Fault.{LAST_COUNT}
+
+-- the number of the next call, counted from 1
+abbrev pub next_call : ℕ → ℕ
+next_call calls = min (calls + 1) LAST_COUNT
+
+-- the bytes that the source has left, the calls so far, and those that are to fail
+abbrev pub source_left : MemorySource → List ℕ
+source_left source = drop source.at source.bytes.items
+
+abbrev pub source_calls : MemorySource → ℕ
+source_calls source = source.calls
+
+abbrev pub source_failing : MemorySource → List ℕ
+source_failing source = source.failing.items
+
+-- the bytes that the sink has taken, how many it may take, the calls so far, and those that are to fail
+abbrev pub sink_taken : MemorySink → List ℕ
+sink_taken sink = sink.taken.items
+
+abbrev pub sink_room : MemorySink → ℕ
+sink_room sink = sink.room
+
+abbrev pub sink_calls : MemorySink → ℕ
+sink_calls sink = sink.calls
+
+abbrev pub sink_failing : MemorySink → List ℕ
+sink_failing sink = sink.failing.items
+
+-- a call with these bytes fails: its number is one of those that are to fail, or there is no room for them
+abbrev pub IsRefused : MemorySink → List ℕ → Type 0
+IsRefused sink bytes = Contains (sink_failing sink) (next_call (sink_calls sink)) ⊎ (sink_room sink < length (sink_taken sink) + length bytes)

@@ -1,0 +1,15 @@
+-- What a call on a source or a sink does to its bytes, where it tells them.
+use Rattle.std.specs.Prelude.{◌≡◌, ℕ, List, ◌++◌, take, Option}
+use Rattle.std.specs.Option.{option_map}
+
+-- the bytes that a source had left were these and then those that it has left now
+abbrev pub Gives : Option (List ℕ) → List ℕ → Option (List ℕ) → Type 0
+Gives before bytes now = before ≡ option_map (λ rest. bytes ++ rest) now
+
+-- a sink took these bytes behind those that it had taken
+abbrev pub TakesAll : Option (List ℕ) → List ℕ → Option (List ℕ) → Type 0
+TakesAll before bytes now = now ≡ option_map (λ front. front ++ bytes) before
+
+-- a sink took some of the first of these bytes, or none
+abbrev pub TakesSome : Option (List ℕ) → List ℕ → Option (List ℕ) → Type 0
+TakesSome before bytes now = (count : ℕ) × TakesAll before (take count bytes) now

@@ -1,0 +1,37 @@
+-- What a reader of lines keeps of its source.
+use Rattle.std.specs.Prelude.{◌≡◌, ℕ, ◌+◌, ◌-◌, ◌<◌, ◌≤◌, List, ◌++◌, length, take, replicate, vec_len, slice_range}
+use Rattle.outside_io.specs.declared.lines.Lines.TheInside.{Inside}
+use Rattle.store_spec.specs.Input.{LINE_LIMIT, SCRIPT_LIMIT, first_width}
+
+-- The bytes that were read and not handed out (those of a line that is too wide already stand as zeros), how many of
+-- the first bytes of the source that may be handed out are left, counted from them on, the last whole line, and how
+-- many bytes the buffer takes behind the others.
+pub record Kept : Type 0 where
+  pub text : List ℕ
+  pub room : ℕ
+  pub line : List ℕ
+  pub space : ℕ
+
+-- the bytes in the buffer that were read and not handed out
+abbrev pub window_of : Inside → List ℕ
+window_of a = slice_range a.buffer.items a.start a.end
+
+abbrev pub kept_of : Inside → Kept
+kept_of a = record {
+  text = replicate a.skipped 0 ++ window_of a;
+  room = a.room;
+  line = slice_range a.buffer.items a.line_start a.line_end;
+  space = 65536 - a.end;
+}
+
+pub record IsWindow (a : Inside) : Type 0 where
+  pub size : vec_len a.buffer ≡ 65536
+  pub ordered : a.start ≤ a.end
+  pub within : a.end ≤ 65536
+  pub line_ordered : a.line_start ≤ a.line_end
+  pub line_within : a.line_end ≤ 65536
+  pub searched : a.searched ≤ a.end - a.start
+  pub no_end : first_width (take a.searched (window_of a)) ≡ a.searched
+  pub wide : 0 < a.skipped → LINE_LIMIT < a.skipped
+  pub counted : a.skipped + (a.end - a.start) ≤ a.room + 1
+  pub limited : a.room ≤ SCRIPT_LIMIT

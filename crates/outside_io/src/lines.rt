@@ -1,0 +1,284 @@
+ghost use Rattle.std.specs.Prelude.{◌≡◌, ◌≢◌, ◌==◌, ℕ, ◌+◌, position, ◌≤◌, ◌<◌, [], ◌++◌, length, take, slice_range, Some, Err, IfOk, IfSome, OnErr};
+ghost use Rattle.store_spec.specs.Fault.{Rose};
+ghost use Rattle.outside_io.specs.Stream.{Gives};
+ghost use Rattle.store_spec.specs.Input.{first_width, SCRIPT_LIMIT};
+
+use crate::{Failed, Memory, Source};
+use std::alloc::Global;
+use std::error::Error;
+use std::fmt;
+use std::marker::Model;
+
+const LINE_END: u8 = b'\n';
+
+const LINE_LIMIT: usize = 8192;
+
+const SCRIPT_LIMIT: usize = 67_108_864;
+
+/// How many bytes the buffer holds.
+const BUFFER: usize = 65536;
+
+/// What stands next in a source.
+#[derive(Clone, Copy, Debug, PartialEq, Eq)]
+pub enum NextLine {
+    /// A line of at most 8,192 bytes.
+    Whole,
+    /// A line of more bytes. It was read to its end, and is not kept.
+    TooWide,
+    /// Nothing: the source has ended.
+    End,
+}
+
+/// Why no line came.
+#[derive(Clone, Copy, Debug, PartialEq, Eq)]
+pub enum LineEndFault {
+    /// The first 67,108,864 bytes of the source hold no further whole line, and it gave at least one more.
+    TooLong,
+    /// The source failed.
+    ReadFault,
+}
+
+impl fmt::Display for LineEndFault {
+    fn fmt<W: fmt::Write>(&self, f: &mut fmt::Formatter<W>) -> fmt::Result {
+        f.write_str(match self {
+            LineEndFault::TooLong => "the input is too long",
+            LineEndFault::ReadFault => "the input failed",
+        })
+    }
+}
+
+impl Error for LineEndFault {}
+
+impl From<Failed> for LineEndFault {
+    ghost use Rattle.std.specs.Prelude.{◌≡◌};
+    ghost use Rattle.outside_io.specs.declared.lines.LineEndFault.TheVariants.{ReadFault};
+
+    ghost from_gives = { λ _ fault. fault ≡ ReadFault };
+
+    fn from(_: Failed) -> Self {
+        LineEndFault::ReadFault
+    }
+}
+
+/// What stands in the bytes that are kept.
+#[derive(Clone, Copy)]
+enum Found {
+    Line(NextLine),
+    TooMuch,
+    Nothing,
+}
+
+/// The lines of a source, one after another. A line ends with a line feed; what stands after the last one is a line
+/// where it is not empty. Only the first 67,108,864 bytes of the source are cut into lines.
+#[derive(Drop)]
+pub struct Lines {
+    buffer: Vec<u8>,
+    start: usize,
+    end: usize,
+    searched: usize,
+    skipped: usize,
+    room: usize,
+    line_start: usize,
+    line_end: usize,
+}
+
+impl Model for Lines {
+    ghost use Rattle.outside_io.specs.Window.{Kept, kept_of, IsWindow};
+
+    ghost Value = { Kept };
+
+    ghost view = { kept_of };
+
+    ghost invariant = { IsWindow };
+}
+
+// Where the first line end stands.
+fn first_end(bytes: &[u8]) -> Option<usize>
+    ensures { result ≡ position (λ byte. byte == 10) bytes.now }
+{
+    bytes.iter().position(|byte| *byte == LINE_END)
+}
+
+// Reads a piece into the buffer from a place on.
+fn read_piece<S: Source>(
+    source: &mut S,
+    buffer: &mut [u8],
+    at: usize,
+    asked: usize,
+) -> Result<usize, Failed>
+    requires { at + asked ≤ length buffer.old }
+    ensures before { take at buffer.new ≡ take at buffer.old }
+    ensures within { IfOk result (λ count. count ≤ asked) }
+    ensures gives { IfOk result (λ count. Gives (S.left source.old) (slice_range buffer.new at (at + count)) (S.left source.new)) }
+    ensures end { IfOk result (λ count. count ≡ 0 → 0 < asked → IfSome (S.left source.old) (λ left. left ≡ [])) }
+    ensures unmoved { OnErr result (S.left source.new ≡ S.left source.old) }
+    ensures failed { OnErr result (Rose (S.faults source.old) (S.faults source.new)) }
+    ensures faults { S.faults source.old ≤ S.faults source.new }
+{
+    source.read(&mut buffer[at..at + asked])
+}
+
+// How many bytes stand before the first line end, or in all where there is none.
+fn line_width(bytes: &[u8]) -> usize
+    ensures { result ≡ first_width bytes.now }
+{
+    match first_end(bytes) {
+        Some(place) => place,
+        None => bytes.len(),
+    }
+}
+
+fn answer_for(width: usize) -> NextLine
+    ensures whole { width ≤ 8192 → result ≡ NextLine.Whole }
+    ensures too_wide { 8192 < width → result ≡ NextLine.TooWide }
+{
+    if width <= LINE_LIMIT {
+        NextLine::Whole
+    } else {
+        NextLine::TooWide
+    }
+}
+
+impl Lines {
+    ghost use Rattle.outside_io.specs.Lines.{AnswersTold, Finds, IfTold, TakesLast, LooksLike};
+    ghost use Rattle.outside_io.specs.Window.{Kept};
+
+    /// Takes its buffer, and reads nothing yet.
+    pub fn new(alloc: Global) -> Result<Lines, Memory>
+        ensures text { IfOk result (λ lines. lines.text ≡ []) }
+        ensures room { IfOk result (λ lines. lines.room ≡ SCRIPT_LIMIT) }
+    {
+        Ok(Lines {
+            buffer: vec![in alloc; 0; BUFFER]?,
+            start: 0,
+            end: 0,
+            searched: 0,
+            skipped: 0,
+            room: SCRIPT_LIMIT,
+            line_start: 0,
+            line_end: 0,
+        })
+    }
+
+    /// The line of the last `Whole`, without its end.
+    pub fn line(&self) -> &[u8]
+        ensures { result.now ≡ self.now.line }
+    {
+        &self.buffer[self.line_start..self.line_end]
+    }
+
+    // Cuts off the next line where all of it is kept.
+    fn cut(&mut self) -> Found
+        ensures { Finds result self.old self.new }
+    {
+        let window = &self.buffer[self.start..self.end];
+        let kept = window.len();
+        let length = self.searched + line_width(&window[self.searched..]);
+        let width = self.skipped + length;
+        if length < kept && width < self.room {
+            self.line_start = self.start;
+            self.line_end = self.start + length;
+            self.start += length + 1;
+            self.searched = 0;
+            self.skipped = 0;
+            self.room -= width + 1;
+            return Found::Line(answer_for(width));
+        }
+        if self.skipped + kept > self.room {
+            return Found::TooMuch;
+        }
+        self.searched = kept;
+        Found::Nothing
+    }
+
+    // Hands out all that is kept, which holds no line end, as the last line.
+    fn take_last(&mut self) -> NextLine
+        requires no_end { first_width self.old.text ≡ length self.old.text }
+        requires within { length self.old.text ≤ self.old.room }
+        ensures { TakesLast result self.old self.new }
+    {
+        let width = self.skipped + (self.end - self.start);
+        if width == 0 {
+            return NextLine::End;
+        }
+        self.line_start = self.start;
+        self.line_end = self.end;
+        self.start = self.end;
+        self.searched = 0;
+        self.skipped = 0;
+        self.room -= width;
+        answer_for(width)
+    }
+
+    // Makes room in the buffer behind what is kept, which holds no line end.
+    fn make_space(&mut self)
+        requires no_end { first_width self.old.text ≡ length self.old.text }
+        ensures no_end { first_width self.new.text ≡ length self.new.text }
+        ensures size { length self.new.text ≡ length self.old.text }
+        ensures narrow { length self.old.text ≤ 8192 → self.new.text ≡ self.old.text }
+        ensures room { self.new.room ≡ self.old.room }
+        ensures space { 0 < self.new.space }
+    {
+        let kept = self.end - self.start;
+        self.line_start = 0;
+        self.line_end = 0;
+        if self.skipped + kept > LINE_LIMIT {
+            self.skipped += kept;
+            self.start = 0;
+            self.end = 0;
+            self.searched = 0;
+        } else {
+            self.buffer.copy_within(self.start..self.end, 0);
+            self.start = 0;
+            self.end = kept;
+        }
+    }
+
+    // Reads a further piece behind what is kept, which holds no line end, and answers how many bytes came. It asks for
+    // no more than one byte past the room.
+    fn fill<S: Source>(&mut self, source: &mut S) -> Result<usize, Failed>
+        requires no_end { first_width self.old.text ≡ length self.old.text }
+        requires within { length self.old.text ≤ self.old.room }
+        ensures text { IfTold (S.left source.old) (S.left source.new) (λ before left. LooksLike (self.old.text ++ before) (self.new.text ++ left)) }
+        ensures size { IfOk result (λ count. length self.new.text ≡ length self.old.text + count) }
+        ensures end { IfOk result (λ count. count ≡ 0 → IfSome (S.left source.new) (λ left. left ≡ [])) }
+        ensures kept { OnErr result (length self.new.text ≡ length self.old.text) }
+        ensures no_end { OnErr result (first_width self.new.text ≡ length self.new.text) }
+        ensures still_none { IfOk result (λ count. count ≡ 0 → first_width self.new.text ≡ length self.new.text) }
+        ensures within { length self.new.text ≤ self.new.room + 1 }
+        ensures room { self.new.room ≡ self.old.room }
+        ensures failed { OnErr result (Rose (S.faults source.old) (S.faults source.new)) }
+        ensures faults { S.faults source.old ≤ S.faults source.new }
+    {
+        self.make_space();
+        let end = self.end;
+        let asked = (BUFFER - end).min(self.room + 1 - self.skipped - (end - self.start));
+        match read_piece(source, &mut self.buffer, end, asked) {
+            Ok(count) => {
+                self.end += count;
+                Ok(count)
+            }
+            Err(Failed) => Err(Failed),
+        }
+    }
+
+    /// Hands out the next line of the source, for the bytes that are kept followed by those that the source has left.
+    /// After `ReadFault` a further call goes on from what was read; after `TooLong` it answers `TooLong` again.
+    pub fn next_line<S: Source>(&mut self, source: &mut S) -> Result<NextLine, LineEndFault>
+        ensures answers { AnswersTold result self.old (S.left source.old) self.new (S.left source.new) }
+        ensures progress { IfOk result (λ answer. answer ≢ NextLine.End → self.new.room < self.old.room) }
+        ensures failed { result ≡ Err LineEndFault.ReadFault → Rose (S.faults source.old) (S.faults source.new) }
+        ensures faults { S.faults source.old ≤ S.faults source.new }
+    {
+        'lines: loop {
+            match self.cut() {
+                Found::Line(answer) => return Ok(answer),
+                Found::TooMuch => return Err(LineEndFault::TooLong),
+                Found::Nothing => {}
+            }
+            if self.fill(source)? == 0 {
+                return Ok(self.take_last());
+            }
+        }
+    }
+}

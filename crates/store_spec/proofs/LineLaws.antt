@@ -1,0 +1,204 @@
+-- The laws of record lines.
+use Rattle.std.proofs.Common.{◌≡◌, ℕ, suc, ◌+◌, ◌-◌, ◌*◌, ◌^◌, ◌<◌, ◌≤◌, inl, inr, List, [], ◌∷◌, ◌++◌, length, get_or, take, map, replicate, None, refl, sym, ap, subst, ◌∙◌, arith, length-append, length-take, take_at, get_or-take, pow_mono}
+use Rattle.std.specs.Prelude.{All}
+use Rattle.std.specs.Fmt.{decimal}
+use Rattle.std.specs.List.{AllByRecursion}
+use Rattle.std.proofs.lemmas.Bool.{cases_lt}
+use Rattle.std.proofs.lemmas.Fmt.{length-decimal-le}
+use Rattle.std.proofs.lemmas.List.{length-map}
+use Rattle.std.proofs.lemmas.List.Elements.{recursion_from_All, All-from_recursion}
+use Rattle.std.proofs.lemmas.Option.{none-some, same_Some}
+use Rattle.store_spec.specs.Ballot.{Ballot, IsValid}
+use Rattle.store_spec.specs.BallotLine.{IsRecordLine, Line, IsGroup, group_text, line_text, mark_set, ballot_of_line}
+use Rattle.store_spec.specs.Election.{Election, IsElection}
+use Rattle.store_spec.specs.LineLaws.{ReadOneWay, AreShort, SpellOneBallot, SpelledOneWay, SpellEachBallot, AreMarkSets, ExampleRecordLines}
+use Rattle.store_spec.proofs.LineGroups.{RisesFrom, choices_text, rises_from_IsGroup}
+use Rattle.store_spec.proofs.LineReading.{digits_at, choices_at, group_at, groups_of, line_of}
+use Rattle.store_spec.proofs.LineWhole.{groups_text, line_takes, line_again}
+use Rattle.store_spec.proofs.ValidMarks.{small_set, marks_kept}
+use Rattle.store_spec.proofs.MarkSets.{mark_set-cons, doubled, group_of, IsGroup-group_of, mark_set-group_of, group_of-mark_set}
+
+pub one_reading : ReadOneWay
+one_reading bytes x y first second = same_Some x y (sym (line_again bytes x first) ∙ line_again bytes y second)
+
+-- ---- how long a line is
+
+choice_length : (choice : ℕ) → choice ≤ 32 → (length (decimal choice) ≤ 2) × (choice < 10 → length (decimal choice) ≤ 1)
+choice_length choice few = (length-decimal-le 2 choice (omega arith) (omega arith) (omega arith), λ one. length-decimal-le 1 choice (omega arith) (omega arith) (omega arith))
+
+-- nine choices have one digit each, the others two, and all but one have a comma
+choices_length : (last choice : ℕ) (choices : List ℕ) → RisesFrom last (choice ∷ choices) → length (choices_text (choice ∷ choices)) + 1 + (9 - last) ≤ 3 * (32 - last)
+choices_length last choice [] rises =
+    let digits = choice_length choice rises.1 in
+    elim (cases_lt choice 10) [
+      | inl one ↦ omega (arith, digits.1 one, rises.0, rises.1)
+      | inr two ↦ omega (arith, digits.0, rises.0, rises.1)
+    ]
+choices_length last choice (next ∷ choices) rises =
+    let digits = choice_length choice rises.1 in
+    let rest = choices_length choice next choices rises.2 in
+    let whole = length-append (decimal choice) (44 ∷ choices_text (next ∷ choices)) in
+    elim (cases_lt choice 10) [
+      | inl one ↦ omega (arith, digits.1 one, rest, whole, rises.0, rises.1)
+      | inr two ↦ omega (arith, digits.0, rest, whole, rises.0, rises.1)
+    ]
+
+group_length : (choices : List ℕ) → IsGroup choices → length (group_text choices) ≤ 86
+group_length [] group = omega arith
+group_length (choice ∷ choices) group = omega (arith, choices_length 0 choice choices (rises_from_IsGroup (choice ∷ choices) group))
+
+groups_length : (group : List ℕ) (groups : List (List ℕ)) → AllByRecursion IsGroup (group ∷ groups) → length (groups_text (group ∷ groups)) + 1 ≤ 87 * length (group ∷ groups)
+groups_length group [] each = omega (arith, group_length group each.0)
+groups_length group (next ∷ groups) each =
+    omega (arith, group_length group each.0, groups_length next groups each.1, length-append (group_text group) (47 ∷ groups_text (next ∷ groups)))
+
+all_groups_length : (groups : List (List ℕ)) → All IsGroup groups → 1 ≤ length groups → length (groups_text groups) + 1 ≤ 87 * length groups
+all_groups_length [] each some = absurd (omega arith)
+all_groups_length (group ∷ groups) each some = groups_length group groups (recursion_from_All IsGroup (group ∷ groups) each)
+
+pub short_lines : AreShort
+short_lines bytes line reads =
+    let p = reads.parts in
+    let number = length-decimal-le 20 line.number (omega arith) (omega (arith, p.short_number)) p.short_number in
+    let style = length-decimal-le 3 line.style (omega arith) (omega (arith, p.short_style)) (omega (arith, p.short_style)) in
+    let front = length-append (decimal line.number) (32 ∷ decimal line.style) in
+    let whole = length-append (decimal line.number ++ (32 ∷ decimal line.style)) (32 ∷ groups_text line.groups) in
+    omega (arith, ap length reads.spelled, number, style, front, whole, all_groups_length line.groups p.each_group p.some_group, p.few_groups)
+
+-- ---- a line and its ballot
+
+pub one_ballot : SpellOneBallot
+one_ballot e bytes x y first second =
+    first.is ∙ ap ballot_of_line (one_reading bytes first.line second.line first.reads second.reads) ∙ sym second.is
+
+same_groups : (xs ys : List (List ℕ)) → AllByRecursion IsGroup xs → AllByRecursion IsGroup ys → map mark_set xs ≡ map mark_set ys → xs ≡ ys
+same_groups [] [] first second same = refl
+same_groups [] (y ∷ ys) first second same = absurd cc
+same_groups (x ∷ xs) [] first second same = absurd cc
+same_groups (x ∷ xs) (y ∷ ys) first second same =
+    let set : mark_set x ≡ mark_set y = cc in
+    let sets : map mark_set xs ≡ map mark_set ys = cc in
+    let group : x ≡ y = sym (group_of-mark_set x first.0) ∙ ap group_of set ∙ group_of-mark_set y second.0 in
+    let groups = same_groups xs ys first.1 second.1 sets in
+    cc
+
+same_front : (xs ys vs ws : List ℕ) → length xs ≡ length ys → xs ++ vs ≡ ys ++ ws → xs ≡ ys
+same_front xs ys vs ws long same = sym (take_at xs vs (length xs) refl) ∙ ap (take (length xs)) same ∙ take_at ys ws (length xs) (sym long)
+
+same_line : (x y : Line) → x.number ≡ y.number → x.style ≡ y.style → x.groups ≡ y.groups → x ≡ y
+same_line x y number style groups =
+    let made : ℕ → ℕ → List (List ℕ) → Line = λ n s gs. record { number = n; style = s; groups = gs } in
+    ap (λ n. made n x.style x.groups) number ∙ ap (λ s. made y.number s x.groups) style ∙ ap (made y.number y.style) groups
+
+pub one_spelling : SpelledOneWay
+one_spelling e a b x first second =
+    let same : ballot_of_line first.line ≡ ballot_of_line second.line = sym first.is ∙ second.is in
+    let count : length first.line.groups ≡ length second.line.groups = first.a_group_each ∙ sym second.a_group_each in
+    let sets : map mark_set first.line.groups ≡ map mark_set second.line.groups =
+    same_front (map mark_set first.line.groups) (map mark_set second.line.groups) _ _ (length-map first.line.groups mark_set ∙ count ∙ sym (length-map second.line.groups mark_set)) (ap (λ (b : Ballot). b.marks) same) in
+    let groups = same_groups first.line.groups second.line.groups (recursion_from_All IsGroup first.line.groups first.reads.parts.each_group) (recursion_from_All IsGroup second.line.groups second.reads.parts.each_group) sets in
+    first.reads.spelled
+    ∙ ap line_text (same_line first.line second.line (ap (λ (b : Ballot). b.number) same) (ap (λ (b : Ballot). b.style) same) groups)
+    ∙ sym second.reads.spelled
+
+-- ---- a line for each ballot
+
+sets_again : (sets : List ℕ) → ((i : ℕ) → i < length sets → get_or sets i 0 < 2 ^ 32) → map mark_set (map group_of sets) ≡ sets
+sets_again [] small = refl
+sets_again (set ∷ sets) small =
+    let first : mark_set (group_of set) ≡ set = mark_set-group_of set (small 0 (omega arith)) in
+    let rest = sets_again sets (λ i within. small (suc i) (omega arith)) in
+    cc
+
+groups_valid : (sets : List ℕ) → AllByRecursion IsGroup (map group_of sets)
+groups_valid [] = tt
+groups_valid (set ∷ sets) = (IsGroup-group_of set, groups_valid sets)
+
+line_for : Election → Ballot → Line
+line_for e x = record { number = x.number; style = x.style; groups = map group_of (take (length e.contests) x.marks) }
+
+ballot_again : (e : Election) (x : Ballot) → IsElection e → IsValid e x → x ≡ ballot_of_line (line_for e x)
+unfolding line_for
+ballot_again e x election valid =
+    let n = length e.contests in
+    let front = take n x.marks in
+    let front_length : length front ≡ n = omega (arith, length-take n x.marks, valid.sixteen, election.few_contests) in
+    let sets : map mark_set (map group_of front) ≡ front = sets_again front (λ i within.
+    subst (λ set. set < 2 ^ 32) (sym (get_or-take n x.marks i 0 (omega (arith, front_length)))) (small_set e x election valid i (omega (arith, front_length, election.few_contests)))) in
+    let count : 16 - n ≡ 16 - length (map group_of front) = omega (arith, length-map front group_of, front_length) in
+    let marks : x.marks ≡ map mark_set (map group_of front) ++ replicate (16 - length (map group_of front)) 0 =
+    marks_kept e x election valid ∙ ap (λ k. front ++ replicate k 0) count ∙ ap (λ sets. sets ++ replicate (16 - length (map group_of front)) 0) (sym sets) in
+    let made : List ℕ → Ballot = λ marks. record { number = x.number; style = x.style; marks = marks } in
+    ap made marks
+
+pub each_spelled : SpellEachBallot
+unfolding line_for
+each_spelled e x election valid =
+    let n = length e.contests in
+    let sets = take n x.marks in
+    let count : length (map group_of sets) ≡ n = omega (arith, length-map sets group_of, length-take n x.marks, valid.sixteen, election.few_contests) in (
+      line_text (line_for e x),
+      record {
+        line = line_for e x;
+        reads = record {
+          parts = record {
+            some_number = valid.some_number;
+            short_number = valid.short_number;
+            some_style = valid.some_style;
+            short_style = omega (arith, valid.known_style, election.few_styles);
+            some_group = omega (arith, count, election.some_contest);
+            few_groups = omega (arith, count, election.few_contests);
+            each_group = All-from_recursion IsGroup (map group_of sets) (groups_valid sets);
+          };
+          spelled = refl;
+        };
+        a_group_each = count;
+        is = ballot_again e x election valid;
+        valid = valid;
+      },
+    )
+
+-- ---- mark sets
+
+choice_counts : (choices : List ℕ) (last n : ℕ) → RisesFrom last choices → mark_set choices < 2 ^ n → AllByRecursion (λ choice. choice ≤ n) choices
+choice_counts [] last n rises small = tt
+choice_counts (choice ∷ choices) last n rises small =
+    let sum = mark_set-cons choice choices in
+    elim (cases_lt n choice) [
+      | inl past ↦ let large : 2 ^ n ≤ 2 ^ (choice - 1) = pow_mono (omega arith) in absurd (omega arith)
+      | inr within ↦ (within, choice_counts choices choice n rises.2 (omega arith))
+    ]
+
+set_counts : (choices : List ℕ) (last n : ℕ) → RisesFrom last choices → last ≤ n → AllByRecursion (λ choice. choice ≤ n) choices → mark_set choices + 2 ^ last ≤ 2 ^ n
+set_counts [] last n rises low offered = let power : 2 ^ last ≤ 2 ^ n = pow_mono low in omega arith
+set_counts (choice ∷ choices) last n rises low offered =
+    let sum = mark_set-cons choice choices in
+    let rest = set_counts choices choice n rises.2 offered.0 offered.1 in
+    let power : 2 ^ last ≤ 2 ^ (choice - 1) = pow_mono (omega (arith, rises.0)) in
+    let twice : 2 ^ choice ≡ 2 * 2 ^ (choice - 1) = doubled choice (omega (arith, rises.0)) in
+    omega arith
+
+pub mark_sets : AreMarkSets
+mark_sets = record {
+  one_group = λ a b first second same. sym (group_of-mark_set a first) ∙ ap group_of same ∙ group_of-mark_set b second;
+  one_set = λ set small. (group_of set, IsGroup-group_of set, mark_set-group_of set small);
+  offered = λ choices n group. (
+    λ small. All-from_recursion (λ choice. choice ≤ n) choices (choice_counts choices 0 n (rises_from_IsGroup choices group) small),
+    λ offered. omega (arith, set_counts choices 0 n (rises_from_IsGroup choices group) (omega arith) (recursion_from_All (λ choice. choice ≤ n) choices offered)),
+  );
+}
+
+-- ---- examples
+
+not_read : (bytes : List ℕ) → line_of bytes ≡ None → ¬ IsRecordLine bytes
+not_read bytes none is = none-some is.0 (sym none ∙ line_again bytes is.0 is.1)
+
+pub example_record_lines : ExampleRecordLines
+unfolding line_of groups_of group_at choices_at digits_at
+example_record_lines = record {
+  one_mark = line_takes _ _ refl;
+  three_marks = line_takes _ _ refl;
+  leading_zero = not_read _ refl;
+  descending = not_read _ refl;
+  too_great = not_read _ refl;
+}
