@@ -1,8 +1,7 @@
 -- Putting a number in the place of a lower one: the cells stay ordered, and the lower one may stand further on.
-use Rattle.std.proofs.Common.{◌≡◌, ◌≢◌, ℕ, ◌+◌, ◌<◌, ◌≤◌, ◌⊎◌, ⊎_elim, List, length, get_or, set, sym, refl, ap, ◌∙◌, subst, arith}
+use Rattle.std.proofs.Common.{◌≡◌, ◌≢◌, ℕ, ◌+◌, ◌<◌, ◌≤◌, ⊎_elim, List, length, get_or, set, sym, ap, ◌∙◌, subst, arith}
 use Rattle.std.proofs.lemmas.Bool.{cases_eq, cases_lt}
 use Rattle.std.proofs.lemmas.List.{get_or-set_other, get_or-set_same}
-use Rattle.store_spec.proofs.OrderedCells.{above_before, home_before}
 use Rattle.store_spec.specs.Layout.{IsOrdered, MayStand}
 
 pub stands_at_home : (home : ℕ → ℕ) (cells : List ℕ) (v : ℕ) → MayStand home cells v (home v)

@@ -1,10 +1,10 @@
 -- Ordered cells are the first cells of the layout of the numbers in them.
-use Rattle.std.proofs.Common.{◌≡◌, ◌≢◌, ◌==◌, not, if◌then◌else◌, ℕ, zero, suc, ◌+◌, ◌-◌, ◌<◌, ◌≤◌, ◌⊎◌, inl, inr, ⊎_elim, List, [], ◌∷◌, ◌++◌, length, get_or, filter, take, replicate, sym, refl, ap, ◌∙◌, subst, arith}
+use Rattle.std.proofs.Common.{◌≡◌, ◌≢◌, ◌==◌, not, ℕ, ◌-◌, ◌<◌, ◌≤◌, inl, inr, ⊎_elim, List, [], ◌∷◌, ◌++◌, length, get_or, take, replicate, sym, refl, ap, ◌∙◌, subst, arith}
 use Rattle.std.proofs.lemmas.Bool.{eq-eqb, ne_eqb, cases_eq, cases_lt, cond-true, cond-false}
-use Rattle.std.proofs.lemmas.List.{get_or_default, get_or_append_left, get_or-append_right, get_or_past, length-append, length-replicate, take_at, get_or-take}
+use Rattle.std.proofs.lemmas.List.{get_or_default, get_or_append_left, get_or-append_right, length-append, length-replicate, take_at}
 use Rattle.std.proofs.lemmas.List.Elements.{All-contains, Contains-get_or}
 use Rattle.std.proofs.lemmas.List.Kept.{AllPairs-filter}
-use Rattle.std.specs.List.{All, AllPairs, Contains}
+use Rattle.std.specs.List.{All, AllPairs}
 use Rattle.store_spec.proofs.Ascending.{IsIn, in_from_contains, contains_from_in, from_ascending, put_first}
 use Rattle.store_spec.proofs.LaidOut.{empty_cell, ordered_is_layout_of}
 use Rattle.store_spec.proofs.OrderedCells.{above_before, home_before, place_from_contains, contains_from_place, place_within}

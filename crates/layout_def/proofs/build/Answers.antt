@@ -1,10 +1,9 @@
-use Rattle.std.proofs.Common.{◌≡◌, ◌^◌, ◌≢◌, ◌+◌, ◌≤◌, ◌<◌, ℕ, List, All, length, take, drop, replicate, get_or, sym, ap, ◌∙◌, subst, arith, rules}
-use Rattle.layout_def.specs.Pointers.{AreSound}
+use Rattle.std.proofs.Common.{◌≡◌, ℕ, List, length, replicate, get_or, sym, ap, ◌∙◌, subst, arith, rules}
 use Rattle.layout_def.proofs.Skips.{sound_empty}
 use Rattle.layout_def.proofs.build.Goals as goal
 use Rattle.std.proofs.lemmas.List.{get_or-replicate, get_or_default, take_at}
 use Rattle.std.proofs.lemmas.List.Sorted.{IsNonDecreasingBy-from_sort}
-use Rattle.std.specs.List.Sorted.{IsNonDecreasing, IsPermutation}
+use Rattle.std.specs.List.Sorted.{IsPermutation}
 use Rattle.store_spec.proofs.Ascending.{ascending-IsPermutation}
 use Rattle.store_spec.proofs.LaidOut.{room-IsPermutation}
 use Rattle.store_spec.specs.Layout.{HasRoom, ascending, layout_of, laid_out}

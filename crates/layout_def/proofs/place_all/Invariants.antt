@@ -1,4 +1,4 @@
-use Rattle.std.proofs.Common.{◌≡◌, length, take, drop, vec_len}
+use Rattle.std.proofs.Common.{◌≡◌, length, take, drop}
 use Rattle.layout_def.specs.Pointers.{AreSound}
 use Rattle.store_spec.specs.Layout.{laid_out}
 use Rattle.layout_def.proofs.place_all.Given as goal

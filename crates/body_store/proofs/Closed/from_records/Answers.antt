@@ -1,4 +1,4 @@
-use Rattle.std.proofs.Common.{◌≡◌, ℕ, List, subst, sym, ap, ◌∙◌, refl, rules}
+use Rattle.std.proofs.Common.{◌≡◌, List, subst, sym, ap, ◌∙◌, rules}
 use Rattle.ballot_record.specs.declared.record.Record.{Record}
 use Rattle.ballot_record.specs.Record.{ballot}
 use Rattle.body_store.proofs.BallotSets.{set-IsPermutation, stored_in_order}
@@ -6,7 +6,7 @@ use Rattle.body_store.proofs.Closed.from_records.Goals as goal
 use Rattle.body_store.proofs.Numbers.{numbers_rise}
 use Rattle.body_store.specs.Contents.{ballots_of}
 use Rattle.std.proofs.lemmas.List.Sorted.{IsNonDecreasingBy-from_sort_by_key, IsPermutation-map}
-use Rattle.std.specs.List.Sorted.{IsNonDecreasing, IsPermutation}
+use Rattle.std.specs.List.Sorted.{IsNonDecreasing}
 use Rattle.store_spec.specs.Ballot.{IsBallotSet, numbers_of}
 use Rattle.store_spec.specs.Image.{cells_of}
 

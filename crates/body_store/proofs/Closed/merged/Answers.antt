@@ -1,5 +1,4 @@
-use Rattle.std.proofs.Common.{◌≡◌, ◌++◌, ℕ, List, subst, sym, ap, ◌∙◌, refl, rules}
-use Rattle.ballot_record.specs.declared.record.Record.{Record}
+use Rattle.std.proofs.Common.{◌≡◌, ◌++◌, List, subst, sym, ap, ◌∙◌, rules}
 use Rattle.ballot_record.specs.Record.{ballot}
 use Rattle.body_store.proofs.BallotSets.{cells_of-IsPermutation, stored_in_order}
 use Rattle.body_store.proofs.Closed.merged.Goals as goal
@@ -8,9 +7,8 @@ use Rattle.body_store.specs.Contents.{Contents, ballots_of}
 use Rattle.std.proofs.lemmas.List.{map-append}
 use Rattle.std.proofs.lemmas.List.Sorted.{IsNonDecreasingBy-from_sort_by_key, IsPermutation-map}
 use Rattle.std.specs.List.Sorted.{IsNonDecreasing, IsPermutation}
-use Rattle.store_spec.specs.Ballot.{Ballot, IsBallotSet, numbers_of}
+use Rattle.store_spec.specs.Ballot.{Ballot, numbers_of}
 use Rattle.store_spec.specs.Election.{Election, IsElection}
-use Rattle.store_spec.specs.Image.{cells_of}
 
 pub returns-clause-union : goal.returns-clause-union
 returns-clause-union c =

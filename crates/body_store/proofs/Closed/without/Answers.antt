@@ -1,4 +1,4 @@
-use Rattle.std.proofs.Common.{◌≡◌, ℕ, List, subst, sym, ap, ◌∙◌, rules}
+use Rattle.std.proofs.Common.{◌≡◌, List, subst, sym, ap, ◌∙◌, rules}
 use Rattle.body_store.proofs.BallotSets.{stored_without}
 use Rattle.body_store.proofs.Closed.without.Goals as goal
 use Rattle.body_store.specs.Contents.{Contents, IsStored, ballots_of, ballots_without}

@@ -1,4 +1,4 @@
-use Rattle.std.proofs.Common.{◌∙◌, rules}
+use Rattle.std.proofs.Common.{◌∙◌}
 use Rattle.std.proofs.lemmas.List.Sorted.{searched}
 use Rattle.body_store.proofs.Lookups.{any_from_search}
 use Rattle.body_store.proofs.records.contains.Goals as goal

@@ -1,9 +1,8 @@
-use Rattle.std.proofs.Common.{◌≡◌, ◌<◌, ◌≤◌, ◌⊎◌, ⊎_elim, ℕ, Some, get_or, length, sym, ap, ◌∙◌, arith, rules}
+use Rattle.std.proofs.Common.{◌≡◌, ◌<◌, ◌≤◌, ⊎_elim, Some, get_or, length, sym, ap, ◌∙◌, arith, rules}
 use Rattle.body_store.proofs.Lookups.{ballot_found, ballot_missing, cmp_equal, cmp_less, cmp_greater, cmp_rises}
 use Rattle.body_store.proofs.Numbers.{no_ballot, no_record, rise_from_ascending}
 use Rattle.body_store.proofs.records.with_number.Goals as goal
 use Rattle.body_store.specs.Contents.{ballots_of}
-use Rattle.ballot_record.specs.declared.record.Record.{Record}
 use Rattle.ballot_record.specs.Record.{ballot}
 use Rattle.std.proofs.lemmas.Bool.{cases_lt}
 use Rattle.std.proofs.lemmas.List.{get_or-map, length-map}

@@ -1,12 +1,12 @@
 use Rattle.ballot_record.specs.declared.record.Record.{Record}
-use Rattle.std.proofs.Common.{◌≡◌, ◌==◌, Vec, Global, ◌+◌, ◌++◌, [], ◌∷◌, ℕ, List, Bool, true, false, length, get_or, take, subst, sym, ap, ◌∙◌, arith, rules}
+use Rattle.std.proofs.Common.{◌≡◌, ◌==◌, Vec, Global, ℕ, List, get_or, subst, sym, ap, ◌∙◌, arith, rules}
 use Rattle.std.proofs.lemmas.List.{take_more}
 use Rattle.std.proofs.lemmas.List.Sorted.{IsNonDecreasingBy-from_sort, list_any-IsPermutation}
 use Rattle.std.specs.List.{list_any}
 use Rattle.std.specs.List.Sorted.{IsNonDecreasing}
 use Rattle.body_store.proofs.Lookups.{kept_more, dropped_more}
 use Rattle.body_store.proofs.Numbers.{no_record}
-use Rattle.body_store.specs.Contents.{ballots_of, ballots_without}
+use Rattle.body_store.specs.Contents.{ballots_of}
 use Rattle.body_store.proofs.records.without.Goals as goal
 use Rattle.body_store.proofs.records.without.Goals.{then-not-contains+in_ok-push, else-not-contains}
 

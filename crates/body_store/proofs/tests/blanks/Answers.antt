@@ -1,5 +1,4 @@
-use Rattle.std.proofs.Common.{◌≡◌, ◌^◌, ◌<◌, ℕ, List, All, map, sym, subst, ap, ◌∙◌, arith, rules}
-use Rattle.ballot_record.specs.Record.{ballot}
+use Rattle.std.proofs.Common.{◌≡◌, ◌^◌, ◌<◌, List, All, map, sym, subst, ap, ◌∙◌, arith}
 use Rattle.body_store.proofs.Blank.{blank_record, blank_set, ballots_of-blank}
 use Rattle.body_store.proofs.tests.blanks.Goals as goal
 use Rattle.body_store.specs.Contents.{ballots_of}

@@ -1,4 +1,4 @@
-use Rattle.std.proofs.Common.{◌≡◌, ◌<◌, ℕ, List, [], ◌∷◌, map, sym, ap, ◌∙◌, subst, rules}
+use Rattle.std.proofs.Common.{◌≡◌, List, [], ◌∷◌, map, ap, ◌∙◌, subst, rules}
 use Rattle.body_store.proofs.BallotSets.{same_in_order}
 use Rattle.body_store.proofs.Blank.{blank, blanks_rise}
 use Rattle.body_store.proofs.tests.one_less.Goals as goal

@@ -1,4 +1,4 @@
-use Rattle.std.proofs.Common.{◌≡◌, ◌++◌, ℕ, List, [], ◌∷◌, map, sym, ap, ◌∙◌, subst, rules}
+use Rattle.std.proofs.Common.{◌≡◌, ◌++◌, List, [], ◌∷◌, map, sym, ap, ◌∙◌, subst, rules}
 use Rattle.ballot_record.specs.Record.{ballot}
 use Rattle.body_store.proofs.BallotSets.{cells_of-IsPermutation, set-IsPermutation}
 use Rattle.body_store.proofs.Blank.{blank}

@@ -1,4 +1,4 @@
-use Rattle.std.proofs.Common.{ℕ, ◌≤◌, ◌-◌, length}
+use Rattle.std.proofs.Common.{◌≤◌, ◌-◌, length}
 use Rattle.layout_def.specs.Pointers.{AreSound, LeavesOneEmpty}
 use Rattle.store_spec.specs.Probe.{IsFilled}
 use Rattle.layout_def.proofs.probe.first_empty.Given as goal
