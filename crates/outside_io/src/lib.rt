@@ -14,7 +14,7 @@ pub use lines::{LineEndFault, Lines, NextLine};
 pub use memory::{MemorySink, MemorySource};
 pub use sink::Sink;
 pub use source::Source;
-pub use standard::{StdinSource, StdoutSink};
+pub use standard::{FileSource, StdinSource, StdoutSink};
 pub use sure::{SureSink, SureSource};
 
 #[cfg(test)]

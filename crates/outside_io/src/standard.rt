@@ -1,7 +1,9 @@
-ghost use Rattle.std.specs.Prelude.{◌≡◌, ℕ, List, None};
+ghost use Rattle.std.specs.Prelude.{◌≡◌, ◌≤◌, ℕ, List, length, None, IfOk};
 
 use crate::{Failed, Sink, Source};
-use std::io::{ErrorKind, Read};
+use std::io::Read;
+use std::rt::Files;
+use std::{fs, io};
 
 /// Standard input. No clause says what it gives: it is part of the trusted edge.
 #[derive(Drop)]
@@ -27,6 +29,59 @@ impl<I: Input> Source for StdinSource<'_, I> {
 
     fn read(&mut self, buf: &mut [u8]) -> Result<usize, Failed> {
         match self.input.reader().read(buf) {
+            Ok(count) => Ok(count),
+            Err(_) => {
+                self.faults = self.faults.saturating_add(1);
+                Err(Failed)
+            }
+        }
+    }
+}
+
+/// A file, which is opened at the first read and stays open. No clause says what it gives: it is part of the trusted
+/// edge.
+#[derive(Drop)]
+pub struct FileSource<'a, F: Files> {
+    files: &'a F,
+    path: &'a str,
+    file: Option<F::File>,
+    faults: u64,
+}
+
+impl<'a, F: Files> FileSource<'a, F> {
+    /// Opens nothing yet. A file that is missing, or that cannot be read, is a fault of the first read; the next read
+    /// then tries to open it again.
+    pub fn new(rt: &'a F, path: &'a str) -> FileSource<'a, F> {
+        FileSource {
+            files: rt,
+            path,
+            file: None,
+            faults: 0,
+        }
+    }
+
+    // Reads the next bytes of the file, which it opens where that is still to be done.
+    fn read_file(&mut self, buf: &mut [u8]) -> io::Result<usize>
+        ensures within { IfOk result (λ count. count ≤ length buf.old) }
+        ensures faults { self.new.faults ≡ self.old.faults }
+    {
+        if self.file.is_none() {
+            self.file = Some(fs::open(self.files, self.path)?);
+        }
+        match &mut self.file {
+            Some(file) => file.read(buf),
+            None => Ok(0),
+        }
+    }
+}
+
+impl<F: Files> Source for FileSource<'_, F> {
+    ghost left = { λ _. None };
+
+    ghost faults = { λ source. source.faults };
+
+    fn read(&mut self, buf: &mut [u8]) -> Result<usize, Failed> {
+        match self.read_file(buf) {
             Ok(count) => Ok(count),
             Err(_) => {
                 self.faults = self.faults.saturating_add(1);

@@ -2,6 +2,7 @@ ghost use Rattle.std.specs.Prelude.{◌≡◌, ◌≤◌, ℕ, length, vec_len, 
 
 use crate::*;
 use std::alloc::Global;
+use std::fs;
 use std::test::Fail;
 
 /// Gives its bytes in pieces of at most so many, and fails once, before the call with that number.
@@ -165,6 +166,25 @@ fn reads_standard_input(rt: HostRuntime) {
     let mut buf = [0; 4];
     let read = StdinSource::new(&rt).read(&mut buf);
     assert!(rt; read.is_ok(), "standard input is empty in a test: {read:?}");
+}
+
+#[test]
+fn reads_a_file(rt: HostRuntime) -> Result<(), Fail> {
+    let path = "outside_io_reads_a_file";
+    fs::write(&rt, path, "abc")?;
+    let mut source = FileSource::new(&rt, path);
+    let mut buf = [0; 2];
+    assert_eq!(rt; source.read(&mut buf), Ok(2));
+    assert_eq!(rt; buf, *b"ab");
+    assert_eq!(rt; source.read(&mut buf), Ok(1));
+    assert_eq!(rt; buf, *b"cb");
+    assert_eq!(rt; source.read(&mut buf), Ok(0));
+    fs::remove_file(&rt, path)?;
+
+    let mut missing = FileSource::new(&rt, path);
+    assert_eq!(rt; missing.read(&mut buf), Err(Failed));
+    assert_eq!(rt; missing.read(&mut buf), Err(Failed));
+    Ok(())
 }
 
 #[test]
