@@ -1,12 +1,11 @@
 //! The definitions that the whole store is proved against, and laws about them.
 #![tactic(auto)]
 
+mod disk;
 pub mod layout;
 pub mod line_laws;
 
 ghost use Rattle.store_spec.specs.Figures.{ExampleHomes, ExampleSizes, ExampleLayout, ExampleLines};
-
-mod disk;
 
 pub use disk::{torn_again, torn_range, written_range};
 
