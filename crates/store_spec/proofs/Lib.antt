@@ -13,3 +13,4 @@ pub mod Placing
 pub mod ValidMarks
 pub mod DiskMoments
 pub mod TornBytes
+pub mod BuildLaws

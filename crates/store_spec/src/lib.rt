@@ -1,6 +1,7 @@
 //! The definitions that the whole store is proved against, and laws about them.
 #![tactic(auto)]
 
+pub mod build;
 mod disk;
 pub mod layout;
 pub mod line_laws;

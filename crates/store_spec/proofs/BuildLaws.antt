@@ -1,0 +1,182 @@
+-- Why lines build one thing.
+use Rattle.std.proofs.Common.{◌≡◌, ◌≢◌, ℕ, zero, suc, ◌+◌, ◌<◌, ◌≤◌, List, [], ◌∷◌, length, get_or, take, Option, Some, None, Result, Ok, Err, refl, ap, sym, subst, ◌∙◌, inl, inr, arith}
+use Rattle.std.proofs.lemmas.Bool.{cases_lt, cases_eq}
+use Rattle.std.proofs.lemmas.List.{length-take-le, get_or-take, get_or_default, take-take}
+use Rattle.std.specs.List.{AllZip}
+use Rattle.std.specs.Prelude.{slice_get, Any, Contains, AllPairs}
+use Rattle.store_spec.specs.Ballot.{Ballot, IsBallotSet}
+use Rattle.store_spec.specs.BallotLine.{Spells, IsRecordLine, IsLineOf}
+use Rattle.store_spec.specs.Build.{BuiltFrom, IsSetOf, IsFirstBad, IsRefused, Reason}
+use Rattle.store_spec.specs.Build.Reason.{Malformed, Invalid, Duplicate, Conflict, Full}
+use Rattle.store_spec.specs.BuildLaws.{BuildOneWay}
+use Rattle.store_spec.specs.Election.{Election}
+use Rattle.store_spec.proofs.LineLaws.{one_ballot}
+
+same_ballots : (e : Election) (lines : List (List ℕ)) (xs ys : List Ballot) → AllZip (Spells e) lines xs → AllZip (Spells e) lines ys → xs ≡ ys
+same_ballots e [] [] [] x y = refl
+same_ballots e [] [] (b ∷ ys) x y = absurd y
+same_ballots e [] (b ∷ xs) ys x y = absurd x
+same_ballots e (l ∷ ls) [] ys x y = absurd x
+same_ballots e (l ∷ ls) (a ∷ xs) [] x y = absurd y
+same_ballots e (l ∷ ls) (a ∷ xs) (b ∷ ys) x y =
+    ap (λ first. first ∷ xs) (one_ballot e l a b x.0 y.0) ∙ ap (λ rest. b ∷ rest) (same_ballots e ls xs ys x.1 y.1)
+
+-- a line among lines that spell ballots, and those before it
+record Stands (e : Election) (lines : List (List ℕ)) (ballots : List Ballot) (i : ℕ) (bytes : List ℕ) : Type 0 where
+  ballot : Ballot
+  spells : Spells e bytes ballot
+  place : i < length ballots
+  is : (d : Ballot) → get_or ballots i d ≡ ballot
+  before : AllZip (Spells e) (take i lines) (take i ballots)
+
+stands : (e : Election) (lines : List (List ℕ)) (ballots : List Ballot) (i : ℕ) (bytes : List ℕ) → AllZip (Spells e) lines ballots → slice_get lines i ≡ Some bytes → Stands e lines ballots i bytes
+stands e [] ballots i bytes all here = absurd cc
+stands e (l ∷ ls) [] i bytes all here = absurd all
+stands e (l ∷ ls) (b ∷ bs) zero bytes all here =
+    let same : l ≡ bytes = cc in
+    let P : List ℕ → Type 0 = λ line. Spells e line b in
+    record { ballot = b; spells = subst P same all.0; place = omega arith; is = λ d. refl; before = tt }
+stands e (l ∷ ls) (b ∷ bs) (suc i) bytes all here =
+    let rest = stands e ls bs i bytes all.1 here in
+    record { ballot = rest.ballot; spells = rest.spells; place = omega (arith, rest.place); is = λ d. rest.is d; before = (all.0, rest.before) }
+
+-- no other ballot before it has its number
+numbered_before : (ballots : List Ballot) (i : ℕ) (b : Ballot) → AllPairs (λ x y. x.number ≢ y.number) ballots → i < length ballots → ((d : Ballot) → get_or ballots i d ≡ b) → ¬ Any (λ other. other.number ≡ b.number) (take i ballots)
+numbered_before ballots i b distinct place is any =
+    let size = length-take-le i ballots (omega arith) in
+    let before : any.0 < i = omega (arith, any.2, size) in
+    let other = any.1 in
+    let there : get_or ballots any.0 other ≡ other = sym (get_or-take i ballots any.0 other before) ∙ any.3 in
+    distinct any.0 i other before place (ap (λ (x : Ballot). x.number) there ∙ any.4 ∙ sym (ap (λ (x : Ballot). x.number) (is other)))
+
+contained : (ballots : List Ballot) (b : Ballot) → Contains ballots b → Any (λ other. other.number ≡ b.number) ballots
+contained ballots b c = (c.0, b, c.1, c.2, refl)
+
+-- a line of a set, after the ballots of the lines before it, is not refused
+accepted : (e : Election) (bytes : List ℕ) (before : List Ballot) (b : Ballot) (why : Reason) → Spells e bytes b → ¬ Any (λ other. other.number ≡ b.number) before → length before < e.limit → IsRefused e before bytes why → ⊥
+accepted e bytes before b Malformed spells new room bad = bad (spells.line, spells.reads)
+accepted e bytes before b Invalid spells new room bad = bad.1 (b, spells)
+accepted e bytes before b Duplicate spells new room bad =
+    let P : Ballot → Type 0 = λ b. Any (λ other. other.number ≡ b.number) before in
+    new (subst P (one_ballot e bytes bad.0 b bad.1 spells) (contained before bad.0 bad.2))
+accepted e bytes before b Conflict spells new room bad =
+    let same = one_ballot e bytes bad.0 b bad.1 spells in
+    let other = bad.2 in
+    new (other.0, other.1, other.2, other.3, other.4.0 ∙ ap (λ (x : Ballot). x.number) same)
+accepted e bytes before b Full spells new room bad = omega (arith, bad.3)
+
+not_refused : (e : Election) (lines : List (List ℕ)) (ballots before : List Ballot) (i : ℕ) (bytes : List ℕ) (why : Reason) → IsSetOf e lines ballots → slice_get lines i ≡ Some bytes → AllZip (Spells e) (take i lines) before → IsRefused e before bytes why → ⊥
+not_refused e lines ballots before i bytes why good here prefix bad =
+    let s = stands e lines ballots i bytes good.each here in
+    let same : before ≡ take i ballots = same_ballots e (take i lines) before (take i ballots) prefix s.before in
+    let P : List Ballot → Type 0 = λ before. IsRefused e before bytes why in
+    let size = length-take-le i ballots (omega (arith, s.place)) in
+    accepted e bytes (take i ballots) s.ballot why s.spells (numbered_before ballots i s.ballot good.set.distinct s.place s.is) (omega (arith, s.place, size, good.set.within_limit)) (subst P same bad)
+
+-- ---- one reason
+
+-- a line that is refused in spite of its ballot
+twice_or_not : (ballots : List Ballot) (b : Ballot) → AllPairs (λ x y. x.number ≢ y.number) ballots → Contains ballots b → Any (λ other. (other.number ≡ b.number) × (other ≢ b)) ballots → ⊥
+twice_or_not ballots b distinct has other =
+    let k = has.0 in
+    let l = other.0 in
+    let x = other.1 in
+    let at_k : get_or ballots k b ≡ b = has.2 in
+    let at_l : get_or ballots l x ≡ x = other.3 in
+    let number_k : (d : Ballot) → (get_or ballots k d).number ≡ b.number = λ d. ap (λ (x : Ballot). x.number) (get_or_default ballots k d b has.1 ∙ at_k) in
+    let number_l : (d : Ballot) → (get_or ballots l d).number ≡ x.number = λ d. ap (λ (x : Ballot). x.number) (get_or_default ballots l d x other.2 ∙ at_l) in
+    elim (cases_lt k l) [
+      | inl less ↦ distinct k l b less other.2 (number_k b ∙ sym other.4.0 ∙ sym (number_l b))
+      | inr more ↦ elim (cases_eq k l) [
+        | inl same ↦ other.4.1 (sym at_l ∙ get_or_default ballots l x b other.2 ∙ ap (λ n. get_or ballots n b) (sym same) ∙ at_k)
+        | inr apart ↦ distinct l k b (omega arith) has.1 (number_l b ∙ other.4.0 ∙ sym (number_k b))
+      ]
+    ]
+
+duplicate_conflict : (e : Election) (before : List Ballot) (bytes : List ℕ) → IsBallotSet e before → IsRefused e before bytes Duplicate → IsRefused e before bytes Conflict → ⊥
+duplicate_conflict e before bytes set x y =
+    let P : Ballot → Type 0 = λ b. Contains before b in
+    twice_or_not before y.0 set.distinct (subst P (one_ballot e bytes x.0 y.0 x.1 y.1) x.2) y.2
+
+duplicate_full : (e : Election) (before : List Ballot) (bytes : List ℕ) → IsRefused e before bytes Duplicate → IsRefused e before bytes Full → ⊥
+duplicate_full e before bytes x y =
+    let P : Ballot → Type 0 = λ b. Any (λ other. other.number ≡ b.number) before in
+    y.2 (subst P (one_ballot e bytes x.0 y.0 x.1 y.1) (contained before x.0 x.2))
+
+conflict_full : (e : Election) (before : List Ballot) (bytes : List ℕ) → IsRefused e before bytes Conflict → IsRefused e before bytes Full → ⊥
+conflict_full e before bytes x y =
+    let same = one_ballot e bytes x.0 y.0 x.1 y.1 in
+    let other = x.2 in
+    y.2 (other.0, other.1, other.2, other.3, other.4.0 ∙ ap (λ (b : Ballot). b.number) same)
+
+line_of : (e : Election) (bytes : List ℕ) → IsLineOf e bytes → IsRecordLine bytes
+line_of e bytes is = (is.1.line, is.1.reads)
+
+one_reason : (e : Election) (before : List Ballot) (bytes : List ℕ) (x y : Reason) → IsBallotSet e before → IsRefused e before bytes x → IsRefused e before bytes y → x ≡ y
+one_reason e before bytes Malformed Malformed set x y = refl
+one_reason e before bytes Malformed Invalid set x y = absurd (x y.0)
+one_reason e before bytes Malformed Duplicate set x y = absurd (x (line_of e bytes (y.0, y.1)))
+one_reason e before bytes Malformed Conflict set x y = absurd (x (line_of e bytes (y.0, y.1)))
+one_reason e before bytes Malformed Full set x y = absurd (x (line_of e bytes (y.0, y.1)))
+one_reason e before bytes Invalid Malformed set x y = absurd (y x.0)
+one_reason e before bytes Invalid Invalid set x y = refl
+one_reason e before bytes Invalid Duplicate set x y = absurd (x.1 (y.0, y.1))
+one_reason e before bytes Invalid Conflict set x y = absurd (x.1 (y.0, y.1))
+one_reason e before bytes Invalid Full set x y = absurd (x.1 (y.0, y.1))
+one_reason e before bytes Duplicate Malformed set x y = absurd (y (line_of e bytes (x.0, x.1)))
+one_reason e before bytes Duplicate Invalid set x y = absurd (y.1 (x.0, x.1))
+one_reason e before bytes Duplicate Duplicate set x y = refl
+one_reason e before bytes Duplicate Conflict set x y = absurd (duplicate_conflict e before bytes set x y)
+one_reason e before bytes Duplicate Full set x y = absurd (duplicate_full e before bytes x y)
+one_reason e before bytes Conflict Malformed set x y = absurd (y (line_of e bytes (x.0, x.1)))
+one_reason e before bytes Conflict Invalid set x y = absurd (y.1 (x.0, x.1))
+one_reason e before bytes Conflict Duplicate set x y = absurd (duplicate_conflict e before bytes set y x)
+one_reason e before bytes Conflict Conflict set x y = refl
+one_reason e before bytes Conflict Full set x y = absurd (conflict_full e before bytes x y)
+one_reason e before bytes Full Malformed set x y = absurd (y (line_of e bytes (x.0, x.1)))
+one_reason e before bytes Full Invalid set x y = absurd (y.1 (x.0, x.1))
+one_reason e before bytes Full Duplicate set x y = absurd (duplicate_full e before bytes y x)
+one_reason e before bytes Full Conflict set x y = absurd (conflict_full e before bytes y x)
+one_reason e before bytes Full Full set x y = refl
+
+-- ---- one outcome
+
+slice_get_take : (n : ℕ) (lines : List (List ℕ)) (i : ℕ) → i < n → slice_get (take n lines) i ≡ slice_get lines i
+slice_get_take zero lines i before = absurd (omega arith)
+slice_get_take (suc n) [] i before = refl
+slice_get_take (suc n) (l ∷ ls) zero before = refl
+slice_get_take (suc n) (l ∷ ls) (suc i) before = slice_get_take n ls i (omega arith)
+
+first_first : (e : Election) (lines : List (List ℕ)) (m n : ℕ) (v w : Reason) (x : IsFirstBad e lines m v) (y : IsFirstBad e lines n w) → x.index < y.index → ⊥
+first_first e lines m n v w x y before =
+    let prefix = take-take x.index y.index lines (omega arith) in
+    let P : List (List ℕ) → Type 0 = λ front. AllZip (Spells e) front x.before in
+    not_refused e (take y.index lines) y.before x.before x.index x.bytes v y.good (slice_get_take y.index lines x.index before ∙ x.stands) (subst P (sym prefix) x.good.each) x.refused
+
+same_first : (e : Election) (lines : List (List ℕ)) (m n : ℕ) (v w : Reason) (x : IsFirstBad e lines m v) (y : IsFirstBad e lines n w) → x.index ≡ y.index → v ≡ w
+same_first e lines m n v w x y same =
+    let here : Some x.bytes ≡ Some y.bytes = sym x.stands ∙ ap (λ i. slice_get lines i) same ∙ y.stands in
+    let bytes : x.bytes ≡ y.bytes = cc in
+    let A : ℕ → Type 0 = λ i. AllZip (Spells e) (take i lines) x.before in
+    let before : x.before ≡ y.before = same_ballots e (take y.index lines) x.before y.before (subst A same x.good.each) y.good.each in
+    let B : List ℕ → Type 0 = λ bytes. IsRefused e x.before bytes v in
+    let C : List Ballot → Type 0 = λ before. IsRefused e before y.bytes v in
+    one_reason e y.before y.bytes v w y.good.set (subst C before (subst B bytes x.refused)) y.refused
+
+one_bad : (e : Election) (lines : List (List ℕ)) (p q : ℕ × Reason) → IsFirstBad e lines p.0 p.1 → IsFirstBad e lines q.0 q.1 → p ≡ q
+one_bad e lines p q x y = elim (cases_lt x.index y.index) [
+  | inl less ↦ absurd (first_first e lines p.0 q.0 p.1 q.1 x y less)
+  | inr more ↦ elim (cases_lt y.index x.index) [
+    | inl less ↦ absurd (first_first e lines q.0 p.0 q.1 p.1 y x less)
+    | inr same ↦
+        let index : x.index ≡ y.index = omega arith in
+        let line : p.0 ≡ q.0 = omega (arith, x.counted, y.counted) in
+        ap (λ n. (n, p.1)) line ∙ ap (λ why. (q.0, why)) (same_first e lines p.0 q.0 p.1 q.1 x y index)
+  ]
+]
+
+pub build_one_way : BuildOneWay
+build_one_way e lines (Ok xs) (Ok ys) x y = ap Ok (same_ballots e lines xs ys x.each y.each)
+build_one_way e lines (Ok xs) (Err q) x y = absurd (not_refused e lines xs y.before y.index y.bytes q.1 x y.stands y.good.each y.refused)
+build_one_way e lines (Err p) (Ok ys) x y = absurd (not_refused e lines ys x.before x.index x.bytes p.1 y x.stands x.good.each x.refused)
+build_one_way e lines (Err p) (Err q) x y = ap Err (one_bad e lines p q x y)
