@@ -1,0 +1,159 @@
+//! The image of a store, as a whole or a part of it.
+
+ghost use Rattle.std.specs.Prelude.{◌≡◌, ℕ, ◌+◌, ◌-◌, ◌≤◌, ◌<◌, List, take, drop, length, IfOk, IsPermutation};
+ghost use Rattle.body_store.specs.Contents.{IsStored};
+ghost use Rattle.store_spec.specs.Ballot.{Ballot};
+ghost use Rattle.store_spec.specs.Election.{bank_size, cell_size};
+ghost use Rattle.store_spec.specs.Image.{cell_bytes, cells_of, header_of, image_of};
+
+use ballot_record::Election;
+use body_store::Closed;
+use byteorder::{BigEndian, ByteOrder};
+use outside_io::Memory;
+use std::alloc::Global;
+
+/// How many bytes a header has.
+pub const HEADER_BYTES: usize = 32;
+
+/// The most bytes of a cell: a number, a style and the mark sets of sixteen contests.
+const MAX_CELL_BYTES: usize = 73;
+
+const MARK: [u8; 8] = *b"HIBSTORE";
+
+const VERSION: u16 = 1;
+
+/// The image of a store.
+pub fn image(alloc: Global, closed: &Closed, election: &Election) -> Result<Vec<u8>, Memory>
+    requires { election.now ≡ closed.now.election }
+    ensures image { IfOk result (λ bank. bank.items ≡ image_of election.now closed.now.ballots) }
+
+    // The order in which the ballots are listed does not matter.
+    ensures any_order { (ballots : List Ballot) → IsPermutation ballots closed.now.ballots
+        → IfOk result (λ bank. bank.items ≡ image_of election.now ballots) }
+{
+    let mut bank = vec![in alloc; 0; election.bank_bytes()]?;
+    image_part(closed, election, 0, &mut bank);
+    Ok(bank)
+}
+
+/// Writes the part of the image of a store that begins at a byte and is as long as `out`.
+pub fn image_part(closed: &Closed, election: &Election, from: usize, out: &mut [u8])
+    requires own { election.now ≡ closed.now.election }
+    requires within { from + length out.old ≤ bank_size election.now }
+    ensures part { out.new ≡ take (length out.old) (drop from (image_of election.now closed.now.ballots)) }
+    ensures whole { length (image_of election.now closed.now.ballots) ≡ bank_size election.now }
+    ensures stored { IsStored closed.now }
+{
+    prove!(out.len() <= election.bank_bytes() - from);
+    let cells = closed.cells();
+    let mut done = 0;
+    while done < out.len() {
+        done += put_piece(closed, election, cells, from + done, &mut out[done..]);
+    }
+}
+
+/// Writes what stands in the header, or in a cell, from a byte of the image on. It answers how many bytes it wrote.
+fn put_piece(
+    closed: &Closed,
+    election: &Election,
+    cells: &[u64],
+    at: usize,
+    out: &mut [u8],
+) -> usize
+    requires own { election.now ≡ closed.now.election }
+    requires stored { IsStored closed.now }
+    requires held { cells.now ≡ cells_of election.now closed.now.ballots }
+    requires within { at < bank_size election.now }
+    requires some { 0 < length out.old }
+    ensures some { 0 < result }
+    ensures few { result ≤ length out.old }
+    ensures bytes { take result out.new ≡ take result (drop at (image_of election.now closed.now.ballots)) }
+{
+    if at < HEADER_BYTES {
+        return put_from(&header(election), at, out);
+    }
+    let size = election.cell_bytes();
+    let (place, within) = ((at - HEADER_BYTES) / size, (at - HEADER_BYTES) % size);
+    put_cell_from(closed, election, cells[place], within, out)
+}
+
+/// Writes the cell of the ballot with this number from one of its bytes on. It answers how many bytes it wrote.
+fn put_cell_from(
+    closed: &Closed,
+    election: &Election,
+    number: u64,
+    from: usize,
+    out: &mut [u8],
+) -> usize
+    requires own { election.now ≡ closed.now.election }
+    requires stored { IsStored closed.now }
+    requires within { from < cell_size election.now }
+    requires some { 0 < length out.old }
+    ensures some { 0 < result }
+    ensures few { result ≤ length out.old }
+    ensures there { from + result ≤ cell_size election.now }
+    ensures bytes { take result out.new ≡ take result (drop from (cell_bytes election.now closed.now.ballots number)) }
+{
+    let size = election.cell_bytes();
+    let mut cell = [0; MAX_CELL_BYTES];
+    put_cell(closed, election, number, &mut cell[..size]);
+    put_from(&cell[..size], from, out)
+}
+
+/// Writes the cell of the ballot with this number, or zeros where none has it.
+fn put_cell(closed: &Closed, election: &Election, number: u64, out: &mut [u8])
+    requires own { election.now ≡ closed.now.election }
+    requires stored { IsStored closed.now }
+    requires room { length out.old ≡ cell_size election.now }
+    ensures { out.new ≡ cell_bytes election.now closed.now.ballots number }
+{
+    match closed.record_of(number) {
+        Some(record) => record.put_cell(election, out),
+        None => out.fill(0),
+    }
+}
+
+/// Writes bytes from a place on, as far as there is room for them. It answers how many it wrote.
+fn put_from(bytes: &[u8], from: usize, out: &mut [u8]) -> usize
+    requires within { from < length bytes.now }
+    requires some { 0 < length out.old }
+    ensures some { 0 < result }
+    ensures few { result ≤ length out.old }
+    ensures there { from + result ≤ length bytes.now }
+    ensures bytes { take result out.new ≡ take result (drop from bytes.now) }
+{
+    let count = out.len().min(bytes.len() - from);
+    out[..count].copy_from_slice(&bytes[from..from + count]);
+    count
+}
+
+/// The header of the images of an election.
+pub fn header(election: &Election) -> [u8; HEADER_BYTES]
+    ensures { result ≡ header_of election.now }
+{
+    let mut header = [0; HEADER_BYTES];
+    header[..8].copy_from_slice(&MARK);
+    BigEndian::write_u16(&mut header[8..], VERSION);
+    header[10] = election.bits();
+    header[11] = election.contests() as u8;
+    BigEndian::write_u32(&mut header[12..], election.limit());
+    BigEndian::write_u64(&mut header[16..], election.salt());
+    header
+}
+
+/// The buffer through which banks are written and compared.
+#[derive(Drop)]
+pub struct Scratch {
+    /// As many bytes as a bank has.
+    pub bank: Vec<u8>,
+}
+
+impl Scratch {
+    /// A buffer as long as a bank of this election.
+    pub fn new(alloc: Global, election: &Election) -> Result<Scratch, Memory>
+        ensures { IfOk result (λ scratch. length scratch.bank.items ≡ bank_size election.now) }
+    {
+        let bank = vec![in alloc; 0; election.bank_bytes()]?;
+        Ok(Scratch { bank })
+    }
+}
