@@ -1,6 +1,6 @@
-ghost use Rattle.std.specs.Prelude.{◌≡◌, ◌≢◌, ℕ, List, IfOk, IsPermutation};
+ghost use Rattle.std.specs.Prelude.{◌≡◌, ◌≢◌, ℕ, IfOk};
 ghost use Rattle.body_store.specs.Contents.{ballots_of};
-ghost use Rattle.store_spec.specs.Ballot.{Ballot, IsBallotSet};
+ghost use Rattle.store_spec.specs.Ballot.{IsBallotSet};
 ghost use Rattle.store_spec.specs.Image.{image_of};
 ghost use Rattle.ballot_record.specs.LineWhy.{reason};
 ghost use Rattle.outside_io.specs.Lines.{IfTold};
@@ -13,15 +13,9 @@ use crate::script::{ScriptFault, read_ballots};
 use crate::status::{Status, Which};
 use ballot_record::{Election, Record};
 use body_store::Closed;
+use image_builder::image;
 use outside_io::{Memory, Sink, Source};
 use std::alloc::Global;
-
-fn image(_alloc: Global, closed: &Closed, election: &Election) -> Result<Vec<u8>, Memory>
-    requires { election.now ≡ closed.now.election }
-    ensures { IfOk result (λ bytes. (ballots : List Ballot) → IsPermutation ballots closed.now.ballots → bytes.items ≡ image_of election.now ballots) }
-{
-    Err(Memory)
-}
 
 // The image of the set of these records.
 fn image_of_records(

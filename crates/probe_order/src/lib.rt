@@ -56,3 +56,44 @@ impl Order for Salted {
         (hash >> (64 - self.bits)) as usize
     }
 }
+
+#[cfg(test)]
+mod tests {
+    use super::{Order, Salted};
+    use std::test::Fail;
+
+    #[test]
+    fn homes_of_the_example(rt: HostRuntime) -> Result<(), Fail> {
+        let order = Salted { bits: 3, salt: 0 };
+        assert_eq!(rt; order.homes(), 8);
+        let rows = [
+            (5, 0),
+            (2, 1),
+            (u64::MAX, 3),
+            (1, 4),
+            (9, 4),
+            (17, 4),
+            (22, 4),
+            (6, 5),
+            (14, 5),
+        ];
+        for (number, home) in rows {
+            assert_eq!(rt; order.home(number), home, "the home of {number}");
+        }
+        Ok(())
+    }
+
+    #[test]
+    fn one_home_and_the_most(rt: HostRuntime) -> Result<(), Fail> {
+        let one = Salted { bits: 0, salt: 7 };
+        assert_eq!(rt; one.homes(), 1);
+        assert_eq!(rt; one.home(1), 0);
+        assert_eq!(rt; one.home(u64::MAX), 0);
+        let most = Salted { bits: 16, salt: 0 };
+        assert_eq!(rt; most.homes(), 65536);
+        assert_eq!(rt; most.home(1), 0x9E37);
+        let salted = Salted { bits: 3, salt: 8 };
+        assert_eq!(rt; salted.home(9), 4, "9 under the salt 8 is hashed as 1");
+        Ok(())
+    }
+}
