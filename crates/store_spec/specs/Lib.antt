@@ -1,6 +1,7 @@
 pub mod Ballot
 pub mod BallotLine
 pub mod Build
+pub mod Damage
 pub mod Election
 pub mod Fault
 pub mod Figures
