@@ -6,3 +6,6 @@ mod write;
 
 pub use read::{ImageFault, read_image};
 pub use write::{Scratch, image, image_part};
+
+#[cfg(test)]
+mod tests;
