@@ -1,2 +1,5 @@
 pub mod Lookups
 pub mod Images
+pub mod Reading
+pub mod Steps
+pub mod Wrong

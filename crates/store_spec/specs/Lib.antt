@@ -2,6 +2,7 @@ pub mod Ballot
 pub mod BallotLine
 pub mod Build
 pub mod BuildLaws
+pub mod Damage
 pub mod Disk
 pub mod Election
 pub mod Fault

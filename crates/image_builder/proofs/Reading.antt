@@ -1,0 +1,177 @@
+-- The first cells of a bank, as they are read in order.
+use Rattle.std.proofs.Common.{◌≡◌, ◌≢◌, ℕ, zero, suc, ◌+◌, ◌*◌, ◌^◌, ◌<◌, ◌≤◌, ⊎_elim, List, [], ◌∷◌, ◌++◌, length, get_or, take, drop, replicate, None, refl, sym, ap, subst, ◌∙◌, arith}
+use Rattle.std.proofs.lemmas.Bool.{cases_eq}
+use Rattle.std.proofs.lemmas.List.{append-nil, append_assoc, take_at, drop_at, drop-drop, take-take, take-replicate, get_or_default}
+use Rattle.std.proofs.lemmas.List.Concat.{flat_map-cons, flat_map-append}
+use Rattle.std.proofs.lemmas.List.Elements.{All-contains, Contains-get_or}
+use Rattle.std.proofs.lemmas.Nat.{from_be_bytes-to_be_bytes_8}
+use Rattle.std.specs.List.{All, AllPairs, Contains, flat_map}
+use Rattle.std.specs.Int.{to_be_bytes, from_be_bytes, w8, w32, w64}
+use Rattle.body_store.proofs.BallotSets.{has_room}
+use Rattle.body_store.proofs.Numbers.{no_ballot, pairs_of_ballots, number_at as number_of_place, length-numbers_of}
+use Rattle.image_builder.proofs.Images.{take-add, length-cell_bytes, cell_of_found, cell_of_none}
+use Rattle.image_builder.proofs.Lookups.{option_cases, found_in, missing_from}
+use Rattle.store_spec.proofs.Fronts.{distinct_in, front_is_layout}
+use Rattle.store_spec.proofs.LaidOut.{layout_of_is}
+use Rattle.store_spec.specs.Ballot.{Ballot, IsBallotSet, IsValid, ballot_of, numbers_of}
+use Rattle.store_spec.specs.Damage.{BeginsAnImage, first_cells}
+use Rattle.store_spec.specs.Election.{Election, IsElection, cell_count, cell_size}
+use Rattle.store_spec.specs.Home.{home_of}
+use Rattle.store_spec.specs.Image.{ballot_bytes, cell_bytes, cells_of, header_of, image_of}
+use Rattle.store_spec.specs.Layout.{HasRoom, IsLayout, IsOrdered, layout_of, numbers_in}
+
+abbrev pub home_in : Election → ℕ → ℕ
+home_in e = home_of e.bits e.salt
+
+-- ---- lists of pieces
+
+pub split_same : {X : Type 0} (xs ys vs ws : List X) → length xs ≡ length ys → xs ++ vs ≡ ys ++ ws → (xs ≡ ys) × (vs ≡ ws)
+split_same xs ys vs ws long same = (
+  sym (take_at xs vs (length xs) refl) ∙ ap (take (length xs)) same ∙ take_at ys ws (length xs) (sym long),
+  sym (drop_at xs vs (length xs) refl) ∙ ap (drop (length xs)) same ∙ drop_at ys ws (length xs) (sym long),
+)
+
+take_pieces : (f : ℕ → List ℕ) (width : ℕ) (xs : List ℕ) (n : ℕ) → ((x : ℕ) → length (f x) ≡ width) → n ≤ length xs → take (n * width) (flat_map f xs) ≡ flat_map f (take n xs)
+take_pieces f width xs zero each le = ap (λ k. take k (flat_map f xs)) (let e : 0 * width ≡ 0 = omega arith in e)
+take_pieces f width [] (suc n) each le = absurd (omega arith)
+take_pieces f width (x ∷ xs) (suc n) each le =
+    ap (λ k. take k (flat_map f (x ∷ xs))) (let e : suc n * width ≡ width + n * width = omega arith in e)
+    ∙ ap (take (width + n * width)) (flat_map-cons f x xs)
+    ∙ take-add width (n * width) (f x ++ flat_map f xs)
+    ∙ ap (λ bytes. bytes ++ take (n * width) (drop width (f x ++ flat_map f xs))) (take_at (f x) (flat_map f xs) width (each x))
+    ∙ ap (λ bytes. f x ++ take (n * width) bytes) (drop_at (f x) (flat_map f xs) width (each x))
+    ∙ ap (λ bytes. f x ++ bytes) (take_pieces f width xs n each (omega arith))
+    ∙ sym (flat_map-cons f x (take n xs))
+
+pub piece_more : (f : ℕ → List ℕ) (xs : List ℕ) (x : ℕ) → flat_map f (xs ++ x ∷ []) ≡ flat_map f xs ++ f x
+piece_more f xs x = flat_map-append f xs (x ∷ []) ∙ ap (λ bytes. flat_map f xs ++ bytes) (flat_map-cons f x [] ∙ append-nil (f x))
+
+pub same_pieces : (f g : ℕ → List ℕ) (xs : List ℕ) → ((i : ℕ) → i < length xs → f (get_or xs i 0) ≡ g (get_or xs i 0)) → flat_map f xs ≡ flat_map g xs
+same_pieces f g [] same = refl
+same_pieces f g (x ∷ xs) same =
+    flat_map-cons f x xs ∙ ap (λ bytes. bytes ++ flat_map f xs) (same 0 (omega arith))
+    ∙ ap (λ bytes. g x ++ bytes) (same_pieces f g xs (λ i lt. same (suc i) (omega arith))) ∙ sym (flat_map-cons g x xs)
+
+-- ---- the number at the front of a cell
+
+abbrev pub number_at : List ℕ → ℕ
+number_at bytes = from_be_bytes w64 (take 8 bytes)
+
+pub number_of_bytes : (e : Election) (b : Ballot) → b.number < 2 ^ 64 → number_at (ballot_bytes e b) ≡ b.number
+number_of_bytes e b short =
+    let number = to_be_bytes w64 b.number in
+    let style = to_be_bytes w8 b.style in
+    let sets = flat_map (to_be_bytes w32) (take (length e.contests) b.marks) in
+    ap (λ bytes. from_be_bytes w64 (take 8 bytes)) (append_assoc number style sets)
+    ∙ ap (from_be_bytes w64) (take_at number (style ++ sets) 8 refl)
+    ∙ from_be_bytes-to_be_bytes_8 b.number short
+
+number_of_zeros : (e : Election) → number_at (replicate (cell_size e) 0) ≡ 0
+number_of_zeros e = ap (from_be_bytes w64) (take-replicate 8 (cell_size e) 0 (omega arith))
+
+abbrev pub IsKnown : List Ballot → ℕ → Type 0
+IsKnown ballots v = v ≢ 0 → Contains (numbers_of ballots) v
+
+pub ballot_with : (ballots : List Ballot) (v : ℕ) → Contains (numbers_of ballots) v → (b : Ballot) × Contains ballots b × (b.number ≡ v)
+ballot_with ballots v c =
+    let within : c.0 < length ballots = omega (arith, c.1, length-numbers_of ballots) in
+    (get_or ballots c.0 no_ballot, Contains-get_or ballots c.0 no_ballot within, sym (number_of_place ballots c.0 v within) ∙ c.2)
+
+pub contains_number : (ballots : List Ballot) (b : Ballot) (v : ℕ) → Contains ballots b → b.number ≡ v → Contains (numbers_of ballots) v
+contains_number ballots b v c is =
+    let size = length-numbers_of ballots in
+    let there : (get_or ballots c.0 no_ballot).number ≡ v = ap (λ (x : Ballot). x.number) (get_or_default ballots c.0 no_ballot b c.1 ∙ c.2) ∙ is in
+    (c.0, omega (arith, c.1), number_of_place ballots c.0 v c.1 ∙ there)
+
+pub number_in_cell : (e : Election) (ballots : List Ballot) (v : ℕ) → All (IsValid e) ballots → IsKnown ballots v → number_at (cell_bytes e ballots v) ≡ v
+number_in_cell e ballots v valid known = ⊎_elim
+    (λ (none : ballot_of ballots v ≡ None).
+    let zero_number : v ≡ 0 = ⊎_elim (λ (z : v ≡ 0). z)
+    (λ (n : v ≢ 0). let with = ballot_with ballots v (known n) in absurd (missing_from ballots v none with.0 with.1 with.2))
+    (cases_eq v 0) in
+    ap number_at (cell_of_none e ballots v none) ∙ number_of_zeros e ∙ sym zero_number)
+    (λ some.
+    let found = found_in ballots v some.0 some.1 in
+    let own = All-contains (IsValid e) ballots some.0 valid found.0 in
+    ap number_at (cell_of_found e ballots v some.0 some.1) ∙ number_of_bytes e some.0 own.short_number ∙ found.1)
+    (option_cases (ballot_of ballots v))
+
+-- cells that begin with their numbers are those of one list of numbers
+pub same_numbers : (f g : ℕ → List ℕ) (xs ys : List ℕ) → length xs ≡ length ys → ((x y : ℕ) → length (f x) ≡ length (g y))
+    → ((i : ℕ) → i < length xs → number_at (f (get_or xs i 0)) ≡ get_or xs i 0) → ((i : ℕ) → i < length ys → number_at (g (get_or ys i 0)) ≡ get_or ys i 0)
+    → flat_map f xs ≡ flat_map g ys → xs ≡ ys
+same_numbers f g [] [] long wide first second same = refl
+same_numbers f g [] (y ∷ ys) long wide first second same = absurd (omega arith)
+same_numbers f g (x ∷ xs) [] long wide first second same = absurd (omega arith)
+same_numbers f g (x ∷ xs) (y ∷ ys) long wide first second same =
+    let parts = split_same (f x) (g y) (flat_map f xs) (flat_map g ys) (wide x y) (sym (flat_map-cons f x xs) ∙ same ∙ flat_map-cons g y ys) in
+    let head : x ≡ y = sym (first 0 (omega arith)) ∙ ap number_at parts.0 ∙ second 0 (omega arith) in
+    let rest = same_numbers f g xs ys (omega arith) wide (λ i lt. first (suc i) (omega arith)) (λ i lt. second (suc i) (omega arith)) parts.1 in
+    ap (λ n. n ∷ xs) head ∙ ap (λ ns. y ∷ ns) rest
+
+-- ---- the first cells of a bank
+
+-- the bytes of one cell
+abbrev pub cell_at : Election → ℕ → List ℕ → List ℕ
+cell_at e place bank = take (cell_size e) (drop (32 + place * cell_size e) bank)
+
+pub one_cell_more : (e : Election) (place : ℕ) (bank : List ℕ) → first_cells e (place + 1) bank ≡ first_cells e place bank ++ cell_at e place bank
+one_cell_more e place bank =
+    let size = cell_size e in
+    ap (λ k. take k (drop 32 bank)) (let same : (place + 1) * size ≡ place * size + size = omega arith in same)
+    ∙ take-add (place * size) size (drop 32 bank)
+    ∙ ap (λ bytes. first_cells e place bank ++ take size bytes) (drop-drop (place * size) 32 bank)
+
+pub front_of_image : (e : Election) (ballots : List Ballot) (n : ℕ) → IsElection e → All (IsValid e) ballots → n ≤ length (cells_of e ballots) → first_cells e n (image_of e ballots) ≡ flat_map (cell_bytes e ballots) (take n (cells_of e ballots))
+front_of_image e ballots n election valid le =
+    ap (take (n * cell_size e)) (drop_at (header_of e) (flat_map (cell_bytes e ballots) (cells_of e ballots)) 32 refl)
+    ∙ take_pieces (cell_bytes e ballots) (cell_size e) (cells_of e ballots) n (λ x. length-cell_bytes e ballots x election valid) le
+
+-- fewer cells begin an image too
+pub begins_fewer : (e : Election) (n m : ℕ) (bank : List ℕ) → n ≤ m → BeginsAnImage e m bank → BeginsAnImage e n bank
+begins_fewer e n m bank le begins =
+    let size = cell_size e in
+    let less : n * size ≤ m * size = grind arith in
+    let image = image_of e begins.0 in (
+      begins.0,
+      begins.1,
+      sym (take-take (n * size) (m * size) (drop 32 bank) less) ∙ ap (take (n * size)) begins.2 ∙ take-take (n * size) (m * size) (drop 32 image) less,
+    )
+
+-- ---- what was read so far
+
+-- the first cells of the bank hold these numbers, in order, and each number's cell these ballots' bytes
+pub record AreRead (e : Election) (bank : List ℕ) (place : ℕ) (numbers : List ℕ) (ballots : List Ballot) : Type 0 where
+  pub size : length numbers ≡ place
+  pub ordered : IsOrdered (home_in e) numbers
+  pub same : numbers_of ballots ≡ numbers_in numbers
+  pub valid : All (IsValid e) ballots
+  pub few : length ballots ≤ e.limit
+  pub bytes : first_cells e place bank ≡ flat_map (cell_bytes e ballots) numbers
+
+pub set_read : (e : Election) (bank : List ℕ) (place : ℕ) (numbers : List ℕ) (ballots : List Ballot) → AreRead e bank place numbers ballots → IsBallotSet e ballots
+set_read e bank place numbers ballots read = record {
+  valid = read.valid;
+  distinct = pairs_of_ballots (λ a b. a ≢ b) ballots (subst (λ (ns : List ℕ). AllPairs (λ a b. a ≢ b) ns) (sym read.same) (distinct_in (home_in e) numbers read.ordered));
+  within_limit = read.few;
+}
+
+pub front_read : (e : Election) (bank : List ℕ) (place : ℕ) (numbers : List ℕ) (ballots : List Ballot) → IsElection e → place ≤ cell_count e → AreRead e bank place numbers ballots → take place (cells_of e ballots) ≡ numbers
+front_read e bank place numbers ballots election le read =
+    let room = subst (λ (ns : List ℕ). HasRoom (home_in e) (2 ^ e.bits) (cell_count e) ns) read.same (has_room e ballots election (set_read e bank place numbers ballots read)) in
+    ap (λ ns. take place (layout_of (home_in e) (cell_count e) ns)) read.same
+    ∙ ap (λ k. take k (layout_of (home_in e) (cell_count e) (numbers_in numbers))) (sym read.size)
+    ∙ front_is_layout (home_in e) (2 ^ e.bits) (cell_count e) numbers room read.ordered (omega (arith, read.size))
+
+pub layout_read : (e : Election) (ballots : List Ballot) → IsElection e → IsBallotSet e ballots → IsLayout (home_in e) (cell_count e) (numbers_of ballots) (cells_of e ballots)
+layout_read e ballots election set = layout_of_is _ _ _ _ (has_room e ballots election set)
+
+pub begins_read : (e : Election) (bank : List ℕ) (place : ℕ) (numbers : List ℕ) (ballots : List Ballot) → IsElection e → place ≤ cell_count e → AreRead e bank place numbers ballots → BeginsAnImage e place bank
+begins_read e bank place numbers ballots election le read =
+    let set = set_read e bank place numbers ballots read in
+    let layout = layout_read e ballots election set in (
+      ballots,
+      set,
+      read.bytes ∙ ap (flat_map (cell_bytes e ballots)) (sym (front_read e bank place numbers ballots election le read))
+          ∙ sym (front_of_image e ballots place election read.valid (omega (arith, layout.size))),
+    )

@@ -1,0 +1,150 @@
+//! Reading a store from the bytes of a bank.
+
+ghost use Rattle.body_store.specs.Contents.{IsStored, ballots_of};
+ghost use Rattle.image_builder.specs.Reading.{ReadsAs};
+ghost use Rattle.std.specs.Prelude.{◌≡◌, ◌≢◌, ◌+◌, ◌*◌, ◌<◌, ◌≤◌, ◌↔◌, drop, length, take, IfOk, IfErr, IsTrue};
+ghost use Rattle.store_spec.specs.Election.{bank_size, cell_count, cell_size};
+ghost use Rattle.store_spec.specs.Home.{home_of};
+ghost use Rattle.store_spec.specs.Image.{header_of};
+ghost use Rattle.store_spec.specs.Layout.{IsOrdered, MayStand};
+
+use crate::write::{HEADER_BYTES, header};
+use ballot_record::{CellRead, Election, Record, take_cell};
+use body_store::Closed;
+use outside_io::Memory;
+use probe_order::{Order, Salted};
+use std::alloc::{AllocError, AllocFailed, Global};
+
+/// Why bytes were not read as the image of a store.
+#[derive(Clone, Copy, Debug, PartialEq, Eq)]
+pub enum ImageFault {
+    /// The header is not that of this election, but this.
+    OtherElection { header: [u8; HEADER_BYTES] },
+    /// The header is this election's, and this cell, counted from 0, is the first wrong one.
+    Damaged { cell: u32 },
+    /// There was no memory.
+    Memory,
+}
+
+impl From<Memory> for ImageFault {
+    ghost use Rattle.std.specs.Prelude.{◌≡◌};
+    ghost use Rattle.image_builder.specs.declared.read.ImageFault.TheVariants as faults;
+
+    ghost from_gives = { λ _ fault. fault ≡ faults.Memory };
+
+    fn from(_: Memory) -> Self {
+        ImageFault::Memory
+    }
+}
+
+impl From<AllocError> for ImageFault {
+    ghost use Rattle.std.specs.Prelude.{◌≡◌};
+    ghost use Rattle.image_builder.specs.declared.read.ImageFault.TheVariants as faults;
+
+    ghost from_gives = { λ _ fault. fault ≡ faults.Memory };
+
+    fn from(_: AllocError) -> Self {
+        ImageFault::Memory
+    }
+}
+
+impl<T: Drop> From<AllocFailed<T>> for ImageFault {
+    ghost use Rattle.std.specs.Prelude.{◌≡◌};
+    ghost use Rattle.image_builder.specs.declared.read.ImageFault.TheVariants as faults;
+
+    ghost from_gives = { λ _ fault. fault ≡ faults.Memory };
+
+    fn from(_: AllocFailed<T>) -> Self {
+        ImageFault::Memory
+    }
+}
+
+/// The store whose image the bytes of a bank are. It is never the empty store where they are the image of none.
+pub fn read_image(alloc: Global, bytes: &[u8], election: &Election) -> Result<Closed, ImageFault>
+    requires { length bytes.now ≡ bank_size election.now }
+    ensures reads { ReadsAs (λ store. store.ballots) election.now bytes.now result }
+    ensures election { IfOk result (λ store. store.election ≡ election.now) }
+    ensures stored { IfOk result IsStored }
+{
+    check_header(bytes, election)?;
+    let records = read_cells(alloc, bytes, election)?;
+    Ok(Closed::from_records(alloc, election, records)?)
+}
+
+fn check_header(bytes: &[u8], election: &Election) -> Result<(), ImageFault>
+    requires { 32 ≤ length bytes.now }
+    ensures own { IfOk result (λ _. take 32 bytes.now ≡ header_of election.now) }
+    ensures other { IfErr result
+        (λ fault. (take 32 bytes.now ≢ header_of election.now) × (fault ≡ ImageFault.OtherElection (take 32 bytes.now))) }
+{
+    let mut found = [0; HEADER_BYTES];
+    found.copy_from_slice(&bytes[..HEADER_BYTES]);
+    if found == header(election) {
+        Ok(())
+    } else {
+        Err(ImageFault::OtherElection { header: found })
+    }
+}
+
+/// The records in the cells of a bank, in the order of the cells.
+fn read_cells(alloc: Global, bank: &[u8], election: &Election) -> Result<Vec<Record>, ImageFault>
+    requires long { length bank.now ≡ bank_size election.now }
+    requires header { take 32 bank.now ≡ header_of election.now }
+    ensures { ReadsAs (λ records. ballots_of records.items) election.now bank.now result }
+{
+    let limit = election.limit() as usize;
+    let mut numbers = Vec::with_capacity(alloc, election.cells())?;
+    let mut records = Vec::new(alloc);
+    for place in 0..election.cells() {
+        match take_cell(cell_bytes(bank, election, place), election) {
+            CellRead::Empty => numbers.push(0)?,
+            CellRead::Held(record) => {
+                if records.len() >= limit || !may_follow(election, &numbers, record.number) {
+                    return Err(ImageFault::Damaged { cell: place as u32 });
+                }
+                numbers.push(record.number)?;
+                records.push(record)?;
+            }
+            CellRead::Bad => return Err(ImageFault::Damaged { cell: place as u32 }),
+        }
+    }
+    Ok(records)
+}
+
+/// The bytes of a cell of a bank.
+fn cell_bytes<'a>(bank: &'a [u8], election: &Election, place: usize) -> &'a [u8]
+    requires long { length bank.now ≡ bank_size election.now }
+    requires within { place < cell_count election.now }
+    ensures size { length result.now ≡ cell_size election.now }
+    ensures bytes { result.now ≡ take (cell_size election.now) (drop (32 + place * cell_size election.now) bank.now) }
+{
+    let size = election.cell_bytes();
+    let (_, rest) = bank.split_at(HEADER_BYTES + place * size);
+    let (cell, _) = rest.split_at(size);
+    cell
+}
+
+/// Whether a number may stand in the cell after these. What stands between the home of a number that is greater and
+/// that number is greater too, so that it is passed at once.
+fn may_follow(election: &Election, cells: &[u64], number: u64) -> bool
+    requires { IsOrdered (home_of election.now.bits election.now.salt) cells.now }
+    ensures { IsTrue result ↔ MayStand (home_of election.now.bits election.now.salt) cells.now number (length cells.now) }
+{
+    let order = Salted {
+        bits: election.bits(),
+        salt: election.salt(),
+    };
+    let home = order.home(number);
+    if cells.len() < home {
+        return false;
+    }
+    let mut from = cells.len();
+    while home < from {
+        let before = cells[from - 1];
+        if before <= number {
+            return false;
+        }
+        from = order.home(before);
+    }
+    true
+}

@@ -1,0 +1,121 @@
+//! Banks of the example election and of one with a single home.
+
+ghost use Rattle.std.specs.Prelude.{◌≡◌, ◌<◌, length};
+
+use crate::{ImageFault, Scratch, image, image_part, read_image};
+use ballot_record::{Contest, Election, read_line};
+use body_store::Closed;
+
+const HEADER: [u8; 32] =
+    *b"HIBSTORE\x00\x01\x03\x02\x00\x00\x00\x08\0\0\0\0\0\0\0\0\0\0\0\0\0\0\0\0";
+
+const NINE: [u8; 17] = *b"\0\0\0\0\0\0\0\x09\x01\0\0\0\x01\0\0\0\0";
+
+const FOURTEEN: [u8; 17] = *b"\0\0\0\0\0\0\0\x0e\x01\0\0\0\0\0\0\0\x02";
+
+const ONE: [u8; 17] = *b"\0\0\0\0\0\0\0\x01\x01\0\0\0\x02\0\0\0\x05";
+
+fn put(bank: &mut [u8], place: usize, cell: &[u8; 17])
+    requires size { length bank.old ≡ 304 }
+    requires within { place < 16 }
+{
+    let from = 32 + 17 * place;
+    bank[from..from + 17].copy_from_slice(cell);
+}
+
+/// The bank of the ballots 9, 14 and 1, of which the last stands in this cell.
+fn bank(one: usize) -> [u8; 304]
+    requires { one < 16 }
+{
+    let mut bank = [0; 304];
+    bank[..32].copy_from_slice(&HEADER);
+    put(&mut bank, 4, &NINE);
+    put(&mut bank, 5, &FOURTEEN);
+    put(&mut bank, one, &ONE);
+    bank
+}
+
+#[test]
+fn three_ballots(rt: HostRuntime) {
+    let election = Election::example();
+    let bytes = bank(6);
+    let store = read_image(rt.alloc(), &bytes, &election)
+        .ok()
+        .expect(&rt, "an image");
+    assert_eq!(rt; store.len(), 3);
+    for (line, number) in [("9 1 1/-", 9), ("14 1 -/2", 14), ("1 1 2/1,3", 1)] {
+        let record = read_line(line.as_bytes(), &election).ok();
+        assert_eq!(rt; store.record_of(number), record, "{number}");
+    }
+    let made = image(rt.alloc(), &store, &election).expect(&rt, "memory");
+    assert_eq!(rt; made.as_slice(), bytes.as_slice());
+    let mut part = [0; 50];
+    image_part(&store, &election, 20, &mut part);
+    assert_eq!(rt; part.as_slice(), &bytes[20..70]);
+}
+
+#[test]
+fn no_ballots(rt: HostRuntime) {
+    let election = Election::example();
+    let mut bytes = [0; 304];
+    bytes[..32].copy_from_slice(&HEADER);
+    let store = Closed::empty(rt.alloc(), &election).expect(&rt, "memory");
+    let made = image(rt.alloc(), &store, &election).expect(&rt, "memory");
+    assert_eq!(rt; made.as_slice(), bytes.as_slice());
+    let read = read_image(rt.alloc(), &bytes, &election)
+        .ok()
+        .expect(&rt, "an image");
+    assert_eq!(rt; read.len(), 0);
+    let scratch = Scratch::new(rt.alloc(), &election).expect(&rt, "memory");
+    assert_eq!(rt; scratch.bank.len(), 304);
+}
+
+#[test]
+fn damage(rt: HostRuntime) {
+    let election = Election::example();
+    let mut bad_byte = bank(6);
+    bad_byte[40] = 1;
+    let mut twice = bank(6);
+    put(&mut twice, 7, &NINE);
+    for (bytes, cell) in [(bank(7), 7), (bank(3), 3), (twice, 7), (bad_byte, 0)] {
+        let fault = read_image(rt.alloc(), &bytes, &election).err();
+        assert_eq!(rt; fault, Some(ImageFault::Damaged { cell }));
+    }
+}
+
+#[test]
+fn another_election(rt: HostRuntime) {
+    let mut bytes = bank(6);
+    bytes[23] = 1;
+    let mut header = HEADER;
+    header[23] = 1;
+    let fault = read_image(rt.alloc(), &bytes, &Election::example()).err();
+    assert_eq!(rt; fault, Some(ImageFault::OtherElection { header }));
+}
+
+#[test]
+fn more_than_the_limit(rt: HostRuntime) {
+    let contests = [
+        Contest {
+            choices: 4,
+            allowed: 1,
+        },
+        Contest {
+            choices: 3,
+            allowed: 2,
+        },
+    ];
+    let election = Election::from_parts(&contests, &[0b11], 1, 0, 0).expect(&rt, "an election");
+    let mut bytes = [0; 66];
+    bytes[..32].copy_from_slice(&HEADER);
+    bytes[10] = 0;
+    bytes[15] = 1;
+    bytes[32..49].copy_from_slice(&FOURTEEN);
+    let store = read_image(rt.alloc(), &bytes, &election)
+        .ok()
+        .expect(&rt, "an image");
+    assert_eq!(rt; store.len(), 1);
+    bytes[49..].copy_from_slice(&NINE);
+    let fault = read_image(rt.alloc(), &bytes, &election).err();
+    assert_eq!(rt; fault, Some(ImageFault::Damaged { cell: 1 }));
+}
