@@ -1,0 +1,6 @@
+mod Keys
+mod Salts
+mod Styles
+mod Zips
+mod Arrays
+mod One

@@ -1,0 +1,9 @@
+use Rattle.std.proofs.Common.{map, take}
+use Rattle.std.specs.List.{AllZip}
+use Rattle.serde_json.specs.View.{view}
+use Rattle.ballot_record.specs.Contest.{contests_of}
+use Rattle.election_def.specs.Text.{IsContestIn}
+use Rattle.election_def.proofs.read.contests.Given as goal
+
+abbrev pub invariant-loop-item : goal.invariant-loop-item
+invariant-loop-item l = AllZip IsContestIn (map view (take l.item-index l.item-items)) (contests_of l.contests.items)

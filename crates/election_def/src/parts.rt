@@ -1,0 +1,123 @@
+ghost use Rattle.std.specs.Prelude.{◌≡◌, ◌↔◌, ℕ, ◌<◌, ◌≤◌, map, string_bytes, bytes_eq, Some, IsTrue, IsSome, IsNone, IfSome};
+ghost use Rattle.std.specs.List.{list_any, list_all};
+ghost use Rattle.std.specs.Map.{keys_of};
+ghost use Rattle.serde_json.specs.View.{view};
+ghost use Rattle.store_spec.specs.Election as definition;
+ghost use Rattle.ballot_record.specs.Contest.{contest_of};
+ghost use Rattle.election_def.specs.Text.{HasNoKeyBut, IsContestIn, IsStyleIn, IsSaltText, IsSaltDigit, contest_keys, salt_digit, number_in, number_at};
+
+use ballot_record::{Contest, MAX_CHOICES};
+use serde_json::{Map, Value};
+
+const CONTEST_KEYS: [&str; 2] = ["choices", "allowed"];
+
+fn is_among(key: &str, keys: &[&str]) -> bool
+    ensures { result ≡ list_any (λ k. bytes_eq k.now key.now) keys.now }
+{
+    keys.iter().any(|known| *known == key)
+}
+
+fn all_among(members: &Map<String, Value>, keys: &[&str]) -> bool
+    ensures { result ≡ list_all (λ key. list_any (λ k. bytes_eq k.now (string_bytes key)) keys.now) (keys_of members.now.entries) }
+{
+    members.keys().all(|key| is_among(key.as_str(), keys))
+}
+
+/// Whether a value has no key but these.
+pub fn has_no_key_but(value: &Value, keys: &[&str]) -> bool
+    ensures { IsTrue result ↔ HasNoKeyBut (map (λ k. k.now) keys.now) (view value.now) }
+{
+    match value.as_object() {
+        Some(members) => all_among(members, keys),
+        None => true,
+    }
+}
+
+/// The number that a value is, where it is at most so much.
+pub fn number(value: &Value, most: u64) -> Option<u64>
+    ensures some { IfSome result (λ n. (number_in (view value.now) ≡ Some n) × (n ≤ most)) }
+    ensures none { IsNone result → (n : ℕ) → number_in (view value.now) ≡ Some n → most < n }
+{
+    match value.as_u64() {
+        Some(n) if n <= most => Some(n),
+        _ => None,
+    }
+}
+
+/// The number at a key of a value, where it is at most so much.
+pub fn number_at(value: &Value, key: &str, most: u64) -> Option<u64>
+    ensures some { IfSome result (λ n. (number_at key.now (view value.now) ≡ Some n) × (n ≤ most)) }
+    ensures none { IsNone result → (n : ℕ) → number_at key.now (view value.now) ≡ Some n → most < n }
+{
+    number(value.get(key)?, most)
+}
+
+/// The contest that a value describes.
+pub fn contest(value: &Value) -> Option<Contest>
+    ensures some { IfSome result (λ c. IsContestIn (view value.now) (contest_of c)) }
+    ensures none { IsNone result → (c : definition.Contest) → ¬ IsContestIn (view value.now) c }
+{
+    if !has_no_key_but(value, &CONTEST_KEYS) {
+        return None;
+    }
+    let choices = number_at(value, "choices", MAX_CHOICES as u64)?;
+    let allowed = number_at(value, "allowed", choices)?;
+    let contest = Contest {
+        choices: choices as u8,
+        allowed: allowed as u8,
+    };
+    if contest.is_valid() {
+        Some(contest)
+    } else {
+        None
+    }
+}
+
+/// The style over so many contests that a value describes.
+pub fn style(value: &Value, contests: usize) -> Option<u32>
+    requires { contests ≤ 16 }
+    ensures some { IfSome result (λ s. IsStyleIn contests (view value.now) s) }
+    ensures none { IsNone result → (s : ℕ) → ¬ IsStyleIn contests (view value.now) s }
+{
+    let mut style: u32 = 0;
+    let mut last = 0;
+    for item in value.as_array()? {
+        let k = number(item, contests as u64)?;
+        if k <= last {
+            return None;
+        }
+        style |= 1 << (k - 1);
+        last = k;
+    }
+    if last == 0 {
+        None
+    } else {
+        Some(style)
+    }
+}
+
+fn salt_digit(digit: u8) -> Option<u8>
+    ensures some { IfSome result (λ d. IsSaltDigit digit × (d ≡ salt_digit digit)) }
+    ensures none { IsNone result → ¬ IsSaltDigit digit }
+{
+    match digit {
+        b'0'..=b'9' => Some(digit - b'0'),
+        b'a'..=b'f' => Some(digit - b'a' + 10),
+        _ => None,
+    }
+}
+
+/// The salt that a text spells.
+pub fn salt(text: &str) -> Option<u64>
+    ensures some { IfSome result (λ s. IsSaltText text.now s) }
+    ensures none { IsNone result → (s : ℕ) → ¬ IsSaltText text.now s }
+{
+    if text.len() != 16 {
+        return None;
+    }
+    let mut salt: u64 = 0;
+    for digit in text.as_bytes() {
+        salt = salt * 16 + u64::from(salt_digit(*digit)?);
+    }
+    Some(salt)
+}

@@ -1,0 +1,95 @@
+ghost use Rattle.std.specs.Prelude.{◌≡◌, ◌<◌, ◌≤◌, ℕ, List, length, Err, IfOk, OnOk};
+ghost use Rattle.serde_json.specs.View.{view};
+ghost use Rattle.store_spec.specs.Election as definition;
+ghost use Rattle.ballot_record.specs.Contest.{contests_of};
+ghost use Rattle.election_def.specs.Text.{IsArrayOf, IsContestIn, IsStyleIn, IsElectionIn, Describes, IsElectionText, DescribeOne};
+
+use crate::ElectionFault;
+use crate::parts::{contest, has_no_key_but, number_at, salt, style};
+use ballot_record::{Contest, Election, MAX_BITS, MAX_CONTESTS, MAX_LIMIT};
+use serde_json::Value;
+use std::alloc::Global;
+
+const ELECTION_KEYS: [&str; 5] = ["contests", "styles", "limit", "bits", "salt"];
+
+/// The contests that an array describes.
+fn contests(alloc: Global, value: &Value) -> Result<Vec<Contest>, ElectionFault>
+    ensures contests { IfOk result (λ v. IsArrayOf IsContestIn (contests_of v.items) (view value.now)) }
+    ensures none { result ≡ Err ElectionFault.NotElection → (cs : List definition.Contest) → ¬ IsArrayOf IsContestIn cs (view value.now) }
+{
+    let Some(items) = value.as_array() else {
+        return Err(ElectionFault::NotElection);
+    };
+    let mut contests = Vec::new(alloc);
+    for item in items {
+        let Some(contest) = contest(item) else {
+            return Err(ElectionFault::NotElection);
+        };
+        contests.push(contest)?;
+    }
+    Ok(contests)
+}
+
+/// The styles over so many contests that an array describes.
+fn styles(alloc: Global, value: &Value, count: usize) -> Result<Vec<u32>, ElectionFault>
+    requires { count ≤ 16 }
+    ensures styles { IfOk result (λ v. IsArrayOf (IsStyleIn count) v.items (view value.now)) }
+    ensures none { result ≡ Err ElectionFault.NotElection → (ss : List ℕ) → ¬ IsArrayOf (IsStyleIn count) ss (view value.now) }
+{
+    let Some(items) = value.as_array() else {
+        return Err(ElectionFault::NotElection);
+    };
+    let mut styles = Vec::new(alloc);
+    for item in items {
+        let Some(style) = style(item, count) else {
+            return Err(ElectionFault::NotElection);
+        };
+        styles.push(style)?;
+    }
+    Ok(styles)
+}
+
+/// The election that a value describes.
+fn election_in(alloc: Global, value: &Value) -> Result<Election, ElectionFault>
+    ensures election { IfOk result (λ e. IsElectionIn (view value.now) e) }
+    ensures none { result ≡ Err ElectionFault.NotElection → (e : definition.Election) → ¬ IsElectionIn (view value.now) e }
+{
+    if !has_no_key_but(value, &ELECTION_KEYS) {
+        return Err(ElectionFault::NotElection);
+    }
+    let contests_value = value.get("contests").ok_or(ElectionFault::NotElection)?;
+    let contests = contests(alloc, contests_value)?;
+    if contests.len() > MAX_CONTESTS {
+        return Err(ElectionFault::NotElection);
+    }
+    let styles_value = value.get("styles").ok_or(ElectionFault::NotElection)?;
+    let styles = styles(alloc, styles_value, contests.len())?;
+    let limit = number_at(value, "limit", MAX_LIMIT as u64).ok_or(ElectionFault::NotElection)?;
+    let bits = number_at(value, "bits", MAX_BITS as u64).ok_or(ElectionFault::NotElection)?;
+    let salt_text = value
+        .get("salt")
+        .and_then(Value::as_str)
+        .ok_or(ElectionFault::NotElection)?;
+    let salt = salt(salt_text).ok_or(ElectionFault::NotElection)?;
+    Election::from_parts(&contests, &styles, limit as u32, bits as u8, salt)
+        .ok_or(ElectionFault::NotElection)
+}
+
+/// No bytes describe two elections.
+pub fn one_election()
+    ensures { DescribeOne }
+{
+}
+
+/// The election that the bytes describe. `NotElection` comes exactly where they describe none, but for want of memory,
+/// which may come in place of any answer.
+pub fn read_election(alloc: Global, bytes: &[u8]) -> Result<Election, ElectionFault>
+    ensures election { IfOk result (λ e. Describes bytes.now e) }
+    ensures none { result ≡ Err ElectionFault.NotElection → ¬ IsElectionText bytes.now }
+{
+    let Ok(text) = str::from_utf8(bytes) else {
+        return Err(ElectionFault::NotElection);
+    };
+    let value = Value::from_str(alloc, text)?;
+    election_in(alloc, &value)
+}
