@@ -3,3 +3,4 @@ pub mod Images
 pub mod Reading
 pub mod Steps
 pub mod Wrong
+pub mod OneSet

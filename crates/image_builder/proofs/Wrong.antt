@@ -27,7 +27,7 @@ record GoesOn (e : Election) (bank : List ℕ) (place : ℕ) (numbers : List ℕ
   front : numbers ≡ take place (cells_of e ballots)
   next : cell_at e place bank ≡ cell_bytes e ballots (get_or (cells_of e ballots) place 0)
 
-known_cell : (e : Election) (ballots : List Ballot) (place : ℕ) → IsLayout (home_in e) (cell_count e) (numbers_of ballots) (cells_of e ballots) → IsKnown ballots (get_or (cells_of e ballots) place 0)
+pub known_cell : (e : Election) (ballots : List Ballot) (place : ℕ) → IsLayout (home_in e) (cell_count e) (numbers_of ballots) (cells_of e ballots) → IsKnown ballots (get_or (cells_of e ballots) place 0)
 known_cell e ballots place layout n =
     let cells = cells_of e ballots in
     layout.exactly.only (get_or cells place 0) n (contains_from_place cells (get_or cells place 0) place (place_within cells place n) refl)

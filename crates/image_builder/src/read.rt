@@ -2,10 +2,11 @@
 
 ghost use Rattle.body_store.specs.Contents.{IsStored, ballots_of};
 ghost use Rattle.image_builder.specs.Reading.{ReadsAs};
-ghost use Rattle.std.specs.Prelude.{◌≡◌, ◌≢◌, ◌+◌, ◌*◌, ◌<◌, ◌≤◌, ◌↔◌, drop, length, take, IfOk, IfErr, IsTrue};
+ghost use Rattle.std.specs.Prelude.{◌≡◌, ◌≢◌, ◌+◌, ◌*◌, ◌<◌, ◌≤◌, ◌↔◌, List, drop, length, take, AllPairs, IfOk, IfErr, IsTrue, MatchResult};
+ghost use Rattle.store_spec.specs.Ballot.{Ballot, IsBallotSet};
 ghost use Rattle.store_spec.specs.Election.{bank_size, cell_count, cell_size};
 ghost use Rattle.store_spec.specs.Home.{home_of};
-ghost use Rattle.store_spec.specs.Image.{header_of};
+ghost use Rattle.store_spec.specs.Image.{header_of, image_of};
 ghost use Rattle.store_spec.specs.Layout.{IsOrdered, MayStand};
 
 use crate::write::{HEADER_BYTES, header};
@@ -65,6 +66,10 @@ pub fn read_image(alloc: Global, bytes: &[u8], election: &Election) -> Result<Cl
     ensures reads { ReadsAs (λ store. store.ballots) election.now bytes.now result }
     ensures election { IfOk result (λ store. store.election ≡ election.now) }
     ensures stored { IfOk result IsStored }
+
+    // The image of a set is read as that set and as no other.
+    ensures back { (ballots : List Ballot) → IsBallotSet election.now ballots → AllPairs (λ a b. a.number < b.number) ballots
+        → bytes.now ≡ image_of election.now ballots → MatchResult result (λ store. store.ballots ≡ ballots) (λ fault. fault ≡ ImageFault.Memory) }
 {
     check_header(bytes, election)?;
     let records = read_cells(alloc, bytes, election)?;
