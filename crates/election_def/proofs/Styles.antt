@@ -46,8 +46,7 @@ numbers_of_set contests last (d ∷ ds) s e =
         | inr past ↦ absurd (none-some s past.1)
         | inl within ↦
             let rest = option_map_some (λ rest. 2 ^ (k - 1) + rest) (set_from contests k ds) s within.1 in
-            let others = numbers_of_set contests k ds rest.0 rest.1 in
-            (
+            let others = numbers_of_set contests k ds rest.0 rest.1 in (
               k ∷ others.0,
               ((found, others.1.0), (leb-false k last rises.0, leb-true k contests within.0, others.1.1)),
               sym rest.2 ∙ ap (λ n. 2 ^ (k - 1) + n) others.2 ∙ sym (sum_by-cons (λ (n : ℕ). 2 ^ (n - 1)) k others.0),
