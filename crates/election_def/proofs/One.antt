@@ -1,13 +1,12 @@
 -- A value describes one election at most.
 use Rattle.std.proofs.Common.{◌≡◌, ℕ, suc, List, [], ◌∷◌, length, Option, None, Some, refl, sym, ap, ap₂, ◌∙◌, subst}
 use Rattle.std.specs.Prelude.{IsSomeAnd, codes, option_and_then}
-use Rattle.std.specs.List.{AllZip}
 use Rattle.std.proofs.lemmas.Option.{same_Some}
-use Rattle.serde_json.specs.Data.{Data, Items}
+use Rattle.serde_json.specs.Data.{Data}
 use Rattle.serde_json.specs.Find.{get, as_array, as_str}
 use Rattle.serde_json.specs.Read.{read}
 use Rattle.store_spec.specs.Election.{Contest, Election}
-use Rattle.election_def.specs.Text.{listed, number_in, number_at, contest_set, IsArrayOf, IsContestIn, IsStyleIn, IsSaltText, IsElectionIn, Describes, DescribeOne}
+use Rattle.election_def.specs.Text.{listed, number_in, number_at, contest_set, IsArrayOf, IsContestIn, IsStyleIn, IsSaltText, IsElectionIn, DescribeOne}
 use Rattle.ballot_record.specs.Contest.{contests_of}
 use Rattle.ballot_record.specs.declared.contest.Contest as program
 use Rattle.election_def.proofs.Zips.{one_list}

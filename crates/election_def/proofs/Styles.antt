@@ -1,5 +1,5 @@
 -- The set of a style's contests, number by number.
-use Rattle.std.proofs.Common.{◌≡◌, ℕ, zero, suc, ◌+◌, ◌-◌, ◌*◌, ◌%◌, ◌^◌, ◌<◌, ◌≤◌, ◌⊎◌, inl, inr, Bool, true, false, cond, leb, ltb, List, [], ◌∷◌, ◌++◌, length, get_or, map, drop, Option, Some, None, refl, sym, ap, ◌∙◌, subst, arith, bit_or, mod-eq_of_lt, zero-add, pow_mono, pow-suc}
+use Rattle.std.proofs.Common.{◌≡◌, ℕ, zero, suc, ◌+◌, ◌-◌, ◌*◌, ◌%◌, ◌^◌, ◌<◌, ◌≤◌, inl, inr, Bool, true, false, cond, leb, List, [], ◌∷◌, length, get_or, map, drop, Option, Some, None, refl, sym, ap, ◌∙◌, arith, bit_or, mod-eq_of_lt, zero-add, pow_mono, pow-suc}
 use Rattle.std.specs.Prelude.{option_map, option_and_then, All}
 use Rattle.std.specs.List.{AllZip}
 use Rattle.std.specs.List.Sorted.{IsStrictlyIncreasing}
@@ -46,8 +46,7 @@ numbers_of_set contests last (d ∷ ds) s e =
         | inr past ↦ absurd (none-some s past.1)
         | inl within ↦
             let rest = option_map_some (λ rest. 2 ^ (k - 1) + rest) (set_from contests k ds) s within.1 in
-            let others = numbers_of_set contests k ds rest.0 rest.1 in
-            (
+            let others = numbers_of_set contests k ds rest.0 rest.1 in (
               k ∷ others.0,
               ((found, others.1.0), (leb-false k last rises.0, leb-true k contests within.0, others.1.1)),
               sym rest.2 ∙ ap (λ n. 2 ^ (k - 1) + n) others.2 ∙ sym (sum_by-cons (λ (n : ℕ). 2 ^ (n - 1)) k others.0),

@@ -4,7 +4,7 @@
 use Rattle.std.specs.Prelude.{◌≡◌, ℕ, ◌-◌, ◌*◌, ◌+◌, ◌^◌, ◌≤◌, ◌⊎◌, List, [], ◌∷◌, length, codes, All, Contains, sum_by, fold, if◌then◌else◌, nat_lt, Option, Some, IsSome, IsSomeAnd, IsUtf8, option_and_then}
 use Rattle.std.specs.List.{AllZip}
 use Rattle.std.specs.List.Sorted.{IsStrictlyIncreasing}
-use Rattle.serde_json.specs.Data.{Data, array, Items, no_items, item}
+use Rattle.serde_json.specs.Data.{Data, Items, no_items, item}
 use Rattle.serde_json.specs.Read.{read}
 use Rattle.serde_json.specs.Find.{get, as_number, as_array, as_str, as_u64}
 use Rattle.store_spec.specs.Election.{Contest, Election, IsContest, IsElection}

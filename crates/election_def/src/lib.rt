@@ -8,5 +8,5 @@ mod read;
 pub use fault::ElectionFault;
 pub use read::{one_election, read_election};
 
-//#[cfg(test)]
-//mod tests;
+#[cfg(test)]
+mod tests;

@@ -89,11 +89,7 @@ pub fn style(value: &Value, contests: usize) -> Option<u32>
         style |= 1 << (k - 1);
         last = k;
     }
-    if last == 0 {
-        None
-    } else {
-        Some(style)
-    }
+    if last == 0 { None } else { Some(style) }
 }
 
 fn salt_digit(digit: u8) -> Option<u8>

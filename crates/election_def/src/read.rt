@@ -71,15 +71,15 @@ fn election_in(alloc: Global, value: &Value) -> Result<Election, ElectionFault>
         .and_then(Value::as_str)
         .ok_or(ElectionFault::NotElection)?;
     let salt = salt(salt_text).ok_or(ElectionFault::NotElection)?;
-    Election::from_parts(&contests, &styles, limit as u32, bits as u8, salt)
-        .ok_or(ElectionFault::NotElection)
+    Election::from_parts(&contests, &styles, limit as u32, bits as u8, salt).ok_or(
+        ElectionFault::NotElection,
+    )
 }
 
 /// No bytes describe two elections.
 pub fn one_election()
     ensures { DescribeOne }
-{
-}
+{}
 
 /// The election that the bytes describe. `NotElection` comes exactly where they describe none, but for want of memory,
 /// which may come in place of any answer.

@@ -1,7 +1,5 @@
-use Rattle.std.proofs.Common.{◌≡◌, ◌<◌, ◌≤◌, ◌*◌, ◌+◌, ℕ, List, length, get_or, take, ap, sym, ◌∙◌, subst, arith, below_more}
-use Rattle.std.proofs.lemmas.List.{take_all}
-use Rattle.election_def.specs.Text.{IsSaltDigit, salt_digit}
-use Rattle.election_def.proofs.Salts.{fits, grown, small_grows, number_grows, salt_digit-lt, text_of_digits}
+use Rattle.std.proofs.Common.{◌≡◌, ◌<◌, ◌*◌, ◌+◌, length, ap, ◌∙◌, arith, below_more}
+use Rattle.election_def.proofs.Salts.{fits, small_grows, number_grows, salt_digit-lt, text_of_digits}
 use Rattle.election_def.proofs.parts.salt.Goals as goal
 
 pub overflow_mul-salt : goal.overflow_mul-salt

@@ -1,4 +1,4 @@
-use Rattle.std.proofs.Common.{◌≡◌, ◌<◌, ◌≤◌, ◌+◌, ◌-◌, ◌^◌, ℕ, List, length, ap, sym, ◌∙◌, subst, refl, arith}
+use Rattle.std.proofs.Common.{◌<◌, ◌+◌, ◌^◌, ℕ, sym, subst, refl, arith}
 use Rattle.serde_json.specs.View.{view}
 use Rattle.election_def.proofs.Styles.{GoesOn, no_style, no_number, falls_to_none, one_contest_more, whole_style, set_grows}
 use Rattle.election_def.proofs.parts.style.Goals as goal

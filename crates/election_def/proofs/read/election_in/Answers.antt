@@ -1,14 +1,13 @@
-use Rattle.std.proofs.Common.{◌≡◌, ℕ, List, length, rules, Option, Ok, Err, Some, IsSome, sym, ap, ◌∙◌, subst, subst₂, arith, is_ok, true≢false}
+use Rattle.std.proofs.Common.{◌≡◌, ℕ, List, length, rules, Err, Some, IsSome, sym, ap, ◌∙◌, subst, subst₂, arith, is_ok, true≢false}
 use Rattle.std.specs.Prelude.{IsSomeAnd, codes}
-use Rattle.serde_json.specs.Data.{Data}
 use Rattle.serde_json.specs.View.{view}
 use Rattle.serde_json.specs.Find.{get}
-use Rattle.store_spec.specs.Election.{Election, IsElection}
-use Rattle.ballot_record.specs.Contest.{contest_of, contests_of}
+use Rattle.store_spec.specs.Election.{IsElection}
+use Rattle.ballot_record.specs.Contest.{contests_of}
 use Rattle.ballot_record.specs.Parts.{parts_of}
 use Rattle.ballot_record.specs.declared.contest.Contest.{Contest}
 use Rattle.election_def.specs.declared.fault.ElectionFault.TheVariants.{NotElection}
-use Rattle.election_def.specs.Text.{IsArrayOf, IsContestIn, IsStyleIn}
+use Rattle.election_def.specs.Text.{IsArrayOf, IsContestIn}
 use Rattle.election_def.proofs.One.{AreParts, same_contests, same_parts, no_styles, no_styles_at, are_styles, contest_count}
 use Rattle.election_def.proofs.One as one
 use Rattle.election_def.proofs.read.election_in.Goals as goal

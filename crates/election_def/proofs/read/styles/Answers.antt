@@ -1,4 +1,4 @@
-use Rattle.std.proofs.Common.{◌≡◌, ◌+◌, sym, subst, arith, map, take, ℕ, List, refl}
+use Rattle.std.proofs.Common.{◌+◌, sym, subst, arith, map, take, ℕ, List, refl}
 use Rattle.std.specs.List.{AllZip}
 use Rattle.serde_json.specs.View.{view}
 use Rattle.election_def.specs.Text.{IsStyleIn}
