@@ -1,2 +1,3 @@
 mod Index
 mod Reading
+mod Texts

@@ -1,4 +1,5 @@
 pub mod Ballots
 pub mod Build
+pub mod ElectionText
 pub mod Script
 pub mod Words

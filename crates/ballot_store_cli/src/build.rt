@@ -49,6 +49,7 @@ pub fn build<S: Source, K: Sink>(
         (λ text left. IsReadOut text left × WritesPart election.now text (K.taken out.old) (K.taken out.new)) }
     ensures nothing { result ≢ Status.Ok → result ≢ Status.WriteFault → K.taken out.new ≡ K.taken out.old }
     ensures no_usage { result ≢ Status.Usage }
+    ensures no_bad_election { result ≢ Status.BadElection }
 {
     let records = match read_ballots(alloc, election, script) {
         Ok(records) => records,

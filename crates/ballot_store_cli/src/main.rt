@@ -3,16 +3,17 @@
 
 mod ballots;
 mod build;
+mod election;
 mod run;
 mod script;
 mod status;
 mod words;
 
-use outside_io::{StdinSource, StdoutSink};
+use outside_io::{FileSource, StdinSource, StdoutSink};
 pub use run::run;
 pub use status::{Status, Which};
 use std::process::ExitCode;
-use std::rt::Env;
+use std::rt::{Env, Files};
 use std::thread::Threads;
 use std::{env, io};
 
@@ -28,15 +29,17 @@ fn words_of(rt: &(impl Env + AllocGlobal)) -> Result<Vec<String>, Status> {
     }
 }
 
+// The election is the file of the second word.
 fn status_of<R>(rt: &R) -> Status
 where
-    R: Threads + Sync + Env + Input + Print + AllocGlobal,
+    R: Threads + Sync + Env + Files + Input + Print + AllocGlobal,
 {
     match words_of(rt) {
         Ok(words) => run(
             rt,
             rt.alloc(),
             &words,
+            &mut FileSource::new(rt, words.get(1).map_or("", |path| path.as_str())),
             &mut StdinSource::new(rt),
             &mut StdoutSink::new(rt),
         ),

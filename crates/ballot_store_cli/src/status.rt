@@ -16,6 +16,8 @@ pub enum Status {
     Ok,
     /// The words are no command form.
     Usage,
+    /// The election's text describes no election.
+    BadElection,
     /// A source gave more bytes than its limit.
     TooLong { which: Which },
     /// A source failed.
@@ -34,6 +36,7 @@ impl Status {
         match self {
             Status::Ok => 0,
             Status::Usage => 2,
+            Status::BadElection => 3,
             Status::TooLong { .. } => 4,
             Status::ReadFault { .. } => 6,
             Status::WriteFault => 7,
@@ -48,6 +51,7 @@ impl fmt::Display for Status {
         match self {
             Status::Ok => f.write_str("ok"),
             Status::Usage => f.write_str("usage"),
+            Status::BadElection => f.write_str("bad election"),
             Status::TooLong {
                 which: Which::Election,
             } => f.write_str("election too long"),

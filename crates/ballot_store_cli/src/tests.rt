@@ -58,17 +58,35 @@ impl Source for Pieces {
     }
 }
 
-// How `build` ends for a script in memory, and what the sink took.
-fn build_of<R>(rt: &R, script: &[u8]) -> Result<(Status, Vec<u8>), Fail>
+const EXAMPLE: &[u8] =
+    b"{\"contests\":[{\"choices\":4,\"allowed\":1},{\"choices\":3,\"allowed\":2}],\
+    \"styles\":[[1,2]],\"limit\":8,\"bits\":3,\"salt\":\"0000000000000000\"}";
+
+// The election of the examples, as a source that never fails.
+fn example(alloc: Global) -> Result<SureSource, AllocError> {
+    Ok(SureSource::new(EXAMPLE.to_vec(alloc)?))
+}
+
+// How `build` ends for an election and a script in memory, and what the sink took.
+fn build_under<R>(rt: &R, election: &[u8], script: &[u8]) -> Result<(Status, Vec<u8>), Fail>
 where
     R: Threads + Sync + AllocGlobal,
 {
     let alloc = rt.alloc();
     let words = words(alloc, &["medium", "election.json", "build"])?;
+    let mut election = MemorySource::new(election.to_vec(alloc)?, Vec::new(alloc));
     let mut source = MemorySource::new(script.to_vec(alloc)?, Vec::new(alloc));
     let mut sink = MemorySink::new(alloc, 1000, Vec::new(alloc))?;
-    let status = run(rt, alloc, &words, &mut source, &mut sink);
+    let status = run(rt, alloc, &words, &mut election, &mut source, &mut sink);
     Ok((status, sink.bytes().to_vec(alloc)?))
+}
+
+// How `build` ends for a script in memory under the election of the examples, and what the sink took.
+fn build_of<R>(rt: &R, script: &[u8]) -> Result<(Status, Vec<u8>), Fail>
+where
+    R: Threads + Sync + AllocGlobal,
+{
+    build_under(rt, EXAMPLE, script)
 }
 
 // The image of the ballots 9, 14 and 1, in hexadecimal digits but for the zeros in front of its first ballot and
@@ -193,7 +211,14 @@ fn wide_lines_and_long_scripts(rt: HostRuntime) -> Result<(), Fail> {
     ];
     for (left, most, want) in rows {
         let mut sink = MemorySink::new(alloc, 1000, Vec::new(alloc))?;
-        let status = run(&rt, alloc, &words, &mut Letters { left, most }, &mut sink);
+        let status = run(
+            &rt,
+            alloc,
+            &words,
+            &mut example(alloc)?,
+            &mut Letters { left, most },
+            &mut sink,
+        );
         assert_eq!(rt; status, want, "{left} letters");
         assert_eq!(rt; sink.bytes().len(), 0);
     }
@@ -211,7 +236,14 @@ fn pieces_of_one_byte(rt: HostRuntime) -> Result<(), Fail> {
             most,
         };
         let mut sink = MemorySink::new(alloc, 304, Vec::new(alloc))?;
-        let status = run(&rt, alloc, &words, &mut source, &mut sink);
+        let status = run(
+            &rt,
+            alloc,
+            &words,
+            &mut example(alloc)?,
+            &mut source,
+            &mut sink,
+        );
         assert_eq!(rt; status, Status::Ok);
         assert!(rt;
             is_image(alloc, sink.bytes(), THREE_BALLOTS)?,
@@ -240,14 +272,103 @@ fn faults_of_source_and_sink(rt: HostRuntime) -> Result<(), Fail> {
     for (read, write, room, want) in rows {
         let mut source = MemorySource::new(b"9 1 1/-\n".to_vec(alloc)?, vec![in alloc; read]?);
         let mut sink = MemorySink::new(alloc, room, vec![in alloc; write]?)?;
-        let status = run(&rt, alloc, &words, &mut source, &mut sink);
+        let status = run(
+            &rt,
+            alloc,
+            &words,
+            &mut example(alloc)?,
+            &mut source,
+            &mut sink,
+        );
         assert_eq!(rt; status, want, "{read} {write} {room}");
         let taken = if want == Status::Ok { 304 } else { 0 };
         assert_eq!(rt; sink.bytes().len(), taken);
     }
     let mut source = SureSource::new(b"9 1 1/-\n".to_vec(alloc)?);
-    let status = run(&rt, alloc, &words, &mut source, &mut SureSink::new());
+    let status = run(
+        &rt,
+        alloc,
+        &words,
+        &mut example(alloc)?,
+        &mut source,
+        &mut SureSink::new(),
+    );
     assert_eq!(rt; status, Status::Ok);
+    Ok(())
+}
+
+#[test]
+fn other_elections(rt: HostRuntime) -> Result<(), Fail> {
+    let alloc = rt.alloc();
+    let one_home = b"{\"contests\":[{\"choices\":4,\"allowed\":1},{\"choices\":3,\"allowed\":2}],\
+        \"styles\":[[1,2]],\"limit\":1,\"bits\":0,\"salt\":\"0000000000000000\"}";
+    let (status, bytes) = build_under(&rt, one_home, b"5 1 -/-\n")?;
+    assert_eq!(rt; status, Status::Ok);
+    let image = hex::decode(
+        alloc,
+        "48494253544f5245000100020000000100000000000000000000000000000000\
+        0000000000000005010000000000000000\
+        0000000000000000000000000000000000",
+    )?;
+    assert!(rt; bytes == image);
+    let (status, bytes) = build_under(&rt, one_home, b"5 1 -/-\n9 1 -/-\n")?;
+    let full = Status::BadLine {
+        line: 2,
+        why: LineWhy::Full,
+    };
+    assert_eq!(rt; status, full);
+    assert_eq!(rt; bytes.len(), 0);
+
+    let refused: [&[u8]; 7] = [
+        b"",
+        b"{}",
+        b"{\"contests\":[{\"choices\":4,\"allowed\":1}],\"styles\":[[1]],\"limit\":0,\"bits\":3,\"salt\":\"0000000000000000\"}",
+        b"{\"contests\":[{\"choices\":4,\"allowed\":1}],\"styles\":[[1]],\"limit\":8,\"bits\":17,\"salt\":\"0000000000000000\"}",
+        b"{\"contests\":[{\"choices\":4,\"allowed\":1}],\"styles\":[[1]],\"limit\":8,\"bits\":3,\"salt\":\"0000000000000000\",\"more\":1}",
+        b"{\"contests\":[{\"choices\":4,\"allowed\":1},{\"choices\":3,\"allowed\":2}],\"styles\":[[2,1]],\"limit\":8,\"bits\":3,\"salt\":\"0000000000000000\"}",
+        b"\xff",
+    ];
+    for election in refused {
+        let (status, bytes) = build_under(&rt, election, b"a bad line")?;
+        assert_eq!(rt; status, Status::BadElection, "{election:?}");
+        assert_eq!(rt; bytes.len(), 0);
+    }
+    Ok(())
+}
+
+#[test]
+fn width_and_faults_of_the_election(rt: HostRuntime) -> Result<(), Fail> {
+    let alloc = rt.alloc();
+    let words = words(alloc, &["medium", "election.json", "build"])?;
+    let too_long = Status::TooLong {
+        which: Which::Election,
+    };
+    for (size, want) in [(1_048_576usize, Status::Ok), (1_048_577, too_long)] {
+        let mut text = EXAMPLE.to_vec(alloc)?;
+        text.resize(size, b' ')?;
+        let mut source = SureSource::new(b"9 1 1/-\n".to_vec(alloc)?);
+        let status = run(
+            &rt,
+            alloc,
+            &words,
+            &mut SureSource::new(text),
+            &mut source,
+            &mut SureSink::new(),
+        );
+        assert_eq!(rt; status, want, "{size} bytes");
+    }
+    let read_fault = Status::ReadFault {
+        which: Which::Election,
+    };
+    for (call, want) in [(1u64, read_fault), (2, read_fault), (3, Status::Ok)] {
+        let mut election = MemorySource::new(EXAMPLE.to_vec(alloc)?, vec![in alloc; call]?);
+        let mut source = SureSource::new(b"9 1 1/-\n".to_vec(alloc)?);
+        let mut sink = MemorySink::new(alloc, 304, Vec::new(alloc))?;
+        let status = run(&rt, alloc, &words, &mut election, &mut source, &mut sink);
+        assert_eq!(rt; status, want, "the election fails at call {call}");
+        let taken = if want == Status::Ok { 304 } else { 0 };
+        assert_eq!(rt; sink.bytes().len(), taken);
+    }
     Ok(())
 }
 
@@ -269,7 +390,14 @@ fn command_forms(rt: HostRuntime) -> Result<(), Fail> {
     for (texts, want) in rows {
         let words = words(alloc, texts)?;
         let mut source = SureSource::new(Vec::new(alloc));
-        let status = run(&rt, alloc, &words, &mut source, &mut SureSink::new());
+        let status = run(
+            &rt,
+            alloc,
+            &words,
+            &mut example(alloc)?,
+            &mut source,
+            &mut SureSink::new(),
+        );
         assert_eq!(rt; status, want, "{texts:?}");
     }
     Ok(())
@@ -279,6 +407,7 @@ fn command_forms(rt: HostRuntime) -> Result<(), Fail> {
 fn status_texts(rt: HostRuntime) -> Result<(), Fail> {
     let rows = [
         (Status::Usage, 2u8, "usage"),
+        (Status::BadElection, 3, "bad election"),
         (
             Status::TooLong {
                 which: Which::Election,

@@ -30,7 +30,7 @@ returns-in-Bad c =
       first_wrong e bank l.place l.numbers.items (ballots_of l.records.items) election lt l.invariant
           (bad_bytes e bank l.place l.numbers.items (ballots_of l.records.items) election lt l.invariant
           (subst (λ (bytes : List ℕ). bytes ≢ replicate (cell_size e) 0) (sym cell) bad.0)
-          (subst (λ (bytes : List ℕ). (b : Ballot) → IsValid e b → bytes ≢ ballot_bytes e b) (sym cell) bad.1)),
+          (subst (λ (bytes : List ℕ). (b : Ballot) → IsValid e b → bytes ≢ ballot_bytes e b) (sym cell) (λ b valid is. bad.1 b (valid, is)))),
     )
 
 pub returns-then-len-limit : goal.returns-then-len-limit

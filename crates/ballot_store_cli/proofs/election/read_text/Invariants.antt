@@ -1,0 +1,17 @@
+use Rattle.std.proofs.Common.{◌≡◌, ℕ, ◌+◌, ◌-◌, ◌≤◌, length}
+use Rattle.outside_io.specs.Lines.{IfTold}
+use Rattle.ballot_store_cli.specs.ElectionText.{ELECTION_LIMIT}
+use Rattle.ballot_store_cli.proofs.Texts.{HasTaken}
+use Rattle.ballot_store_cli.proofs.election.read_text.Given as goal
+
+-- what was read stands in front of what the source has left
+abbrev pub invariant-pieces : goal.invariant-pieces
+invariant-pieces g l = record {
+  text : IfTold (g.E.Source.left l.initial.source) (g.E.Source.left l.source) (λ whole left. HasTaken l.text.items whole left);
+  size : l.piece.len ≡ 65536;
+  faults : g.E.Source.faults l.initial.source ≤ g.E.Source.faults l.source;
+}
+
+-- each piece has a byte or more
+abbrev pub decreases-pieces : goal.decreases-pieces
+decreases-pieces g l = ELECTION_LIMIT + 1 - length l.text.items
