@@ -1,24 +1,21 @@
 -- How far a script has been read.
-use Rattle.std.proofs.Common.{◌≡◌, ℕ, zero, suc, ◌+◌, ◌<◌, ◌≤◌, ◌⊎◌, Bool, true, false, cond, leb, List, [], ◌∷◌, ◌++◌, length, get_or, take, drop, map, Option, Some, None, Result, Ok, Err, refl, ap, sym, subst, ◌∙◌, inl, inr, arith, le-leb}
+use Rattle.std.proofs.Common.{◌≡◌, ℕ, zero, suc, ◌+◌, ◌<◌, ◌≤◌, cond, List, [], ◌∷◌, ◌++◌, length, take, drop, map, Option, Some, None, Ok, Err, refl, ap, sym, subst, ◌∙◌, inl, inr, arith, le-leb}
 use Rattle.std.proofs.lemmas.Bool.{cases_lt, lt-leb}
-use Rattle.std.proofs.lemmas.List.{take_more, take_all, length-map, append-nil}
-use Rattle.std.specs.Prelude.{slice_get, Vec}
+use Rattle.std.specs.Prelude.{slice_get}
 use Rattle.std.specs.List.{AllZip}
-use Rattle.std.specs.declared.alloc.Global.{Global}
 use Rattle.outside_io.specs.Lines.{AnswersTold, IfTold, HandsOut, HandsNothing, HasTooMuch}
 use Rattle.outside_io.specs.Window.{Kept}
 use Rattle.outside_io.specs.declared.lines.NextLine.{NextLine}
 use Rattle.outside_io.specs.declared.lines.NextLine.TheVariants.{Whole, TooWide, End}
 use Rattle.outside_io.specs.declared.lines.LineEndFault.{LineEndFault}
 use Rattle.outside_io.specs.declared.lines.LineEndFault.TheVariants.{TooLong}
-use Rattle.ballot_store_cli.specs.Script.{Reads}
 use Rattle.store_spec.specs.Ballot.{Ballot, IsBallotSet}
-use Rattle.store_spec.specs.BallotLine.{Line, ReadsAs, Spells}
+use Rattle.store_spec.specs.BallotLine.{Spells}
 use Rattle.store_spec.specs.Build.{IsSetOf, IsFirstBad, IsRefused, Reason}
 use Rattle.store_spec.specs.Build.Reason.{Malformed}
 use Rattle.store_spec.proofs.LineLaws.{short_lines}
 use Rattle.store_spec.specs.Election.{Election}
-use Rattle.store_spec.specs.Input.{SCRIPT_LIMIT, LINE_LIMIT, lines_of, ended_lines, lines_within, taken_line, taken_within, IsTooLong}
+use Rattle.store_spec.specs.Input.{SCRIPT_LIMIT, LINE_LIMIT, lines_of, ended_lines, lines_within, taken_line, taken_within}
 
 -- So many lines of the text were read, which spell these ballots. Of its bytes `now` are left, and of the limit `room`.
 pub record HasRead (e : Election) (text : List ℕ) (count : ℕ) (ballots : List Ballot) (now : List ℕ) (room : ℕ) : Type 0 where

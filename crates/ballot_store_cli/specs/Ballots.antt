@@ -1,5 +1,5 @@
 -- The ballots of the lines so far, and what the next line does to them.
-use Rattle.std.specs.Prelude.{◌≡◌, ◌≢◌, ℕ, ◌≤◌, ◌==◌, List, ◌++◌, [], ◌∷◌, length, find, map, Contains, Any, Result, Ok, Err}
+use Rattle.std.specs.Prelude.{◌≡◌, ◌≢◌, ℕ, ◌==◌, List, ◌++◌, [], ◌∷◌, length, find, map, Contains, Any, Result, Ok, Err}
 use Rattle.std.specs.Ordering.{nat_cmp}
 use Rattle.std.specs.BTreeMap.{get}
 use Rattle.ballot_record.specs.Record.{ballot}

@@ -98,13 +98,11 @@ const THREE_BALLOTS: &str = "000000000000000901000000010000000\
 fn is_image(alloc: Global, bytes: &[u8], cells: &str) -> Result<bool, Fail> {
     let header = hex::decode(alloc, "48494253544f524500010302000000080000000000000000")?;
     let cells = hex::decode(alloc, cells)?;
-    let mut image = vec![in alloc; 0; 304]?;
-    for (place, byte) in (0..304usize).zip(&header) {
-        image[place] = *byte;
-    }
-    for (place, byte) in (100..304usize).zip(&cells) {
-        image[place] = *byte;
-    }
+    let mut image = Vec::new(alloc);
+    image.extend_from_slice(&header)?;
+    image.resize(100, 0)?;
+    image.extend_from_slice(&cells)?;
+    image.resize(304, 0)?;
     Ok(image.as_slice() == bytes)
 }
 

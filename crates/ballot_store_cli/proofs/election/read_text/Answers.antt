@@ -1,6 +1,5 @@
-use Rattle.std.proofs.Common.{rules, ◌≡◌, ℕ, ◌+◌, ◌-◌, ◌<◌, ◌≤◌, ◌++◌, length, take, ap, sym, ◌∙◌, arith}
+use Rattle.std.proofs.Common.{◌≡◌, ◌++◌, length, take, ap, ◌∙◌, arith}
 use Rattle.std.proofs.lemmas.List.{take_at}
-use Rattle.ballot_store_cli.specs.ElectionText.{ELECTION_LIMIT}
 use Rattle.ballot_store_cli.proofs.Texts.{told_start, told_piece, told_end, told_long}
 use Rattle.ballot_store_cli.proofs.election.read_text.Goals as goal
 
@@ -15,11 +14,11 @@ pub pieces-preserved : goal.pieces-preserved
 pieces-preserved g c =
     let size : length c.read.new.buf ≡ c.pieces.piece.len = omega (arith, c.read.auto.buf, c.deref_mut.ensures.len) in
     let given = ap (λ bytes. take c.in-Ok-read.count bytes) (c.deref.ensures.value ∙ take_at c.read.new.buf _ c.pieces.piece.len size) in record {
-  text = told_piece (g.E.Source.left c.args.source.now) (g.E.Source.left c.pieces.source) (g.E.Source.left c.read.new.self) c.pieces.text.items (take c.in-Ok-read.count c.read.new.buf) c.extend_from_slice.new.self.items c.pieces.invariant.text c.in-Ok-read.ensures.gives
-        (c.in-Ok-extend_from_slice.ensures.items ∙ ap (λ piece. c.pieces.text.items ++ piece) given);
-  size = c.pieces.invariant.size;
-  faults = omega (arith, c.pieces.invariant.faults, c.read.ensures.faults);
-}
+      text = told_piece (g.E.Source.left c.args.source.now) (g.E.Source.left c.pieces.source) (g.E.Source.left c.read.new.self) c.pieces.text.items (take c.in-Ok-read.count c.read.new.buf) c.extend_from_slice.new.self.items c.pieces.invariant.text c.in-Ok-read.ensures.gives
+          (c.in-Ok-extend_from_slice.ensures.items ∙ ap (λ piece. c.pieces.text.items ++ piece) given);
+      size = c.pieces.invariant.size;
+      faults = omega (arith, c.pieces.invariant.faults, c.read.ensures.faults);
+    }
 
 pub returns-then-count-eq0-clause-text : goal.returns-then-count-eq0-clause-text
 returns-then-count-eq0-clause-text g c =

@@ -1,4 +1,4 @@
-use Rattle.std.proofs.Common.{◌≡◌, ℕ, ◌+◌, ◌-◌, ◌≤◌, length}
+use Rattle.std.proofs.Common.{◌≡◌, ◌+◌, ◌-◌, ◌≤◌, length}
 use Rattle.outside_io.specs.Lines.{IfTold}
 use Rattle.ballot_store_cli.specs.ElectionText.{ELECTION_LIMIT}
 use Rattle.ballot_store_cli.proofs.Texts.{HasTaken}

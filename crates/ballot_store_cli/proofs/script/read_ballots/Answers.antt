@@ -1,7 +1,6 @@
-use Rattle.std.proofs.Common.{◌≡◌, ℕ, ◌+◌, ◌≤◌, List, ◌++◌, Err, refl, ap, subst, sym, ◌∙◌, arith}
+use Rattle.std.proofs.Common.{◌++◌, Err, subst, sym, ◌∙◌, arith}
 use Rattle.ballot_record.specs.LineWhy.{reason}
-use Rattle.ballot_record.specs.declared.fault.LineWhy.TheVariants.{Malformed}
-use Rattle.ballot_store_cli.specs.Ballots.{ballots_so_far, IsSound, Judges}
+use Rattle.ballot_store_cli.specs.Ballots.{ballots_so_far, Judges}
 use Rattle.ballot_store_cli.specs.declared.ballots.Refusal.{Refusal}
 use Rattle.ballot_store_cli.proofs.Reading.{HasRead, has_read_start, told_first, told_read, told_refused, told_wide, told_all, told_too_much}
 use Rattle.ballot_store_cli.proofs.script.read_ballots.Goals as goal

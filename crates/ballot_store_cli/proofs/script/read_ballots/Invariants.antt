@@ -1,4 +1,4 @@
-use Rattle.std.proofs.Common.{ℕ, ◌+◌, ◌≤◌, ◌++◌}
+use Rattle.std.proofs.Common.{◌+◌, ◌≤◌, ◌++◌}
 use Rattle.outside_io.specs.Lines.{IfTold}
 use Rattle.ballot_store_cli.specs.Ballots.{ballots_so_far, IsSound}
 use Rattle.ballot_store_cli.proofs.Reading.{HasRead}

@@ -1,12 +1,11 @@
-use Rattle.std.proofs.Common.{◌≡◌, ◌≢◌, ℕ, ◌<◌, ◌≤◌, List, ◌++◌, [], ◌∷◌, length, get_or, map, None, Some, refl, ap, sym, subst, ◌∙◌, arith, rules}
+use Rattle.std.proofs.Common.{◌≡◌, ◌≢◌, ◌<◌, List, ◌++◌, [], ◌∷◌, length, map, None, Some, ap, sym, subst, ◌∙◌, arith, rules}
 use Rattle.std.specs.BTreeMap.{get}
 use Rattle.std.specs.Ordering.{nat_cmp}
 use Rattle.std.proofs.lemmas.List.{map_push, get_or-map, length-map}
 use Rattle.ballot_record.specs.declared.record.Record.{Record}
 use Rattle.ballot_record.specs.Record.{ballot}
 use Rattle.store_spec.specs.Ballot.{Ballot, IsBallotSet}
-use Rattle.ballot_store_cli.specs.Ballots.{ballots_so_far}
-use Rattle.ballot_store_cli.proofs.Index.{found, found_in, missing, ballot_missing, index_grown, set_grown}
+use Rattle.ballot_store_cli.proofs.Index.{found, found_in, ballot_missing, index_grown, set_grown}
 use Rattle.ballot_store_cli.proofs.ballots.Ballots.add.Goals as goal
 
 abbrev record_like : Ballot → Record
