@@ -320,11 +320,15 @@ fn other_elections(rt: HostRuntime) -> Result<(), Fail> {
     let refused: [&[u8]; 7] = [
         b"",
         b"{}",
-        b"{\"contests\":[{\"choices\":4,\"allowed\":1}],\"styles\":[[1]],\"limit\":0,\"bits\":3,\"salt\":\"0000000000000000\"}",
-        b"{\"contests\":[{\"choices\":4,\"allowed\":1}],\"styles\":[[1]],\"limit\":8,\"bits\":17,\"salt\":\"0000000000000000\"}",
-        b"{\"contests\":[{\"choices\":4,\"allowed\":1}],\"styles\":[[1]],\"limit\":8,\"bits\":3,\"salt\":\"0000000000000000\",\"more\":1}",
-        b"{\"contests\":[{\"choices\":4,\"allowed\":1},{\"choices\":3,\"allowed\":2}],\"styles\":[[2,1]],\"limit\":8,\"bits\":3,\"salt\":\"0000000000000000\"}",
         b"\xff",
+        b"{\"contests\":[{\"choices\":4,\"allowed\":1},{\"choices\":3,\"allowed\":2}],\
+            \"styles\":[[1,2]],\"limit\":0,\"bits\":3,\"salt\":\"0000000000000000\"}",
+        b"{\"contests\":[{\"choices\":4,\"allowed\":1},{\"choices\":3,\"allowed\":2}],\
+            \"styles\":[[1,2]],\"limit\":8,\"bits\":17,\"salt\":\"0000000000000000\"}",
+        b"{\"contests\":[{\"choices\":4,\"allowed\":1},{\"choices\":3,\"allowed\":2}],\
+            \"styles\":[[1,2]],\"limit\":8,\"bits\":3,\"salt\":\"0000000000000000\",\"more\":1}",
+        b"{\"contests\":[{\"choices\":4,\"allowed\":1},{\"choices\":3,\"allowed\":2}],\
+            \"styles\":[[2,1]],\"limit\":8,\"bits\":3,\"salt\":\"0000000000000000\"}",
     ];
     for election in refused {
         let (status, bytes) = build_under(&rt, election, b"a bad line")?;
