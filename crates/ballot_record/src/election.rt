@@ -94,8 +94,8 @@ fn styles_kept(styles: &[u32]) -> [u32; MAX_STYLES]
 }
 
 impl Election {
-    /// The election of these parts: contest k is the k-th of `contests`, and style s the s-th of `styles`, in which
-    /// bit k - 1 stands for contest k. `None` where a rule on elections fails.
+    /// The election of these parts. Contests and styles come in the order of their numbers, from 1; in a style bit k - 1
+    /// stands for contest k. `None` where a rule on elections fails.
     pub fn from_parts(
         contests: &[Contest],
         styles: &[u32],

@@ -18,8 +18,8 @@ pub struct Record {
 impl Record {
     ghost use Rattle.ballot_record.specs.Record.{ballot};
 
-    /// Whether the election knows its style, and its marks are choices of contests on it. More marks than allowed
-    /// are valid: they are an overvote.
+    /// Whether the election knows its style, and its marks are choices of contests on it. A record that marks more than
+    /// a contest allows is valid: an overvote.
     pub fn valid(&self, election: &Election) -> bool
         ensures { IsTrue result ↔ IsValid election.now (ballot self.now) }
     {

@@ -1,27 +1,37 @@
 -- How far a script has been read.
-use Rattle.std.proofs.Common.{◌≡◌, ℕ, zero, suc, ◌+◌, ◌<◌, ◌≤◌, cond, List, [], ◌∷◌, ◌++◌, length, take, drop, map, Option, Some, None, Ok, Err, refl, ap, sym, subst, ◌∙◌, inl, inr, arith, le-leb}
+use Rattle.std.proofs.Common.{◌≡◌, ℕ, zero, suc, ◌+◌, ◌-◌, ◌<◌, ◌≤◌, cond, List, [], ◌∷◌, ◌++◌, length, take, drop, map, Option, Some, None, Result, Ok, Err, refl, ap, sym, subst, ◌∙◌, inl, inr, ⊎_elim, arith, le-leb, length-append, length-drop, length-take}
 use Rattle.std.proofs.lemmas.Bool.{cases_lt, lt-leb}
+use Rattle.std.proofs.lemmas.List.{drop_all, drop-drop, length-take-le}
+use Rattle.std.proofs.Math.Seq.{take-add}
 use Rattle.std.specs.Prelude.{slice_get}
 use Rattle.std.specs.List.{AllZip}
-use Rattle.outside_io.specs.Lines.{AnswersTold, IfTold, HandsOut, HandsNothing, HasTooMuch}
+use Rattle.outside_io.specs.Lines.{Answers, AnswersTold, IfTold, HandsOut, HandsNothing}
+use Rattle.outside_io.specs.Stream.{GivesAtMost, GivesExactly}
+use Rattle.ballot_store_cli.specs.Build.{IsGoodSoFar}
 use Rattle.outside_io.specs.Window.{Kept}
 use Rattle.outside_io.specs.declared.lines.NextLine.{NextLine}
 use Rattle.outside_io.specs.declared.lines.NextLine.TheVariants.{Whole, TooWide, End}
 use Rattle.outside_io.specs.declared.lines.LineEndFault.{LineEndFault}
-use Rattle.outside_io.specs.declared.lines.LineEndFault.TheVariants.{TooLong}
+use Rattle.outside_io.specs.declared.lines.LineEndFault.TheVariants.{TooLong, ReadFault}
 use Rattle.store_spec.specs.Ballot.{Ballot, IsBallotSet}
 use Rattle.store_spec.specs.BallotLine.{Spells}
 use Rattle.store_spec.specs.Build.{IsSetOf, IsFirstBad, IsRefused, Reason}
 use Rattle.store_spec.specs.Build.Reason.{Malformed}
+use Rattle.store_spec.proofs.FirstLine.{ended_lines-none, first_width-le, first_width-more, first_width-take_none}
+use Rattle.store_spec.proofs.LineFronts.{ended_lines-few, front_builds, front_of_within, length-ended_lines-append}
 use Rattle.store_spec.proofs.LineLaws.{short_lines}
 use Rattle.store_spec.specs.Election.{Election}
-use Rattle.store_spec.specs.Input.{SCRIPT_LIMIT, LINE_LIMIT, lines_of, ended_lines, lines_within, taken_line, taken_within}
+use Rattle.store_spec.specs.Input.{SCRIPT_LIMIT, LINE_LIMIT, first_width, lines_of, ended_lines, lines_within, taken_line, taken_within}
 
 -- So many lines of the text were read, which spell these ballots. Of its bytes `now` are left, and of the limit `room`.
+-- No more lines end in what was taken off.
 pub record HasRead (e : Election) (text : List ℕ) (count : ℕ) (ballots : List Ballot) (now : List ℕ) (room : ℕ) : Type 0 where
   pub spelled : AllZip (Spells e) (take count (lines_within SCRIPT_LIMIT text)) ballots
   pub lines : taken_within room now ≡ drop count (map taken_line (lines_within SCRIPT_LIMIT text))
   pub bytes : SCRIPT_LIMIT + length now ≡ room + length text
+  pub fewer : length now ≤ length text
+  pub behind : now ≡ drop (length text - length now) text
+  pub ended : length (ended_lines (take (length text - length now) text)) ≤ count
 
 -- two steps, where the source tells its bytes
 pub told_on : (a b c : Option (List ℕ)) (R S Q : List ℕ → List ℕ → Type 0) → ((x y z : List ℕ) → R x y → S y z → Q x z) → IfTold a b R → IfTold b c S → IfTold a c Q
@@ -37,7 +47,16 @@ told_first None R start = tt
 told_first (Some x) R start = start x
 
 has_read_nothing : (e : Election) (text : List ℕ) → HasRead e text 0 [] text SCRIPT_LIMIT
-has_read_nothing e text = record { spelled = tt; lines = refl; bytes = refl }
+has_read_nothing e text =
+    let none : length text - length text ≡ 0 = omega arith in
+    record {
+      spelled = tt;
+      lines = refl;
+      bytes = refl;
+      fewer = omega arith;
+      behind = sym (ap (λ n. drop n text) none);
+      ended = omega (arith, ap (λ n. length (ended_lines (take n text))) none);
+    }
 
 pub has_read_start : (e : Election) (text kept : List ℕ) (ballots : List Ballot) (room : ℕ) → kept ≡ [] → ballots ≡ [] → room ≡ SCRIPT_LIMIT → HasRead e text 0 ballots (kept ++ text) room
 has_read_start e text kept ballots room no_text no_ballot all =
@@ -101,6 +120,51 @@ spelled_more e [] (c ∷ cs) line b all spells = absurd all
 spelled_more e (l ∷ ls) [] line b all spells = absurd all
 spelled_more e (l ∷ ls) (c ∷ cs) line b all spells = (all.0, spelled_more e ls cs line b all.1 spells)
 
+-- what is taken off with a line has one line end at most
+record IsTakenOff (text now rest : List ℕ) (count : ℕ) : Type 0 where
+  fewer : length rest ≤ length text
+  behind : rest ≡ drop (length text - length rest) text
+  ended : length (ended_lines (take (length text - length rest) text)) ≤ count + 1
+
+-- no line ends before the first line end
+ends_none : (n : ℕ) (text : List ℕ) → n ≤ first_width text → n ≤ length text → length (ended_lines (take n text)) ≡ 0
+ends_none n text before within =
+    let width : first_width (take n text) ≡ length (take n text) = first_width-take_none n text before ∙ sym (length-take-le n text within) in
+    ap length (ended_lines-none (take n text) width)
+
+-- one at most ends up to it
+ends_once : (text : List ℕ) → length (ended_lines (take (first_width text + 1) text)) ≤ 1
+ends_once text =
+    let w = first_width text in
+    let parts : take (w + 1) text ≡ take w text ++ take 1 (drop w text) = take-add w 1 text in
+    let none = ends_none w text (omega arith) (first_width-le text) in
+    omega (arith, ap (λ bytes. length (ended_lines bytes)) parts, length-ended_lines-append (take w text) (take 1 (drop w text)), none, ended_lines-few (take 1 (drop w text)), length-take 1 (drop w text))
+
+taken_by : (text now rest : List ℕ) (count m : ℕ) → length now ≤ length text → m ≤ length now → now ≡ drop (length text - length now) text → length (ended_lines (take (length text - length now) text)) ≤ count
+    → rest ≡ drop m now → length (ended_lines (take m now)) ≤ 1 → IsTakenOff text now rest count
+taken_by text now rest count m fewer within behind ended is once =
+    let k = length text - length now in
+    let size : length rest ≡ length now - m = ap length is ∙ length-drop m now in
+    let place : length text - length rest ≡ k + m = omega arith in
+    let parts : take (length text - length rest) text ≡ take k text ++ take m now =
+    ap (λ n. take n text) place ∙ take-add k m text ∙ ap (λ bytes. take k text ++ take m bytes) (sym behind) in
+    record {
+      fewer = omega arith;
+      behind = is ∙ ap (drop m) behind ∙ drop-drop m k text ∙ ap (λ n. drop n text) (sym place);
+      ended = omega (arith, ap (λ bytes. length (ended_lines bytes)) parts, length-ended_lines-append (take k text) (take m now), ended, once);
+    }
+
+taken_off : (text now rest : List ℕ) (count : ℕ) → length now ≤ length text → now ≡ drop (length text - length now) text → length (ended_lines (take (length text - length now) text)) ≤ count → rest ≡ drop (first_width now + 1) now → IsTakenOff text now rest count
+taken_off text now rest count fewer behind ended is =
+    let w = first_width now in
+    ⊎_elim
+    (λ (ends : w < length now). taken_by text now rest count (w + 1) fewer (omega arith) behind ended is (ends_once now))
+    (λ (last : length now ≤ w).
+    let all : rest ≡ drop (length now) now = is ∙ drop_all (w + 1) now (omega arith) ∙ sym (drop_all (length now) now (omega arith)) in
+    let none = ends_none (length now) now last (omega arith) in
+    taken_by text now rest count (length now) fewer (omega arith) behind ended all (omega arith))
+    (cases_lt w (length now))
+
 -- a line came, and its ballot
 pub read_on : (e : Election) (text now rest line : List ℕ) (count room room_left : ℕ) (ballots more : List Ballot) (b : Ballot) → HasRead e text count ballots now room → HandsOut (Some line) now room rest room_left → Spells e line b → more ≡ ballots ++ b ∷ [] → HasRead e text (count + 1) more rest room_left
 read_on e text now rest line count room room_left ballots more b read hands spells grown =
@@ -111,10 +175,14 @@ read_on e text now rest line count room room_left ballots more b read hands spel
     let P : List ℕ → Type 0 = λ bytes. Spells e bytes b in
     let Q : List (List ℕ) → Type 0 = λ front. AllZip S front (ballots ++ b ∷ []) in
     let R : List Ballot → Type 0 = λ all. AllZip S (take (count + 1) lines) all in
+    let off = taken_off text now rest count read.fewer read.behind read.ended hands.behind in
     record {
       spelled = subst R (sym grown) (subst Q (sym next.more) (spelled_more e (take count lines) ballots next.bytes b read.spelled (subst P (sym is) spells)));
       lines = sym next.behind;
       bytes = omega (arith, read.bytes, hands.counted);
+      fewer = off.fewer;
+      behind = off.behind;
+      ended = off.ended;
     }
 
 -- a line came that is refused
@@ -151,12 +219,53 @@ read_all e text now count room ballots all read set hands is =
     let Q : List Ballot → Type 0 = λ all. IsSetOf e (lines_of text) all in
     (subst Q (sym is) (record { each = subst P done read.spelled; set = set }), within)
 
--- there are too many bytes
-pub read_too_much : (e : Election) (text now : List ℕ) (count room : ℕ) (ballots : List Ballot) → HasRead e text count ballots now room → IsBallotSet e ballots → HasTooMuch now room → (SCRIPT_LIMIT < length text) × (ballots : List Ballot) × IsSetOf e (lines_within SCRIPT_LIMIT text) ballots
-read_too_much e text now count room ballots read set much =
+-- what the answer took off the room it took off the bytes
+counted : (answer : Result NextLine LineEndFault) (text rest : List ℕ) (room : ℕ) (next : Kept) → Answers answer text room next rest → room + length rest ≡ next.room + length text
+counted (Ok Whole) text rest room next hands = hands.counted
+counted (Ok TooWide) text rest room next hands = hands.counted
+counted (Ok End) text rest room next done = omega (arith, ap length done.0.empty, ap length done.1, done.2)
+counted (Err TooLong) text rest room next much = omega (arith, much.1.size, much.3)
+counted (Err ReadFault) text rest room next failed = omega (arith, failed.0.size, failed.1)
+
+-- what is kept and not yet taken off the room was given too
+given : (e : Election) (text now left : List ℕ) (count room : ℕ) (ballots : List Ballot) (next : Kept) (answer : Result NextLine LineEndFault) → HasRead e text count ballots now room → Answers answer now room next (next.text ++ left) → length text + next.room ≡ length left + (SCRIPT_LIMIT + length next.text)
+given e text now left count room ballots next answer read answers =
+    omega (arith, read.bytes, counted answer now (next.text ++ left) room next answers, length-append next.text left)
+
+-- a fault came before the next line ended
+good_so_far : (e : Election) (text now left : List ℕ) (count room : ℕ) (ballots : List Ballot) (next : Kept) → HasRead e text count ballots now room → IsBallotSet e ballots → (first_width next.text ≡ length next.text) × (length next.text ≤ next.room)
+    → Answers (Err ReadFault) now room next (next.text ++ left) → IsGoodSoFar e text left
+good_so_far e text now left count room ballots next read set none failed =
+    let m = length next.text in
+    let k = length text - length now in
+    let g = length text - length left in
     let lines = lines_within SCRIPT_LIMIT text in
-    let P : List (List ℕ) → Type 0 = λ lines. AllZip (Spells e) lines ballots in
-    (omega (arith, read.bytes, much.too_long.more), ballots, record { each = subst P (none_left lines count (sym read.lines ∙ much.lines)) read.spelled; set = set })
+    let all = given e text now left count room ballots next (Err ReadFault) read failed in
+    let size : length now ≡ m + length left = sym failed.0.size ∙ length-append next.text left in
+    let before : m ≤ first_width now = omega (arith, none.0, first_width-more next.text left, failed.0.width) in
+    let fewer = read.fewer in
+    let place : g ≡ k + m = omega arith in
+    let parts : take g text ≡ take k text ++ take m now = ap (λ n. take n text) place ∙ take-add k m text ∙ ap (λ bytes. take k text ++ take m bytes) (sym read.behind) in
+    let ended : length (ended_lines (take g text)) ≤ count =
+    omega (arith, ap (λ bytes. length (ended_lines bytes)) parts, length-ended_lines-append (take k text) (take m now), read.ended, ends_none m now before (omega arith)) in
+    let n = length (ended_lines (take g text)) in
+    let few : g ≤ SCRIPT_LIMIT = omega (arith, all, none.1) in
+    let P : List (List ℕ) → Type 0 = λ front. IsSetOf e front (take n ballots) in (
+      omega (arith, all, none.1),
+      take n ballots,
+      subst P (sym (front_of_within g SCRIPT_LIMIT text few)) (front_builds e lines n count ballots ended read.spelled set),
+    )
+
+-- there are too many bytes
+read_too_much : (e : Election) (text now left : List ℕ) (count room : ℕ) (ballots : List Ballot) (next : Kept) → HasRead e text count ballots now room → IsBallotSet e ballots → length next.text ≤ next.room + 1 → Answers (Err TooLong) now room next (next.text ++ left)
+    → GivesExactly (SCRIPT_LIMIT + 1) text left × (ballots : List Ballot) × IsSetOf e (lines_within SCRIPT_LIMIT text) ballots
+read_too_much e text now left count room ballots next read set few much =
+    let lines = lines_within SCRIPT_LIMIT text in
+    let P : List (List ℕ) → Type 0 = λ lines. AllZip (Spells e) lines ballots in (
+      omega (arith, given e text now left count room ballots next (Err TooLong) read much, much.2.more, few),
+      ballots,
+      record { each = subst P (none_left lines count (sym read.lines ∙ much.0.lines)) read.spelled; set = set },
+    )
 
 -- nothing is left behind nothing
 nothing_left : (kept left : List ℕ) → kept ++ left ≡ [] → left ≡ []
@@ -191,7 +300,22 @@ told_all a b c e kept next answer count ballots all read set end answers is =
     let A : NextLine → Type 0 = λ answer. AnswersTold (Ok answer) kept b next c in
     told_on a b c _ _ _ (λ x y z r h. let done = read_all e x (kept.text ++ y) count kept.room ballots all r set h.0 is in (done.0, done.1, nothing_left next.text z h.1)) read (subst A end answers)
 
-pub told_too_much : (a b c : Option (List ℕ)) (e : Election) (kept next : Kept) (fault : LineEndFault) (count : ℕ) (ballots : List Ballot) → ToldRead e count ballots kept a b → IsBallotSet e ballots → fault ≡ TooLong → AnswersTold (Err fault) kept b next c → IfTold a c (λ text left. (SCRIPT_LIMIT < length text) × (ballots : List Ballot) × IsSetOf e (lines_within SCRIPT_LIMIT text) ballots)
-told_too_much a b c e kept next fault count ballots read set long answers =
+pub told_too_much : (a b c : Option (List ℕ)) (e : Election) (kept next : Kept) (fault : LineEndFault) (count : ℕ) (ballots : List Ballot) → ToldRead e count ballots kept a b → IsBallotSet e ballots → fault ≡ TooLong → AnswersTold (Err fault) kept b next c → length next.text ≤ next.room + 1
+    → IfTold a c (λ text left. GivesExactly (SCRIPT_LIMIT + 1) text left × (ballots : List Ballot) × IsSetOf e (lines_within SCRIPT_LIMIT text) ballots)
+told_too_much a b c e kept next fault count ballots read set long answers few =
     let A : LineEndFault → Type 0 = λ fault. AnswersTold (Err fault) kept b next c in
-    told_on a b c _ _ _ (λ x y z r h. read_too_much e x (kept.text ++ y) count kept.room ballots r set h.0) read (subst A long answers)
+    told_on a b c _ _ _ (λ x y z r h. read_too_much e x (kept.text ++ y) z count kept.room ballots next r set few h) read (subst A long answers)
+
+pub told_fault : (a b c : Option (List ℕ)) (e : Election) (kept next : Kept) (fault : LineEndFault) (count : ℕ) (ballots : List Ballot) → ToldRead e count ballots kept a b → IsBallotSet e ballots → fault ≡ ReadFault → AnswersTold (Err fault) kept b next c
+    → (first_width next.text ≡ length next.text) × (length next.text ≤ next.room) → IfTold a c (IsGoodSoFar e)
+told_fault a b c e kept next fault count ballots read set failed answers none =
+    let A : LineEndFault → Type 0 = λ fault. AnswersTold (Err fault) kept b next c in
+    told_on a b c _ _ _ (λ x y z r h. good_so_far e x (kept.text ++ y) z count kept.room ballots next r set none h) read (subst A failed answers)
+
+-- whatever the answer, no more was given than the limit and one byte
+pub told_few : (a b c : Option (List ℕ)) (e : Election) (kept next : Kept) (answer : Result NextLine LineEndFault) (count : ℕ) (ballots : List Ballot) → ToldRead e count ballots kept a b → AnswersTold answer kept b next c → length next.text ≤ next.room + 1 → IfTold a c (GivesAtMost (SCRIPT_LIMIT + 1))
+told_few a b c e kept next answer count ballots read answers few =
+    told_on a b c _ _ _ (λ x y z r h. omega (arith, given e x (kept.text ++ y) z count kept.room ballots next answer r h, few)) read answers
+
+pub told_none_given : (a : Option (List ℕ)) → IfTold a a (GivesAtMost (SCRIPT_LIMIT + 1))
+told_none_given a = told_first a (GivesAtMost (SCRIPT_LIMIT + 1)) (λ x. omega arith)

@@ -2,4 +2,5 @@ pub mod Ballots
 pub mod Build
 pub mod ElectionText
 pub mod Script
+pub mod Status
 pub mod Words

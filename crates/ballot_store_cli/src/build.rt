@@ -1,12 +1,14 @@
-ghost use Rattle.std.specs.Prelude.{◌≡◌, ◌≢◌, ℕ, IfOk};
+ghost use Rattle.std.specs.Prelude.{◌≡◌, ◌≢◌, ◌+◌, ℕ, IfOk};
 ghost use Rattle.body_store.specs.Contents.{ballots_of};
 ghost use Rattle.store_spec.specs.Ballot.{IsBallotSet};
 ghost use Rattle.store_spec.specs.Image.{image_of};
 ghost use Rattle.ballot_record.specs.LineWhy.{reason};
 ghost use Rattle.outside_io.specs.Lines.{IfTold};
+ghost use Rattle.outside_io.specs.Stream.{GivesAtMost};
 ghost use Rattle.store_spec.specs.Fault.{Rose};
+ghost use Rattle.store_spec.specs.Input.{SCRIPT_LIMIT};
 ghost use Rattle.ballot_record.specs.declared.fault.LineWhy.{LineWhy};
-ghost use Rattle.ballot_store_cli.specs.Build.{IsReadOut, WritesImage, WritesPart, HasBadLine, HasTooMuch};
+ghost use Rattle.ballot_store_cli.specs.Build.{IsGoodSoFar, IsReadOut, WritesImage, WritesPart, HasBadLine, HasTooMuch};
 ghost use Rattle.ballot_store_cli.specs.declared.status.Which.{Which};
 
 use crate::script::{ScriptFault, read_ballots};
@@ -42,12 +44,14 @@ pub fn build<S: Source, K: Sink>(
     ensures bad_line { (line : ℕ) (why : LineWhy) → result ≡ Status.BadLine line why → IfTold (S.left script.old) (S.left script.new)
         (λ text left. HasBadLine election.now text line (reason why)) }
     ensures too_long { (which : Which) → result ≡ Status.TooLong which → (which ≡ Which.Script) × IfTold (S.left script.old) (S.left script.new)
-        (λ text left. HasTooMuch election.now text) }
-    ensures read_fault { (which : Which) → result ≡ Status.ReadFault which → (which ≡ Which.Script) × Rose (S.faults script.old) (S.faults script.new) }
+        (HasTooMuch election.now) }
+    ensures read_fault { (which : Which) → result ≡ Status.ReadFault which → (which ≡ Which.Script) × Rose (S.faults script.old) (S.faults script.new)
+        × IfTold (S.left script.old) (S.left script.new) (IsGoodSoFar election.now) }
     ensures write_fault { result ≡ Status.WriteFault → Rose (K.faults out.old) (K.faults out.new) }
     ensures part { result ≡ Status.WriteFault → IfTold (S.left script.old) (S.left script.new)
         (λ text left. IsReadOut text left × WritesPart election.now text (K.taken out.old) (K.taken out.new)) }
     ensures nothing { result ≢ Status.Ok → result ≢ Status.WriteFault → K.taken out.new ≡ K.taken out.old }
+    ensures taken { IfTold (S.left script.old) (S.left script.new) (GivesAtMost (SCRIPT_LIMIT + 1)) }
     ensures no_usage { result ≢ Status.Usage }
     ensures no_bad_election { result ≢ Status.BadElection }
 {

@@ -1,11 +1,13 @@
-ghost use Rattle.std.specs.Prelude.{◌≡◌, ◌≢◌, ◌↔◌, ℕ, ◌<◌, map, length, string_bytes};
+ghost use Rattle.std.specs.Prelude.{◌≡◌, ◌≢◌, ◌↔◌, ◌+◌, ℕ, map, string_bytes};
 ghost use Rattle.ballot_record.specs.LineWhy.{reason};
 ghost use Rattle.ballot_record.specs.declared.fault.LineWhy.{LineWhy};
 ghost use Rattle.election_def.specs.Text.{IsElectionText};
 ghost use Rattle.outside_io.specs.Lines.{IfTold};
+ghost use Rattle.outside_io.specs.Stream.{GivesAtMost, GivesExactly};
 ghost use Rattle.store_spec.specs.Fault.{Rose};
-ghost use Rattle.ballot_store_cli.specs.Build.{IsReadOut, WritesImage, WritesPart, HasBadLine, HasTooMuch};
-ghost use Rattle.ballot_store_cli.specs.ElectionText.{ELECTION_LIMIT, ForElection, IsWhole};
+ghost use Rattle.store_spec.specs.Input.{SCRIPT_LIMIT};
+ghost use Rattle.ballot_store_cli.specs.Build.{IsGoodSoFar, IsReadOut, WritesImage, WritesPart, HasBadLine, HasTooMuch};
+ghost use Rattle.ballot_store_cli.specs.ElectionText.{ELECTION_LIMIT, ForElection, IsBeforeScript, IsWhole};
 ghost use Rattle.ballot_store_cli.specs.Words.{IsForm};
 ghost use Rattle.ballot_store_cli.specs.declared.status.Which.{Which};
 
@@ -45,16 +47,22 @@ pub fn run<R: Threads + Sync, E: Source, S: Source, K: Sink>(
         (λ e. IfTold (S.left script.old) (S.left script.new)
         (λ text left. HasBadLine e text line (reason why))) }
 
-    // The election has more bytes than its limit; or the script has, and no bad line that ends within it.
+    // The election gave one byte more than its limit; or the script did, and no line that ends within the limit is bad.
     ensures long_election { result ≡ Status.TooLong Which.Election → IfTold (E.left election.old) (E.left election.new)
-        (λ text left. ELECTION_LIMIT < length text) }
+        (GivesExactly (ELECTION_LIMIT + 1)) }
     ensures long_script { result ≡ Status.TooLong Which.Script → ForElection (E.left election.old) (E.left election.new)
-        (λ e. IfTold (S.left script.old) (S.left script.new)
-        (λ text left. HasTooMuch e text)) }
+        (λ e. IfTold (S.left script.old) (S.left script.new) (HasTooMuch e)) }
 
-    // A fault comes only where that object's count of faults rose.
-    ensures election_fault { result ≡ Status.ReadFault Which.Election → Rose (E.faults election.old) (E.faults election.new) }
-    ensures script_fault { result ≡ Status.ReadFault Which.Script → Rose (S.faults script.old) (S.faults script.new) }
+    // However long a source is, no more is taken of it than its limit and one byte.
+    ensures election_taken { IfTold (E.left election.old) (E.left election.new) (GivesAtMost (ELECTION_LIMIT + 1)) }
+    ensures script_taken { IfTold (S.left script.old) (S.left script.new) (GivesAtMost (SCRIPT_LIMIT + 1)) }
+
+    // A fault comes only where that object's count of faults rose, and nothing that was read before is to be refused: no
+    // byte past the limit, and no bad line.
+    ensures election_fault { result ≡ Status.ReadFault Which.Election → Rose (E.faults election.old) (E.faults election.new)
+        × IfTold (E.left election.old) (E.left election.new) (GivesAtMost ELECTION_LIMIT) }
+    ensures script_fault { result ≡ Status.ReadFault Which.Script → ForElection (E.left election.old) (E.left election.new)
+        (λ e. Rose (S.faults script.old) (S.faults script.new) × IfTold (S.left script.old) (S.left script.new) (IsGoodSoFar e)) }
     ensures write_fault { result ≡ Status.WriteFault → Rose (K.faults out.old) (K.faults out.new) }
 
     // What the sink took: some of the image after a fault of its own, and nothing after any other refusal.
@@ -62,6 +70,10 @@ pub fn run<R: Threads + Sync, E: Source, S: Source, K: Sink>(
         (λ e. IfTold (S.left script.old) (S.left script.new)
         (λ text left. IsReadOut text left × WritesPart e text (K.taken out.old) (K.taken out.new))) }
     ensures nothing { result ≢ Status.Ok → result ≢ Status.WriteFault → K.taken out.new ≡ K.taken out.old }
+
+    // Where the words are no command form, nothing was touched; where the election was refused, script and sink were not.
+    ensures unread { IsBeforeScript result → (script.new ≡ script.old) × (out.new ≡ out.old) }
+    ensures untouched { result ≡ Status.Usage → election.new ≡ election.old }
 {
     if !is_form(words) {
         return Status::Usage;

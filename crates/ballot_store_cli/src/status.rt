@@ -1,3 +1,5 @@
+ghost use Rattle.std.specs.Prelude.{◌≡◌};
+
 use ballot_record::LineWhy;
 use outside_io::Memory;
 use std::fmt;
@@ -31,8 +33,12 @@ pub enum Status {
 }
 
 impl Status {
+    ghost use Rattle.ballot_store_cli.specs.Status.{exit_status};
+
     /// The exit status of the program.
-    pub fn number(&self) -> u8 {
+    pub fn number(&self) -> u8
+        ensures { result ≡ exit_status self.now }
+    {
         match self {
             Status::Ok => 0,
             Status::Usage => 2,
@@ -47,6 +53,11 @@ impl Status {
 }
 
 impl fmt::Display for Status {
+    ghost use Rattle.std.specs.Prelude.{Some};
+    ghost use Rattle.ballot_store_cli.specs.Status.{status_text};
+
+    ghost output = { λ status. Some (status_text status) };
+
     fn fmt<W: fmt::Write>(&self, f: &mut fmt::Formatter<W>) -> fmt::Result {
         match self {
             Status::Ok => f.write_str("ok"),

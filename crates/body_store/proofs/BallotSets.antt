@@ -8,7 +8,8 @@ use Rattle.std.proofs.lemmas.List.Sorted.{All-permutation, Contains-permutation,
 use Rattle.std.proofs.lemmas.List.Sums.{length-filter, count_by-le-length}
 use Rattle.std.specs.List.{AllPairs, list_any}
 use Rattle.std.specs.List.Sorted.{IsPermutation, IsNonDecreasing}
-use Rattle.body_store.proofs.Numbers.{no_ballot, number_at, rise_from_pairs, length-numbers_of, pairs_of_numbers, pairs_of_ballots}
+use Rattle.body_store.proofs.Numbers.{rise_from_pairs}
+use Rattle.store_spec.proofs.BallotNumbers.{no_ballot, number_at, length-numbers_of, pairs_of_numbers, pairs_of_ballots}
 use Rattle.body_store.specs.Contents.{Contents, IsStored, ballots_without}
 use Rattle.probe_order.specs.Below.{home_of-lt}
 use Rattle.store_spec.proofs.Ascending.{ascending-IsPermutation, ascending_rising, distinct-IsPermutation}
@@ -17,7 +18,7 @@ use Rattle.store_spec.specs.Ballot.{Ballot, IsValid, IsBallotSet, numbers_of}
 use Rattle.store_spec.specs.Election.{Election, IsElection, cell_count}
 use Rattle.store_spec.specs.Home.{home_of}
 use Rattle.store_spec.specs.Image.{cells_of}
-use Rattle.store_spec.specs.Layout.{HasRoom, IsLayout, laid_out}
+use Rattle.store_spec.specs.Layout.{HasRoom, IsLayout}
 
 -- the cells of an election have room for each of its sets
 pub has_room : (e : Election) (ballots : List Ballot) → IsElection e → IsBallotSet e ballots → HasRoom (home_of e.bits e.salt) (2 ^ e.bits) (cell_count e) (numbers_of ballots)
@@ -28,11 +29,6 @@ has_room e ballots election set = record {
   homed = λ k d lt. home_of-lt e.bits e.salt _ election.few_bits;
   room = let size = length-numbers_of ballots in let few = set.within_limit in omega arith;
 }
-
--- the order does not matter to the cells
-pub cells_of-IsPermutation : (e : Election) (xs ys : List Ballot) → IsPermutation xs ys → cells_of e ys ≡ cells_of e xs
-cells_of-IsPermutation e xs ys p =
-    ap (laid_out (home_of e.bits e.salt) (cell_count e)) (ascending-IsPermutation _ _ (IsPermutation-map (λ b. b.number) xs ys p))
 
 -- a set in another order is a set
 pub set-IsPermutation : (e : Election) (xs ys : List Ballot) → IsPermutation xs ys → IsBallotSet e xs → IsBallotSet e ys

@@ -1,5 +1,5 @@
 -- The numbers of ballots and of records.
-use Rattle.std.proofs.Common.{◌≡◌, ℕ, ◌<◌, ◌≤◌, ⊎_elim, List, [], ◌∷◌, length, get_or, map, refl, sym, ap, subst, arith}
+use Rattle.std.proofs.Common.{◌≡◌, ℕ, ◌<◌, ◌≤◌, ⊎_elim, List, [], ◌∷◌, get_or, map, refl, sym, ap, subst, arith}
 use Rattle.std.proofs.lemmas.Bool.{cases_lt}
 use Rattle.std.proofs.lemmas.List.{get_or-map, length-map}
 use Rattle.std.specs.List.{AllPairs}
@@ -7,37 +7,12 @@ use Rattle.std.specs.List.Sorted.{IsNonDecreasing, IsNonDecreasingBy}
 use Rattle.ballot_record.specs.declared.record.Record.{Record}
 use Rattle.ballot_record.specs.Record.{ballot}
 use Rattle.body_store.specs.Contents.{ballots_of}
+use Rattle.store_spec.proofs.BallotNumbers.{no_ballot, pairs_of_numbers}
 use Rattle.store_spec.specs.Ballot.{Ballot, numbers_of}
-
--- what stands past the end of a list
-abbrev pub no_ballot : Ballot
-no_ballot = record { number = 0; style = 0; marks = [] }
-
-pub number_at : (ballots : List Ballot) (k d : ℕ) → k < length ballots → get_or (numbers_of ballots) k d ≡ (get_or ballots k no_ballot).number
-number_at ballots k d lt = get_or-map (λ b. b.number) ballots k no_ballot d lt
-
-pub length-numbers_of : (ballots : List Ballot) → length (numbers_of ballots) ≡ length ballots
-length-numbers_of ballots = length-map ballots (λ b. b.number)
 
 pub numbers_of-ballots_of : (records : List Record) → numbers_of (ballots_of records) ≡ map (λ r. r.number) records
 numbers_of-ballots_of [] = refl
 numbers_of-ballots_of (r ∷ records) = ap (λ ns. r.number ∷ ns) (numbers_of-ballots_of records)
-
--- a relation of the numbers is one of the ballots
-pub pairs_of_numbers : (R : ℕ → ℕ → Type 0) (ballots : List Ballot) → AllPairs (λ a b. R a.number b.number) ballots → AllPairs R (numbers_of ballots)
-pairs_of_numbers R ballots h i j d lt in_range =
-    let size = length-numbers_of ballots in
-    let within : j < length ballots = omega arith in
-    subst (λ (n : ℕ). R n (get_or (numbers_of ballots) j d)) (sym (number_at ballots i d (omega arith)))
-    (subst (λ (n : ℕ). R (get_or ballots i no_ballot).number n) (sym (number_at ballots j d within)) (h i j no_ballot lt within))
-
-pub pairs_of_ballots : (R : ℕ → ℕ → Type 0) (ballots : List Ballot) → AllPairs R (numbers_of ballots) → AllPairs (λ a b. R a.number b.number) ballots
-pairs_of_ballots R ballots h i j d lt in_range =
-    let size = length-numbers_of ballots in
-    let left : get_or (numbers_of ballots) i 0 ≡ (get_or ballots i d).number = get_or-map (λ b. b.number) ballots i d 0 (omega arith) in
-    let right : get_or (numbers_of ballots) j 0 ≡ (get_or ballots j d).number = get_or-map (λ b. b.number) ballots j d 0 in_range in
-    subst (λ (n : ℕ). R n (get_or ballots j d).number) left
-    (subst (λ (n : ℕ). R (get_or (numbers_of ballots) i 0) n) right (h i j 0 lt (omega arith)))
 
 abbrev pub no_record : Record
 no_record = record { number = 0; style = 0; marks = [] }

@@ -74,7 +74,7 @@ impl Closed {
         })
     }
 
-    /// The election that it was made under.
+    /// Its election.
     pub fn election(&self) -> &Election
         ensures election { result.now ≡ self.now.election }
         ensures stored { IsStored self.now }

@@ -6,13 +6,13 @@ use Rattle.crash_disk.specs.declared.entry.DiskCall.{DiskCall}
 use Rattle.crash_disk.specs.declared.entry.DiskCall.TheVariants.{Size, Read, Write, Sync}
 use Rattle.crash_disk.specs.declared.entry.Entry.{Entry}
 
--- a line of the record: a call, whether it succeeded, and the bytes that it put, which only a write does that succeeds
+-- a line of the record: a call, whether it succeeded, and the bytes that it put, which are none but for a write that succeeded
 pub record Line : Type 0 where
   pub call : DiskCall
   pub passed : Bool
   pub put : List ℕ
 
--- what a call does that succeeds, a write with these bytes
+-- what a call that succeeds does; a write does it with these bytes
 abbrev pub event_of_call : DiskCall → List ℕ → Event
 event_of_call Size put = Unchanged
 event_of_call (Read at count) put = Unchanged

@@ -28,6 +28,7 @@ pub trait Disk {
         ensures same_bytes { seen self.new ≡ seen self.old }
         ensures images { LeavesExactly calls may_leave (leaves_now calls may_leave self.old) self.old self.new }
         ensures never_falls { faults self.old ≤ faults self.new }
+        ensures steady { OnOk result (faults self.new ≡ faults self.old) }
         ensures cause { OnErr result (Rose (faults self.old) (faults self.new)) };
 
     /// Reads as many bytes as `buf` has, from `at` on. After `Failed` nothing is said of `buf`.
@@ -37,6 +38,7 @@ pub trait Disk {
         ensures same_bytes { seen self.new ≡ seen self.old }
         ensures images { LeavesExactly calls may_leave (leaves_now calls may_leave self.old) self.old self.new }
         ensures never_falls { faults self.old ≤ faults self.new }
+        ensures steady { OnOk result (faults self.new ≡ faults self.old) }
         ensures cause { OnErr result (Rose (faults self.old) (faults self.new)) };
 
     /// Writes over what is there, and past the end. Until a sync a crash may leave any bytes in the range, and any
@@ -48,10 +50,11 @@ pub trait Disk {
         ensures images { LeavesAtMost calls may_leave (torn_from at (length bytes.now) (leaves_now calls may_leave self.old)) self.old self.new }
         ensures any_bytes { OnOk result (LeavesExactly calls may_leave (torn_from at (length bytes.now) (leaves_now calls may_leave self.old)) self.old self.new) }
         ensures never_falls { faults self.old ≤ faults self.new }
+        ensures steady { OnOk result (faults self.new ≡ faults self.old) }
         ensures cause { OnErr result (Rose (faults self.old) (faults self.new)) };
 
-    /// Once it has succeeded, a crash leaves what a read gives. `Failed` settles nothing, and a read may then give
-    /// any image that a crash may leave.
+    /// Once it has succeeded, a crash can leave only what a read gives. After `Failed` nothing is safe, and a read may
+    /// give whatever a crash could have left.
     fn sync(&mut self) -> Result<(), Failed>
         ensures same_bytes { OnOk result (seen self.new ≡ seen self.old) }
         ensures told { is_some (seen self.new) ≡ is_some (seen self.old) }
@@ -60,13 +63,14 @@ pub trait Disk {
         ensures settled { OnOk result (IsSettled seen calls may_leave self.new) }
         ensures unsettled { OnErr result (LeavesExactly calls may_leave (leaves_now calls may_leave self.old) self.old self.new) }
         ensures never_falls { faults self.old ≤ faults self.new }
+        ensures steady { OnOk result (faults self.new ≡ faults self.old) }
         ensures cause { OnErr result (Rose (faults self.old) (faults self.new)) };
 
     /// How many calls of the four above were made. It stays at 2^64 - 1.
     fn calls(&self) -> u64
         ensures { result ≡ calls self.now };
 
-    /// What a read gives is one of the images that a crash now may leave.
+    /// What a read gives is one thing that a crash now can leave.
     ghost seen_is_image: { (disk : Self) (bytes : List ℕ) → seen disk ≡ Some bytes → leaves_now calls may_leave disk bytes };
 
     /// A disk that does not tell its bytes has no images.

@@ -1,6 +1,6 @@
 //! A disk over a file of the system. It tells nothing of its bytes.
 
-ghost use Rattle.std.specs.Prelude.{◌≡◌, ◌≤◌, ℕ, None, is_ok, OnErr};
+ghost use Rattle.std.specs.Prelude.{◌≡◌, ◌≤◌, ℕ, None, is_ok, OnOk, OnErr};
 ghost use Rattle.store_spec.specs.Fault.{Rose};
 ghost use Rattle.store_spec.specs.Disk.{next_count};
 
@@ -10,8 +10,8 @@ use std::fs::{Files, OpenFile, OpenOptions};
 use std::io::{self, ErrorKind, Read, Seek, SeekFrom, Write};
 use std::path::Path;
 
-/// A disk over a file. It opens its path at the first call. A file that is missing has no bytes, and is made at the
-/// first write. A range outside the file is a fault.
+/// A disk over a file, whose path is opened at the first call. Where no file is there, it has no bytes, and the first
+/// write makes one. To reach outside the file is a fault.
 #[derive(Drop)]
 pub struct FileDisk<'a, F: Files> {
     files: &'a F,
@@ -137,6 +137,7 @@ impl<'a, F: Files> FileDisk<'a, F> {
     fn count<T: Drop>(&mut self, outcome: io::Result<T>) -> Result<T, Failed>
         ensures calls { self.new.calls ≡ next_count self.old.calls }
         ensures never_falls { self.old.faults ≤ self.new.faults }
+        ensures steady { OnOk result (self.new.faults ≡ self.old.faults) }
         ensures cause { OnErr result (Rose self.old.faults self.new.faults) }
     {
         self.calls = self.calls.saturating_add(1);

@@ -19,7 +19,7 @@ pub struct FusedDisk {
 
 impl FusedDisk {
     ghost use Rattle.store_spec.specs.Disk.{IsSettled};
-    ghost use Rattle.crash_disk.specs.Fused.{fused_sees, fused_leaves, fused_calls, fused_passes};
+    ghost use Rattle.crash_disk.specs.Fused.{fused_sees, fused_leaves, fused_calls, fused_faults, fused_passes};
 
     /// A disk with these bytes, all of them settled, that passes so many calls. All its memory is taken here.
     pub fn new(alloc: Global, bytes: Vec<u8>, passes: u64, room: Room) -> Result<FusedDisk, Memory>
@@ -27,6 +27,7 @@ impl FusedDisk {
         ensures bytes { IfOk result (λ disk. fused_sees disk ≡ Some bytes.items) }
         ensures settled { IfOk result (λ disk. IsSettled fused_sees fused_calls fused_leaves disk) }
         ensures no_calls { IfOk result (λ disk. fused_calls disk ≡ 0) }
+        ensures no_faults { IfOk result (λ disk. fused_faults disk ≡ 0) }
         ensures passes { IfOk result (λ disk. disk.passes ≡ passes) }
         ensures room { IfOk result (λ disk. disk.medium.room ≡ room) }
     {
@@ -76,6 +77,7 @@ impl Disk for FusedDisk {
         ensures same_bytes { fused_sees self.new ≡ fused_sees self.old }
         ensures images { LeavesExactly fused_calls fused_leaves (leaves_now fused_calls fused_leaves self.old) self.old self.new }
         ensures never_falls { fused_faults self.old ≤ fused_faults self.new }
+        ensures steady { OnOk result (fused_faults self.new ≡ fused_faults self.old) }
         ensures cause { OnErr result (Rose (fused_faults self.old) (fused_faults self.new)) }
     {
         let passes = self.may_pass();
@@ -90,6 +92,7 @@ impl Disk for FusedDisk {
         ensures same_bytes { fused_sees self.new ≡ fused_sees self.old }
         ensures images { LeavesExactly fused_calls fused_leaves (leaves_now fused_calls fused_leaves self.old) self.old self.new }
         ensures never_falls { fused_faults self.old ≤ fused_faults self.new }
+        ensures steady { OnOk result (fused_faults self.new ≡ fused_faults self.old) }
         ensures cause { OnErr result (Rose (fused_faults self.old) (fused_faults self.new)) }
     {
         let passes = self.may_pass();
@@ -108,6 +111,7 @@ impl Disk for FusedDisk {
         ensures images { LeavesAtMost fused_calls fused_leaves (torn_from at (length bytes.now) (leaves_now fused_calls fused_leaves self.old)) self.old self.new }
         ensures any_bytes { OnOk result (LeavesExactly fused_calls fused_leaves (torn_from at (length bytes.now) (leaves_now fused_calls fused_leaves self.old)) self.old self.new) }
         ensures never_falls { fused_faults self.old ≤ fused_faults self.new }
+        ensures steady { OnOk result (fused_faults self.new ≡ fused_faults self.old) }
         ensures cause { OnErr result (Rose (fused_faults self.old) (fused_faults self.new)) }
     {
         let passes = self.may_pass();
@@ -125,6 +129,7 @@ impl Disk for FusedDisk {
         ensures settled { OnOk result (IsSettled fused_sees fused_calls fused_leaves self.new) }
         ensures unsettled { OnErr result (LeavesExactly fused_calls fused_leaves (leaves_now fused_calls fused_leaves self.old) self.old self.new) }
         ensures never_falls { fused_faults self.old ≤ fused_faults self.new }
+        ensures steady { OnOk result (fused_faults self.new ≡ fused_faults self.old) }
         ensures cause { OnErr result (Rose (fused_faults self.old) (fused_faults self.new)) }
     {
         let passes = self.may_pass();

@@ -66,6 +66,7 @@ impl Medium {
         ensures first { IfOk result (λ medium. medium.first.items ≡ first.items) }
         ensures lines { IfOk result (λ medium. lines_of medium ≡ []) }
         ensures calls { IfOk result (λ medium. medium.calls ≡ 0) }
+        ensures faults { IfOk result (λ medium. medium.faults ≡ 0) }
         ensures room { IfOk result (λ medium. medium.room ≡ room) }
     {
         let mut bytes = Vec::with_capacity(alloc, room.size as usize)?;

@@ -21,7 +21,7 @@ pub struct MemoryDisk {
 impl MemoryDisk {
     ghost use Rattle.std.specs.Option.{option_map_or};
     ghost use Rattle.store_spec.specs.Disk.{IsSettled};
-    ghost use Rattle.crash_disk.specs.Memory.{memory_sees, memory_leaves, memory_calls, memory_lines, memory_passes};
+    ghost use Rattle.crash_disk.specs.Memory.{memory_sees, memory_leaves, memory_calls, memory_faults, memory_lines, memory_passes};
 
     /// A disk with these bytes, all of them settled. All its memory is taken here. `failing` has the numbers of the
     /// calls that are to fail, counted from 1.
@@ -35,6 +35,7 @@ impl MemoryDisk {
         ensures bytes { IfOk result (λ disk. memory_sees disk ≡ Some bytes.items) }
         ensures settled { IfOk result (λ disk. IsSettled memory_sees memory_calls memory_leaves disk) }
         ensures no_calls { IfOk result (λ disk. memory_calls disk ≡ 0) }
+        ensures no_faults { IfOk result (λ disk. memory_faults disk ≡ 0) }
         ensures no_lines { IfOk result (λ disk. memory_lines disk ≡ []) }
         ensures failing { IfOk result (λ disk. disk.failing.items ≡ failing.items) }
         ensures room { IfOk result (λ disk. disk.medium.room ≡ room) }
@@ -102,6 +103,7 @@ impl Disk for MemoryDisk {
         ensures same_bytes { memory_sees self.new ≡ memory_sees self.old }
         ensures images { LeavesExactly memory_calls memory_leaves (leaves_now memory_calls memory_leaves self.old) self.old self.new }
         ensures never_falls { memory_faults self.old ≤ memory_faults self.new }
+        ensures steady { OnOk result (memory_faults self.new ≡ memory_faults self.old) }
         ensures cause { OnErr result (Rose (memory_faults self.old) (memory_faults self.new)) }
     {
         let passes = self.passes();
@@ -116,6 +118,7 @@ impl Disk for MemoryDisk {
         ensures same_bytes { memory_sees self.new ≡ memory_sees self.old }
         ensures images { LeavesExactly memory_calls memory_leaves (leaves_now memory_calls memory_leaves self.old) self.old self.new }
         ensures never_falls { memory_faults self.old ≤ memory_faults self.new }
+        ensures steady { OnOk result (memory_faults self.new ≡ memory_faults self.old) }
         ensures cause { OnErr result (Rose (memory_faults self.old) (memory_faults self.new)) }
     {
         let passes = self.passes();
@@ -134,6 +137,7 @@ impl Disk for MemoryDisk {
         ensures images { LeavesAtMost memory_calls memory_leaves (torn_from at (length bytes.now) (leaves_now memory_calls memory_leaves self.old)) self.old self.new }
         ensures any_bytes { OnOk result (LeavesExactly memory_calls memory_leaves (torn_from at (length bytes.now) (leaves_now memory_calls memory_leaves self.old)) self.old self.new) }
         ensures never_falls { memory_faults self.old ≤ memory_faults self.new }
+        ensures steady { OnOk result (memory_faults self.new ≡ memory_faults self.old) }
         ensures cause { OnErr result (Rose (memory_faults self.old) (memory_faults self.new)) }
     {
         let passes = self.passes();
@@ -151,6 +155,7 @@ impl Disk for MemoryDisk {
         ensures settled { OnOk result (IsSettled memory_sees memory_calls memory_leaves self.new) }
         ensures unsettled { OnErr result (LeavesExactly memory_calls memory_leaves (leaves_now memory_calls memory_leaves self.old) self.old self.new) }
         ensures never_falls { memory_faults self.old ≤ memory_faults self.new }
+        ensures steady { OnOk result (memory_faults self.new ≡ memory_faults self.old) }
         ensures cause { OnErr result (Rose (memory_faults self.old) (memory_faults self.new)) }
     {
         let passes = self.passes();

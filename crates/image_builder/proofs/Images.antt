@@ -4,13 +4,12 @@ use Rattle.std.proofs.lemmas.List.{length-append, length-take, length-drop, leng
 use Rattle.std.proofs.lemmas.List.Concat.{flat_map-cons}
 use Rattle.std.proofs.lemmas.List.Elements.{All-contains}
 use Rattle.std.specs.List.{All, flat_map}
-use Rattle.std.specs.List.Sorted.{IsPermutation}
 use Rattle.std.specs.Int.{to_be_bytes, w32}
 use Rattle.std.specs.Option.{option_map_or}
-use Rattle.body_store.proofs.BallotSets.{cells_of-IsPermutation, has_room}
+use Rattle.body_store.proofs.BallotSets.{has_room}
 use borrow.Rule.Slice.PartMut.{put_mid, post_of}
-use Rattle.image_builder.proofs.Lookups.{AreDistinct, option_cases, found_in, ballot_of-IsPermutation}
 use Rattle.store_spec.proofs.LaidOut.{layout_of_is}
+use Rattle.store_spec.proofs.Lookups.{option_cases, found_in}
 use Rattle.store_spec.specs.Ballot.{Ballot, IsBallotSet, IsValid, ballot_of}
 use Rattle.store_spec.specs.Election.{Election, IsElection, bank_size, cell_count, cell_size}
 use Rattle.store_spec.specs.Image.{ballot_bytes, cell_bytes, cells_of, header_of, image_of}
@@ -40,11 +39,6 @@ drop_pieces f width (x ∷ xs) (suc i) each lt =
 pub length_pieces : (f : ℕ → List ℕ) (width : ℕ) (xs : List ℕ) → ((x : ℕ) → length (f x) ≡ width) → length (flat_map f xs) ≡ length xs * width
 length_pieces f width [] each = let none : 0 ≡ 0 * width = omega arith in none
 length_pieces f width (x ∷ xs) each = omega (arith, ap length (flat_map-cons f x xs), length-append (f x) (flat_map f xs), each x, length_pieces f width xs each)
-
-pub flat_map-same : (f g : ℕ → List ℕ) (xs : List ℕ) → ((x : ℕ) → f x ≡ g x) → flat_map f xs ≡ flat_map g xs
-flat_map-same f g [] same = refl
-flat_map-same f g (x ∷ xs) same =
-    flat_map-cons f x xs ∙ ap (λ bytes. bytes ++ flat_map f xs) (same x) ∙ ap (λ bytes. g x ++ bytes) (flat_map-same f g xs same) ∙ sym (flat_map-cons g x xs)
 
 -- ---- cells
 
@@ -126,10 +120,3 @@ part_of_header e ballots within count short =
     let size : length (header_of e) ≡ 32 = refl in
     ap (take count) (drop-append-le within (header_of e) bytes (omega arith))
     ∙ take-append-le count (drop within (header_of e)) bytes (omega (arith, length-drop within (header_of e)))
-
--- the image is that of the set, whichever way it is listed
-pub image_of-IsPermutation : (e : Election) (xs ys : List Ballot) → AreDistinct xs → IsPermutation xs ys → image_of e xs ≡ image_of e ys
-image_of-IsPermutation e xs ys distinct p =
-    let same = λ (number : ℕ). ap (λ o. option_map_or (ballot_bytes e) o (replicate (cell_size e) 0)) (ballot_of-IsPermutation xs ys number distinct p) in
-    ap (λ bytes. header_of e ++ bytes)
-    (flat_map-same (cell_bytes e xs) (cell_bytes e ys) (cells_of e xs) same ∙ ap (flat_map (cell_bytes e ys)) (sym (cells_of-IsPermutation e xs ys p)))

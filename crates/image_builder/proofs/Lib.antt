@@ -1,6 +1,6 @@
-pub mod Lookups
 pub mod Images
 pub mod Reading
 pub mod Steps
 pub mod Wrong
 pub mod OneSet
+pub mod Reaches

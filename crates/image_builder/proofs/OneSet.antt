@@ -8,8 +8,9 @@ use Rattle.std.specs.Int.{from_be_bytes, to_be_bytes, w8, w32, w64}
 use Rattle.std.proofs.lemmas.List.Elements.{All-contains}
 use Rattle.std.specs.List.{AllPairs, Contains, flat_map}
 use Rattle.image_builder.proofs.Images.{cell_of_found, drop_pieces, length-cell_bytes}
-use Rattle.image_builder.proofs.Lookups.{found_once}
-use Rattle.image_builder.proofs.Reading.{ballot_with, contains_number, layout_read, number_in_cell, same_numbers, split_same}
+use Rattle.store_spec.proofs.BallotNumbers.{ballot_with, contains_number}
+use Rattle.store_spec.proofs.Lookups.{found_once}
+use Rattle.image_builder.proofs.Reading.{layout_read, number_in_cell, same_numbers, split_same}
 use Rattle.image_builder.proofs.Wrong.{known_cell}
 use Rattle.store_spec.proofs.ValidMarks.{marks_kept, small_set}
 use Rattle.store_spec.proofs.OrderedCells.{place_from_contains, contains_from_place}

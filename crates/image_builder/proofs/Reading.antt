@@ -1,16 +1,16 @@
 -- The first cells of a bank, as they are read in order.
 use Rattle.std.proofs.Common.{◌≡◌, ◌≢◌, ℕ, zero, suc, ◌+◌, ◌*◌, ◌^◌, ◌<◌, ◌≤◌, ⊎_elim, List, [], ◌∷◌, ◌++◌, length, get_or, take, drop, replicate, None, refl, sym, ap, subst, ◌∙◌, arith}
 use Rattle.std.proofs.lemmas.Bool.{cases_eq}
-use Rattle.std.proofs.lemmas.List.{append-nil, append_assoc, take_at, drop_at, drop-drop, take-take, take-replicate, get_or_default}
+use Rattle.std.proofs.lemmas.List.{append-nil, append_assoc, take_at, drop_at, drop-drop, take-take, take-replicate}
 use Rattle.std.proofs.lemmas.List.Concat.{flat_map-cons, flat_map-append}
-use Rattle.std.proofs.lemmas.List.Elements.{All-contains, Contains-get_or}
+use Rattle.std.proofs.lemmas.List.Elements.{All-contains}
 use Rattle.std.proofs.lemmas.Nat.{from_be_bytes-to_be_bytes_8}
 use Rattle.std.specs.List.{All, AllPairs, Contains, flat_map}
 use Rattle.std.specs.Int.{to_be_bytes, from_be_bytes, w8, w32, w64}
 use Rattle.body_store.proofs.BallotSets.{has_room}
-use Rattle.body_store.proofs.Numbers.{no_ballot, pairs_of_ballots, number_at as number_of_place, length-numbers_of}
 use Rattle.image_builder.proofs.Images.{take-add, length-cell_bytes, cell_of_found, cell_of_none}
-use Rattle.image_builder.proofs.Lookups.{option_cases, found_in, missing_from}
+use Rattle.store_spec.proofs.Lookups.{option_cases, found_in, missing_from}
+use Rattle.store_spec.proofs.BallotNumbers.{ballot_with, pairs_of_ballots}
 use Rattle.store_spec.proofs.Fronts.{distinct_in, front_is_layout}
 use Rattle.store_spec.proofs.LaidOut.{layout_of_is}
 use Rattle.store_spec.specs.Ballot.{Ballot, IsBallotSet, IsValid, ballot_of, numbers_of}
@@ -71,17 +71,6 @@ number_of_zeros e = ap (from_be_bytes w64) (take-replicate 8 (cell_size e) 0 (om
 
 abbrev pub IsKnown : List Ballot → ℕ → Type 0
 IsKnown ballots v = v ≢ 0 → Contains (numbers_of ballots) v
-
-pub ballot_with : (ballots : List Ballot) (v : ℕ) → Contains (numbers_of ballots) v → (b : Ballot) × Contains ballots b × (b.number ≡ v)
-ballot_with ballots v c =
-    let within : c.0 < length ballots = omega (arith, c.1, length-numbers_of ballots) in
-    (get_or ballots c.0 no_ballot, Contains-get_or ballots c.0 no_ballot within, sym (number_of_place ballots c.0 v within) ∙ c.2)
-
-pub contains_number : (ballots : List Ballot) (b : Ballot) (v : ℕ) → Contains ballots b → b.number ≡ v → Contains (numbers_of ballots) v
-contains_number ballots b v c is =
-    let size = length-numbers_of ballots in
-    let there : (get_or ballots c.0 no_ballot).number ≡ v = ap (λ (x : Ballot). x.number) (get_or_default ballots c.0 no_ballot b c.1 ∙ c.2) ∙ is in
-    (c.0, omega (arith, c.1), number_of_place ballots c.0 v c.1 ∙ there)
 
 pub number_in_cell : (e : Election) (ballots : List Ballot) (v : ℕ) → All (IsValid e) ballots → IsKnown ballots v → number_at (cell_bytes e ballots v) ≡ v
 number_in_cell e ballots v valid known = ⊎_elim

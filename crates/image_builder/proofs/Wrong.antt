@@ -5,12 +5,12 @@ use Rattle.std.proofs.lemmas.List.{length-take, length-drop, take_more, get_or-t
 use Rattle.std.proofs.lemmas.List.Elements.{All-contains}
 use Rattle.std.specs.List.{flat_map}
 use Rattle.body_store.proofs.BallotSets.{has_room}
-use Rattle.body_store.proofs.Numbers.{length-numbers_of}
 use Rattle.image_builder.proofs.Images.{length_pieces, length-cell_bytes, cell_of_found, cell_of_none}
-use Rattle.image_builder.proofs.Lookups.{option_cases, found_in}
+use Rattle.store_spec.proofs.Lookups.{option_cases, found_in}
 use Rattle.image_builder.proofs.Reading.{AreRead, IsKnown, begins_fewer, begins_read, cell_at, front_of_image, front_read, home_in, layout_read, number_at, number_in_cell, number_of_bytes, one_cell_more, piece_more, same_numbers, set_read, split_same}
 use Rattle.image_builder.proofs.Steps.{known_read}
 use Rattle.store_spec.proofs.Ascending.{length-ascending}
+use Rattle.store_spec.proofs.BallotNumbers.{length-numbers_of}
 use Rattle.store_spec.proofs.LaidOut.{layout_of_laid_out}
 use Rattle.store_spec.proofs.OrderedCells.{contains_from_place, place_within}
 use Rattle.store_spec.proofs.Placing.{filled}

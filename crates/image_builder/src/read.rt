@@ -1,13 +1,14 @@
 //! Reading a store from the bytes of a bank.
 
 ghost use Rattle.body_store.specs.Contents.{IsStored, ballots_of};
+ghost use Rattle.image_builder.specs.Reaches.{AreReaches, IsReach};
 ghost use Rattle.image_builder.specs.Reading.{ReadsAs};
-ghost use Rattle.std.specs.Prelude.{◌≡◌, ◌≢◌, ◌+◌, ◌*◌, ◌<◌, ◌≤◌, ◌↔◌, List, drop, length, take, AllPairs, IfOk, IfErr, IsTrue, MatchResult};
+ghost use Rattle.std.specs.Prelude.{◌≡◌, ◌≢◌, ◌+◌, ◌*◌, ◌<◌, ◌≤◌, ◌↔◌, List, drop, length, take, AllPairs, IfOk, IfErr, IfSome, IsSome, MatchResult};
 ghost use Rattle.store_spec.specs.Ballot.{Ballot, IsBallotSet};
 ghost use Rattle.store_spec.specs.Election.{bank_size, cell_count, cell_size};
 ghost use Rattle.store_spec.specs.Home.{home_of};
 ghost use Rattle.store_spec.specs.Image.{header_of, image_of};
-ghost use Rattle.store_spec.specs.Layout.{IsOrdered, MayStand};
+ghost use Rattle.store_spec.specs.Layout.{MayStand};
 
 use crate::write::{HEADER_BYTES, header};
 use ballot_record::{CellRead, Election, Record, take_cell};
@@ -99,15 +100,23 @@ fn read_cells(alloc: Global, bank: &[u8], election: &Election) -> Result<Vec<Rec
 {
     let limit = election.limit() as usize;
     let mut numbers = Vec::with_capacity(alloc, election.cells())?;
+    let mut reaches = Vec::with_capacity(alloc, election.cells())?;
     let mut records = Vec::new(alloc);
     for place in 0..election.cells() {
         match take_cell(cell_bytes(bank, election, place), election) {
-            CellRead::Empty => numbers.push(0)?,
+            CellRead::Empty => {
+                numbers.push(0)?;
+                reaches.push(place)?;
+            }
             CellRead::Held(record) => {
-                if records.len() >= limit || !may_follow(election, &numbers, record.number) {
+                if records.len() >= limit {
                     return Err(ImageFault::Damaged { cell: place as u32 });
                 }
+                let Some(reach) = reach_of(election, &numbers, &reaches, record.number) else {
+                    return Err(ImageFault::Damaged { cell: place as u32 });
+                };
                 numbers.push(record.number)?;
+                reaches.push(reach)?;
                 records.push(record)?;
             }
             CellRead::Bad => return Err(ImageFault::Damaged { cell: place as u32 }),
@@ -129,11 +138,13 @@ fn cell_bytes<'a>(bank: &'a [u8], election: &Election, place: usize) -> &'a [u8]
     cell
 }
 
-/// Whether a number may stand in the cell after these. What stands between the home of a number that is greater and
-/// that number is greater too, so that it is passed at once.
-fn may_follow(election: &Election, cells: &[u64], number: u64) -> bool
-    requires { IsOrdered (home_of election.now.bits election.now.salt) cells.now }
-    ensures { IsTrue result ↔ MayStand (home_of election.now.bits election.now.salt) cells.now number (length cells.now) }
+/// How far back these cells hold greater numbers than one that is to stand in the cell after them. `None` where it may
+/// not stand there. The reach may go further back than the number's home, and need not be the longest. What a cell
+/// reaches over is passed at once, so that judging all cells of a bank takes each of them twice at most.
+fn reach_of(election: &Election, cells: &[u64], reaches: &[usize], number: u64) -> Option<usize>
+    requires { AreReaches cells.now reaches.now }
+    ensures stands { IsSome result ↔ MayStand (home_of election.now.bits election.now.salt) cells.now number (length cells.now) }
+    ensures reach { IfSome result (IsReach cells.now number (length cells.now)) }
 {
     let order = Salted {
         bits: election.bits(),
@@ -141,15 +152,14 @@ fn may_follow(election: &Election, cells: &[u64], number: u64) -> bool
     };
     let home = order.home(number);
     if cells.len() < home {
-        return false;
+        return None;
     }
     let mut from = cells.len();
     while home < from {
-        let before = cells[from - 1];
-        if before <= number {
-            return false;
+        if cells[from - 1] <= number {
+            return None;
         }
-        from = order.home(before);
+        from = reaches[from - 1];
     }
-    true
+    Some(from)
 }

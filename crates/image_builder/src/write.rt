@@ -141,7 +141,7 @@ pub fn header(election: &Election) -> [u8; HEADER_BYTES]
     header
 }
 
-/// The buffer through which banks are written and compared.
+/// A buffer of one bank, for writing and comparing.
 #[derive(Drop)]
 pub struct Scratch {
     /// As many bytes as a bank has.

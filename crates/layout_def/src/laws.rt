@@ -3,7 +3,7 @@
 ghost use Rattle.std.specs.Prelude.{◌≡◌, ◌≢◌, ◌++◌, ℕ, ◌+◌, ◌<◌, ◌≤◌, List, ◌∷◌, All, AllPairs, Contains, length, set, slice_index, take};
 ghost use Rattle.store_spec.specs.Layout.{HasRoom, HoldsExactly, IsLayout, IsOrdered, MayStand, layout_of, numbers_in, placed};
 
-/// Ordered cells that hold exactly the numbers of a set are the layout of that set, whichever way they came about.
+/// Whichever way they came about, ordered cells with the numbers of a set, and no others, are its layout.
 pub fn ordered_cells_are_the_layout()
     ensures { (home : ℕ → ℕ) (homes count : ℕ) (numbers cells : List ℕ) → HasRoom home homes count numbers
         → length cells ≡ count → IsOrdered home cells → HoldsExactly cells numbers
@@ -41,7 +41,7 @@ pub fn ordered_cells_are_a_front()
         → take (length front) (layout_of home count (numbers_in front)) ≡ front }
 {}
 
-/// The least number of a set comes last, into the first empty cell at or after its home.
+/// The least number of a set comes last, into the first cell from its home on that is still empty.
 pub fn least_number_comes_last()
     ensures { (home : ℕ → ℕ) (count v : ℕ) (numbers : List ℕ) → All (λ w. v < w) numbers
         → layout_of home count (v ∷ numbers) ≡ placed v (home v) (layout_of home count numbers) }

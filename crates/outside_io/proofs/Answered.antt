@@ -1,15 +1,15 @@
 -- What a call of `next_line` answers, from what its parts do.
-use Rattle.std.proofs.Common.{◌≡◌, ℕ, zero, suc, ◌+◌, ◌-◌, ◌<◌, ◌≤◌, ◌⊎◌, Bool, true, false, cond, eqb, leb, ltb, List, [], ◌∷◌, ◌++◌, length, take, drop, map, Option, Some, None, Ok, Err, refl, ap, sym, ◌∙◌, subst, inl, inr, arith, append_assoc, length-append, length-drop, length-take}
-use Rattle.std.proofs.lemmas.List.{take-append-le, drop-append-le, drop_all, drop_at, drop-drop, nil_from_length, append-nil, take_all, length-take-le}
+use Rattle.std.proofs.Common.{◌≡◌, ℕ, ◌+◌, ◌<◌, ◌≤◌, cond, List, [], ◌∷◌, ◌++◌, length, take, drop, map, Option, Some, None, Ok, Err, refl, ap, sym, ◌∙◌, subst, inl, inr, arith, append_assoc, length-append, length-drop, length-take}
+use Rattle.std.proofs.lemmas.List.{take-append-le, drop-append-le, drop_all, drop_at, drop-drop, nil_from_length, append-nil, take_all}
 use Rattle.std.specs.Option.{option_map, IfSome}
 use Rattle.std.proofs.Common.{le-leb}
 use Rattle.std.proofs.lemmas.Bool.{cases_lt, lt-leb}
 use Rattle.outside_io.specs.declared.lines.LineEndFault.TheVariants.{TooLong}
-use Rattle.outside_io.specs.Lines.{HandsOut, LooksLike, Answers, AnswersTold, IfTold, IsAnswerFor, CutsOff, StaysSame, TakesLast}
+use Rattle.outside_io.specs.Lines.{HandsOut, LooksLike, Answers, AnswersTold, IfTold, CutsOff, StaysSame, TakesLast}
 use Rattle.outside_io.specs.declared.lines.NextLine.{NextLine}
 use Rattle.outside_io.specs.declared.lines.NextLine.TheVariants.{Whole, TooWide, End}
 use Rattle.outside_io.specs.Window.{Kept}
-use Rattle.outside_io.proofs.FirstLine.{first_width-le, first_width-append, first_width-more, first_width-same, lines_within-first, lines_within-none, lines_within-too_long}
+use Rattle.store_spec.proofs.FirstLine.{first_width-le, first_width-append, first_width-more, first_width-same, lines_within-first, lines_within-none, lines_within-too_long}
 use Rattle.store_spec.specs.Input.{LINE_LIMIT, first_width, taken_line, taken_within, IsTooLong}
 
 -- ---- lines as they are taken

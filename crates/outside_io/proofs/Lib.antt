@@ -1,4 +1,3 @@
 mod Answered
-mod FirstLine
 mod Pieces
 mod Windows

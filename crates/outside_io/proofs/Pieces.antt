@@ -1,5 +1,5 @@
 -- What a read of a piece leaves.
-use Rattle.std.proofs.Common.{◌≡◌, ℕ, ◌+◌, ◌-◌, ◌<◌, ◌≤◌, List, ◌++◌, length, take, drop, refl, ap, sym, ◌∙◌, arith, take-append-drop}
+use Rattle.std.proofs.Common.{◌≡◌, ℕ, ◌+◌, ◌-◌, ◌≤◌, List, ◌++◌, length, take, drop, ap, sym, ◌∙◌, arith, take-append-drop}
 use Rattle.std.proofs.lemmas.List.{take_at, drop-drop, length-take-le, length-drop}
 
 -- the bytes from a place on are those of a piece and those behind it

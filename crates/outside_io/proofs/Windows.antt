@@ -1,6 +1,6 @@
 -- The bytes between two places of a buffer, behind the zeros that stand for forgotten ones.
-use Rattle.std.proofs.Common.{◌≡◌, ℕ, zero, suc, ◌+◌, ◌-◌, ◌<◌, ◌≤◌, List, [], ◌∷◌, ◌++◌, length, take, drop, replicate, None, Some, cond, ltb, refl, ap, sym, ◌∙◌, subst, inl, inr, arith, append_assoc, length-append, length-drop, length-take, take-append-drop}
-use Rattle.std.proofs.lemmas.List.{take-append-le, drop-append-le, take-take, drop_all, drop_at, drop-drop, drop-take, append-nil, take_all, take_rest, length-take-le, length-replicate}
+use Rattle.std.proofs.Common.{◌≡◌, ℕ, ◌+◌, ◌-◌, ◌<◌, ◌≤◌, List, ◌++◌, length, take, drop, replicate, None, Some, cond, ltb, ap, sym, ◌∙◌, inl, inr, arith, length-append, length-drop, take-append-drop}
+use Rattle.std.proofs.lemmas.List.{take-append-le, take-take, drop_at, drop-drop, drop-take, take_rest, length-take-le, length-replicate}
 use Rattle.std.proofs.lemmas.Bool.{cases_lt}
 use Rattle.std.proofs.lemmas.Bool.Decides.{nat_tests}
 use Rattle.std.specs.Prelude.{position, slice_range, ◌==◌, Vec, vec_len}
@@ -8,8 +8,8 @@ use Rattle.std.specs.declared.alloc.Global.{Global}
 use Rattle.std.proofs.Math.Seq.{take-add}
 use Rattle.outside_io.specs.declared.lines.Lines.TheInside.{Inside}
 use Rattle.outside_io.specs.Window.{window_of, kept_of, IsWindow}
-use Rattle.outside_io.proofs.FirstLine.{first_width-le, first_width-append, first_width-zeros}
-use Rattle.store_spec.specs.Input.{LINE_END, LINE_LIMIT, first_width}
+use Rattle.store_spec.proofs.FirstLine.{first_width-le, first_width-append, first_width-zeros}
+use Rattle.store_spec.specs.Input.{first_width}
 
 -- no line end was found
 pub none_found : (bytes : List ℕ) → position (λ byte. byte == 10) bytes ≡ None → length bytes ≡ first_width bytes

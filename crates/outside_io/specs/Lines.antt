@@ -1,5 +1,5 @@
 -- How a source is cut into lines, whatever the pieces in which it gives its bytes.
-use Rattle.std.specs.Prelude.{◌≡◌, ℕ, ◌+◌, ◌-◌, ◌<◌, ◌≤◌, List, [], ◌∷◌, ◌++◌, length, take, drop, Option, Some, None, Result, Ok, Err}
+use Rattle.std.specs.Prelude.{◌≡◌, ℕ, ◌+◌, ◌<◌, ◌≤◌, List, [], ◌∷◌, ◌++◌, length, take, drop, Option, Some, None, Result, Ok, Err}
 use Rattle.outside_io.specs.declared.lines.Found.{Found}
 use Rattle.outside_io.specs.declared.lines.Found.TheVariants.{Line, TooMuch, Nothing}
 use Rattle.outside_io.specs.declared.lines.LineEndFault.{LineEndFault}

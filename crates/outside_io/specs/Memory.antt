@@ -1,5 +1,5 @@
 -- A source and a sink in memory, which fail at calls that are known before.
-use Rattle.std.specs.Prelude.{◌≡◌, ℕ, ◌+◌, ◌<◌, ◌≤◌, ◌⊎◌, min, List, length, drop, Contains}
+use Rattle.std.specs.Prelude.{ℕ, ◌+◌, ◌<◌, ◌⊎◌, min, List, length, drop, Contains}
 use Rattle.outside_io.specs.declared.memory.MemorySource.{MemorySource}
 use Rattle.outside_io.specs.declared.memory.MemorySink.{MemorySink}
 use Rattle.store_spec.specs.Fault.{LAST_COUNT}
@@ -8,7 +8,7 @@ use Rattle.store_spec.specs.Fault.{LAST_COUNT}
 abbrev pub next_call : ℕ → ℕ
 next_call calls = min (calls + 1) LAST_COUNT
 
--- the bytes that the source has left, the calls so far, and those that are to fail
+-- the bytes that the source has left, the calls so far, those that are to fail, and how many failed
 abbrev pub source_left : MemorySource → List ℕ
 source_left source = drop source.at source.bytes.items
 
@@ -18,7 +18,10 @@ source_calls source = source.calls
 abbrev pub source_failing : MemorySource → List ℕ
 source_failing source = source.failing.items
 
--- the bytes that the sink has taken, how many it may take, the calls so far, and those that are to fail
+abbrev pub source_faults : MemorySource → ℕ
+source_faults source = source.faults
+
+-- the bytes that the sink has taken, how many it may take, the calls so far, those that are to fail, and how many failed
 abbrev pub sink_taken : MemorySink → List ℕ
 sink_taken sink = sink.taken.items
 
@@ -30,6 +33,9 @@ sink_calls sink = sink.calls
 
 abbrev pub sink_failing : MemorySink → List ℕ
 sink_failing sink = sink.failing.items
+
+abbrev pub sink_faults : MemorySink → ℕ
+sink_faults sink = sink.faults
 
 -- a call with these bytes fails: its number is one of those that are to fail, or there is no room for them
 abbrev pub IsRefused : MemorySink → List ℕ → Type 0

@@ -1,11 +1,11 @@
 -- What a reader of lines keeps of its source.
-use Rattle.std.specs.Prelude.{◌≡◌, ℕ, ◌+◌, ◌-◌, ◌<◌, ◌≤◌, List, ◌++◌, length, take, replicate, vec_len, slice_range}
+use Rattle.std.specs.Prelude.{◌≡◌, ℕ, ◌+◌, ◌-◌, ◌<◌, ◌≤◌, List, ◌++◌, take, replicate, vec_len, slice_range}
 use Rattle.outside_io.specs.declared.lines.Lines.TheInside.{Inside}
 use Rattle.store_spec.specs.Input.{LINE_LIMIT, SCRIPT_LIMIT, first_width}
 
--- The bytes that were read and not handed out (those of a line that is too wide already stand as zeros), how many of
--- the first bytes of the source that may be handed out are left, counted from them on, the last whole line, and how
--- many bytes the buffer takes behind the others.
+-- `text` is what was read and not handed out; the bytes of a line that is too wide already stand as zeros. Of the source,
+-- counted from the front of `text` on, so many bytes as `room` may still be handed out. `line` is the last whole line, and
+-- `space` is how many bytes the buffer takes behind the others.
 pub record Kept : Type 0 where
   pub text : List ℕ
   pub room : ℕ

@@ -13,7 +13,7 @@ pub use error::{Failed, Memory};
 pub use lines::{LineEndFault, Lines, NextLine};
 pub use memory::{MemorySink, MemorySource};
 pub use sink::Sink;
-pub use source::Source;
+pub use source::{Source, read_piece};
 pub use standard::{FileSource, StdinSource, StdoutSink};
 pub use sure::{SureSink, SureSource};
 

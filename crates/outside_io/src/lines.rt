@@ -1,9 +1,9 @@
 ghost use Rattle.std.specs.Prelude.{◌≡◌, ◌≢◌, ◌==◌, ℕ, ◌+◌, position, ◌≤◌, ◌<◌, [], ◌++◌, length, take, slice_range, Some, Err, IfOk, IfSome, OnErr};
 ghost use Rattle.store_spec.specs.Fault.{Rose};
 ghost use Rattle.outside_io.specs.Stream.{Gives};
-ghost use Rattle.store_spec.specs.Input.{first_width, SCRIPT_LIMIT};
+ghost use Rattle.store_spec.specs.Input.{first_width, IsTooLong, SCRIPT_LIMIT};
 
-use crate::{Failed, Memory, Source};
+use crate::{Failed, Memory, Source, read_piece};
 use std::alloc::Global;
 use std::error::Error;
 use std::fmt;
@@ -32,7 +32,7 @@ pub enum NextLine {
 /// Why no line came.
 #[derive(Clone, Copy, Debug, PartialEq, Eq)]
 pub enum LineEndFault {
-    /// The first 67,108,864 bytes of the source hold no further whole line, and it gave at least one more.
+    /// No line ends within what may still be cut of the source, and there are more bytes.
     TooLong,
     /// The source failed.
     ReadFault,
@@ -99,25 +99,6 @@ fn first_end(bytes: &[u8]) -> Option<usize>
     bytes.iter().position(|byte| *byte == LINE_END)
 }
 
-// Reads a piece into the buffer from a place on.
-fn read_piece<S: Source>(
-    source: &mut S,
-    buffer: &mut [u8],
-    at: usize,
-    asked: usize,
-) -> Result<usize, Failed>
-    requires { at + asked ≤ length buffer.old }
-    ensures before { take at buffer.new ≡ take at buffer.old }
-    ensures within { IfOk result (λ count. count ≤ asked) }
-    ensures gives { IfOk result (λ count. Gives (S.left source.old) (slice_range buffer.new at (at + count)) (S.left source.new)) }
-    ensures end { IfOk result (λ count. count ≡ 0 → 0 < asked → IfSome (S.left source.old) (λ left. left ≡ [])) }
-    ensures unmoved { OnErr result (S.left source.new ≡ S.left source.old) }
-    ensures failed { OnErr result (Rose (S.faults source.old) (S.faults source.new)) }
-    ensures faults { S.faults source.old ≤ S.faults source.new }
-{
-    source.read(&mut buffer[at..at + asked])
-}
-
 // How many bytes stand before the first line end, or in all where there is none.
 fn line_width(bytes: &[u8]) -> usize
     ensures { result ≡ first_width bytes.now }
@@ -169,7 +150,8 @@ impl Lines {
 
     // Cuts off the next line where all of it is kept.
     fn cut(&mut self) -> Found
-        ensures { Finds result self.old self.new }
+        ensures finds { Finds result self.old self.new }
+        ensures kept { length self.old.text ≤ self.old.room + 1 }
     {
         let window = &self.buffer[self.start..self.end];
         let kept = window.len();
@@ -262,11 +244,16 @@ impl Lines {
         }
     }
 
-    /// Hands out the next line of the source, for the bytes that are kept followed by those that the source has left.
-    /// After `ReadFault` a further call goes on from what was read; after `TooLong` it answers `TooLong` again.
+    /// Hands out the next line of what is kept and, behind it, of what the source still has.
+    /// After `ReadFault` a further call goes on from what was read; after `TooLong` it answers `TooLong` again. Of the
+    /// source no more is read than one byte past the room.
     pub fn next_line<S: Source>(&mut self, source: &mut S) -> Result<NextLine, LineEndFault>
         ensures answers { AnswersTold result self.old (S.left source.old) self.new (S.left source.new) }
+        ensures over { result ≡ Err LineEndFault.TooLong → IsTooLong self.new.text self.new.room }
+        ensures still_over { IsTooLong self.old.text self.old.room → result ≡ Err LineEndFault.TooLong }
+        ensures none_whole { result ≡ Err LineEndFault.ReadFault → (first_width self.new.text ≡ length self.new.text) × (length self.new.text ≤ self.new.room) }
         ensures progress { IfOk result (λ answer. answer ≢ NextLine.End → self.new.room < self.old.room) }
+        ensures kept { length self.new.text ≤ self.new.room + 1 }
         ensures failed { result ≡ Err LineEndFault.ReadFault → Rose (S.faults source.old) (S.faults source.new) }
         ensures faults { S.faults source.old ≤ S.faults source.new }
     {

@@ -23,13 +23,14 @@ pub struct MemorySource {
 }
 
 impl MemorySource {
-    ghost use Rattle.outside_io.specs.Memory.{source_left, source_calls, source_failing};
+    ghost use Rattle.outside_io.specs.Memory.{source_left, source_calls, source_failing, source_faults};
 
     /// A source of these bytes, whose calls with these numbers fail.
     pub fn new(bytes: Vec<u8>, failing: Vec<u64>) -> MemorySource
         ensures left { source_left result ≡ bytes.items }
         ensures failing { source_failing result ≡ failing.items }
         ensures calls { source_calls result ≡ 0 }
+        ensures faults { source_faults result ≡ 0 }
     {
         MemorySource {
             bytes,
@@ -42,18 +43,19 @@ impl MemorySource {
 }
 
 impl Source for MemorySource {
-    ghost use Rattle.outside_io.specs.Memory.{source_left, source_calls, source_failing, next_call};
+    ghost use Rattle.outside_io.specs.Memory.{source_left, source_calls, source_failing, source_faults, next_call};
 
     ghost left = { λ source. Some (source_left source) };
 
-    ghost faults = { λ source. source.faults };
+    ghost faults = { source_faults };
 
     fn read(&mut self, buf: &mut [u8]) -> Result<usize, Failed>
         ensures within { IfOk result (λ n. n ≡ min (length buf.old) (length (source_left self.old))) }
         ensures gives { IfOk result (λ n. Gives (Some (source_left self.old)) (take n buf.new) (Some (source_left self.new))) }
         ensures unmoved { OnErr result (source_left self.new ≡ source_left self.old) }
-        ensures failed { OnErr result (Rose self.old.faults self.new.faults) }
-        ensures faults { self.old.faults ≤ self.new.faults }
+        ensures failed { OnErr result (Rose (source_faults self.old) (source_faults self.new)) }
+        ensures steady { OnOk result (source_faults self.new ≡ source_faults self.old) }
+        ensures faults { source_faults self.old ≤ source_faults self.new }
 
         // It fails exactly at the calls that it was told.
         ensures fails { IsErr result ↔ Contains (source_failing self.old) (next_call (source_calls self.old)) }
@@ -86,13 +88,14 @@ pub struct MemorySink {
 }
 
 impl MemorySink {
-    ghost use Rattle.outside_io.specs.Memory.{sink_taken, sink_room, sink_calls, sink_failing};
+    ghost use Rattle.outside_io.specs.Memory.{sink_taken, sink_room, sink_calls, sink_failing, sink_faults};
 
     /// A sink with this room, all of which it takes here.
     pub fn new(alloc: Global, room: usize, failing: Vec<u64>) -> Result<MemorySink, Memory>
         ensures taken { IfOk result (λ sink. sink_taken sink ≡ []) }
         ensures room { IfOk result (λ sink. sink_room sink ≡ room) }
         ensures failing { IfOk result (λ sink. sink_failing sink ≡ failing.items) }
+        ensures faults { IfOk result (λ sink. sink_faults sink ≡ 0) }
         ensures calls { IfOk result (λ sink. sink_calls sink ≡ 0) }
     {
         Ok(MemorySink {
@@ -113,8 +116,8 @@ impl MemorySink {
 
     fn fault(&mut self) -> Failed
         ensures taken { sink_taken self.new ≡ sink_taken self.old }
-        ensures faults { self.old.faults ≤ self.new.faults }
-        ensures rose { Rose self.old.faults self.new.faults }
+        ensures faults { sink_faults self.old ≤ sink_faults self.new }
+        ensures rose { Rose (sink_faults self.old) (sink_faults self.new) }
         ensures same { (sink_room self.new ≡ sink_room self.old) × (sink_failing self.new ≡ sink_failing self.old) × (sink_calls self.new ≡ sink_calls self.old) }
     {
         self.faults = self.faults.saturating_add(1);
@@ -123,17 +126,18 @@ impl MemorySink {
 }
 
 impl Sink for MemorySink {
-    ghost use Rattle.outside_io.specs.Memory.{sink_taken, sink_room, sink_calls, sink_failing, next_call, IsRefused};
+    ghost use Rattle.outside_io.specs.Memory.{sink_taken, sink_room, sink_calls, sink_failing, sink_faults, next_call, IsRefused};
 
     ghost taken = { λ sink. Some (sink_taken sink) };
 
-    ghost faults = { λ sink. sink.faults };
+    ghost faults = { sink_faults };
 
     fn write_all(&mut self, bytes: &[u8]) -> Result<(), Failed>
         ensures all { OnOk result (TakesAll (Some (sink_taken self.old)) bytes.now (Some (sink_taken self.new))) }
         ensures none { OnErr result (sink_taken self.new ≡ sink_taken self.old) }
-        ensures failed { OnErr result (Rose self.old.faults self.new.faults) }
-        ensures faults { self.old.faults ≤ self.new.faults }
+        ensures failed { OnErr result (Rose (sink_faults self.old) (sink_faults self.new)) }
+        ensures steady { OnOk result (sink_faults self.new ≡ sink_faults self.old) }
+        ensures faults { sink_faults self.old ≤ sink_faults self.new }
 
         // It fails exactly at the calls that it was told, and where there is no room.
         ensures fails { IsErr result ↔ IsRefused self.old bytes.now }

@@ -9,7 +9,7 @@ pub trait Sink {
     /// The bytes that it has taken, where it tells them. Whether it does never changes.
     ghost taken: { Self → Option (List ℕ) };
 
-    /// How often it has failed: a count that never falls, and stays at 2 ^ 64 - 1.
+    /// How often it has failed: a count that rises at each failure and at nothing else, and stays at 2 ^ 64 - 1.
     ghost faults: { Self → ℕ };
 
     /// Takes all the bytes. After a failure it has taken some of the first of them, or none.
@@ -17,5 +17,6 @@ pub trait Sink {
         ensures all { OnOk result (TakesAll (taken self.old) bytes.now (taken self.new)) }
         ensures some { OnErr result (TakesSome (taken self.old) bytes.now (taken self.new)) }
         ensures failed { OnErr result (Rose (faults self.old) (faults self.new)) }
+        ensures steady { OnOk result (faults self.new ≡ faults self.old) }
         ensures faults { faults self.old ≤ faults self.new };
 }

@@ -1,4 +1,4 @@
-ghost use Rattle.std.specs.Prelude.{◌≡◌, ℕ, ◌<◌, ◌≤◌, List, [], length, take, Option, IfOk, IfSome, OnErr};
+ghost use Rattle.std.specs.Prelude.{◌≡◌, ℕ, ◌+◌, ◌<◌, ◌≤◌, List, [], length, take, drop, slice_range, Option, IfOk, IfSome, OnOk, OnErr};
 ghost use Rattle.store_spec.specs.Fault.{Rose};
 ghost use Rattle.outside_io.specs.Stream.{Gives};
 
@@ -9,10 +9,10 @@ pub trait Source {
     /// The bytes that it has left, where it tells them. Whether it does never changes.
     ghost left: { Self → Option (List ℕ) };
 
-    /// How often it has failed: a count that never falls, and stays at 2 ^ 64 - 1.
+    /// How often it has failed: a count that rises at each failure and at nothing else, and stays at 2 ^ 64 - 1.
     ghost faults: { Self → ℕ };
 
-    /// Puts the next bytes at the front of `buf`, and answers how many. 0 for a buffer that is not empty is the end.
+    /// Puts the next bytes at the front of `buf`, and answers how many. None, where there is room for one, is the end.
     /// After a failure no byte is lost.
     fn read(&mut self, buf: &mut [u8]) -> Result<usize, Failed>
         ensures within { IfOk result (λ n. n ≤ length buf.old) }
@@ -20,5 +20,27 @@ pub trait Source {
         ensures end { IfOk result (λ n. n ≡ 0 → 0 < length buf.old → IfSome (left self.old) (λ rest. rest ≡ [])) }
         ensures unmoved { OnErr result (left self.new ≡ left self.old) }
         ensures failed { OnErr result (Rose (faults self.old) (faults self.new)) }
+        ensures steady { OnOk result (faults self.new ≡ faults self.old) }
         ensures faults { faults self.old ≤ faults self.new };
+}
+
+/// Reads at most so many bytes into a buffer, from a place on.
+pub fn read_piece<S: Source>(
+    source: &mut S,
+    buffer: &mut [u8],
+    at: usize,
+    asked: usize,
+) -> Result<usize, Failed>
+    requires { at + asked ≤ length buffer.old }
+    ensures before { take at buffer.new ≡ take at buffer.old }
+    ensures within { IfOk result (λ count. count ≤ asked) }
+    ensures gives { IfOk result (λ count. Gives (S.left source.old) (slice_range buffer.new at (at + count)) (S.left source.new)) }
+    ensures end { IfOk result (λ count. count ≡ 0 → 0 < asked → IfSome (S.left source.old) (λ left. left ≡ [])) }
+    ensures unmoved { OnErr result (S.left source.new ≡ S.left source.old) }
+    ensures behind { drop (at + asked) buffer.new ≡ drop (at + asked) buffer.old }
+    ensures failed { OnErr result (Rose (S.faults source.old) (S.faults source.new)) }
+    ensures steady { OnOk result (S.faults source.new ≡ S.faults source.old) }
+    ensures faults { S.faults source.old ≤ S.faults source.new }
+{
+    source.read(&mut buffer[at..at + asked])
 }

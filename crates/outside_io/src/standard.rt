@@ -1,9 +1,22 @@
 ghost use Rattle.std.specs.Prelude.{◌≡◌, ◌≤◌, ℕ, List, length, None, IfOk};
 
 use crate::{Failed, Sink, Source};
-use std::io::Read;
+use std::io::{ErrorKind, Read};
 use std::rt::Files;
 use std::{fs, io};
+
+/// Reads the next bytes, and tries again where a signal interrupted the call.
+pub fn read_again<R: Read>(reader: &mut R, buf: &mut [u8]) -> io::Result<usize>
+    ensures { IfOk result (λ count. count ≤ length buf.old) }
+{
+    for _ in 0..u64::MAX {
+        match reader.read(buf) {
+            Err(error) if error.kind() == ErrorKind::Interrupted => {}
+            outcome => return outcome,
+        }
+    }
+    Err(ErrorKind::Interrupted.into())
+}
 
 /// Standard input. No clause says what it gives: it is part of the trusted edge.
 #[derive(Drop)]
@@ -14,7 +27,9 @@ pub struct StdinSource<'a, I> {
 
 impl<'a, I: Input> StdinSource<'a, I> {
     /// Reads nothing yet.
-    pub fn new(rt: &'a I) -> StdinSource<'a, I> {
+    pub fn new(rt: &'a I) -> StdinSource<'a, I>
+        ensures { result.faults ≡ 0 }
+    {
         StdinSource {
             input: rt,
             faults: 0,
@@ -28,7 +43,7 @@ impl<I: Input> Source for StdinSource<'_, I> {
     ghost faults = { λ source. source.faults };
 
     fn read(&mut self, buf: &mut [u8]) -> Result<usize, Failed> {
-        match self.input.reader().read(buf) {
+        match read_again(&mut self.input.reader(), buf) {
             Ok(count) => Ok(count),
             Err(_) => {
                 self.faults = self.faults.saturating_add(1);
@@ -51,7 +66,9 @@ pub struct FileSource<'a, F: Files> {
 impl<'a, F: Files> FileSource<'a, F> {
     /// Opens nothing yet. A file that is missing, or that cannot be read, is a fault of the first read; the next read
     /// then tries to open it again.
-    pub fn new(rt: &'a F, path: &'a str) -> FileSource<'a, F> {
+    pub fn new(rt: &'a F, path: &'a str) -> FileSource<'a, F>
+        ensures { result.faults ≡ 0 }
+    {
         FileSource {
             files: rt,
             path,
@@ -69,7 +86,7 @@ impl<'a, F: Files> FileSource<'a, F> {
             self.file = Some(fs::open(self.files, self.path)?);
         }
         match &mut self.file {
-            Some(file) => file.read(buf),
+            Some(file) => read_again(file, buf),
             None => Ok(0),
         }
     }
@@ -100,7 +117,9 @@ pub struct StdoutSink<'a, P> {
 
 impl<'a, P: Print> StdoutSink<'a, P> {
     /// Writes nothing yet.
-    pub fn new(rt: &'a P) -> StdoutSink<'a, P> {
+    pub fn new(rt: &'a P) -> StdoutSink<'a, P>
+        ensures { result.faults ≡ 0 }
+    {
         StdoutSink {
             output: rt,
             faults: 0,

@@ -1,9 +1,11 @@
 ghost use Rattle.std.specs.Prelude.{◌≡◌, ◌≤◌, ℕ, length, vec_len, None};
 
+use crate::standard::read_again;
 use crate::*;
 use std::alloc::Global;
-use std::fs;
+use std::io::{ErrorKind, Read};
 use std::test::Fail;
+use std::{fs, io};
 
 /// Gives its bytes in pieces of at most so many, and fails once, before the call with that number.
 #[derive(Drop)]
@@ -166,6 +168,31 @@ fn reads_standard_input(rt: HostRuntime) {
     let mut buf = [0; 4];
     let read = StdinSource::new(&rt).read(&mut buf);
     assert!(rt; read.is_ok(), "standard input is empty in a test: {read:?}");
+}
+
+// A reader that so many signals interrupt before it gives its letters.
+#[derive(Drop)]
+struct Signals {
+    left: u8,
+}
+
+impl Read for Signals {
+    fn read(&mut self, buf: &mut [u8]) -> io::Result<usize> {
+        if self.left > 0 {
+            self.left -= 1;
+            return Err(ErrorKind::Interrupted.into());
+        }
+        buf.fill(b'a');
+        Ok(buf.len())
+    }
+}
+
+#[test]
+fn reads_again_after_signals(rt: HostRuntime) -> Result<(), Fail> {
+    let mut buf = [0; 3];
+    assert_eq!(rt; read_again(&mut Signals { left: 2 }, &mut buf)?, 3);
+    assert_eq!(rt; buf, *b"aaa");
+    Ok(())
 }
 
 #[test]

@@ -1,12 +1,12 @@
 -- Why lines build one thing.
-use Rattle.std.proofs.Common.{◌≡◌, ◌≢◌, ℕ, zero, suc, ◌+◌, ◌<◌, ◌≤◌, List, [], ◌∷◌, length, get_or, take, Option, Some, None, Result, Ok, Err, refl, ap, sym, subst, ◌∙◌, inl, inr, arith}
+use Rattle.std.proofs.Common.{◌≡◌, ◌≢◌, ℕ, zero, suc, ◌<◌, List, [], ◌∷◌, length, get_or, take, Some, Ok, Err, refl, ap, sym, subst, ◌∙◌, inl, inr, arith}
 use Rattle.std.proofs.lemmas.Bool.{cases_lt, cases_eq}
 use Rattle.std.proofs.lemmas.List.{length-take-le, get_or-take, get_or_default, take-take}
 use Rattle.std.specs.List.{AllZip}
 use Rattle.std.specs.Prelude.{slice_get, Any, Contains, AllPairs}
 use Rattle.store_spec.specs.Ballot.{Ballot, IsBallotSet}
 use Rattle.store_spec.specs.BallotLine.{Spells, IsRecordLine, IsLineOf}
-use Rattle.store_spec.specs.Build.{BuiltFrom, IsSetOf, IsFirstBad, IsRefused, Reason}
+use Rattle.store_spec.specs.Build.{IsSetOf, IsFirstBad, IsRefused, Reason}
 use Rattle.store_spec.specs.Build.Reason.{Malformed, Invalid, Duplicate, Conflict, Full}
 use Rattle.store_spec.specs.BuildLaws.{BuildOneWay}
 use Rattle.store_spec.specs.Election.{Election}

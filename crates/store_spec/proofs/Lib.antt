@@ -14,3 +14,8 @@ pub mod ValidMarks
 pub mod DiskMoments
 pub mod TornBytes
 pub mod BuildLaws
+pub mod Lookups
+pub mod Images
+pub mod BallotNumbers
+pub mod FirstLine
+pub mod LineFronts

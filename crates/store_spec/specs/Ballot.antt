@@ -1,5 +1,5 @@
 -- A cast ballot as the store keeps it, and what a store may hold.
-use Rattle.std.specs.Prelude.{◌≡◌, ◌≢◌, ℕ, ◌+◌, ◌-◌, ◌^◌, ◌<◌, ◌≤◌, ◌==◌, List, length, map, find, All, AllPairs, Option, slice_index}
+use Rattle.std.specs.Prelude.{◌≡◌, ◌≢◌, ℕ, ◌-◌, ◌^◌, ◌<◌, ◌≤◌, ◌==◌, List, length, map, find, All, AllPairs, Option, slice_index}
 use Rattle.store_spec.specs.Election.{Election, choices_on}
 
 -- A number, a style, and the mark sets: in that of contest k bit c - 1 stands for choice c.
@@ -13,8 +13,8 @@ pub record Ballot : Type 0 where
 abbrev pub HasMarks : Election → ℕ → List ℕ → Type 0
 HasMarks e style marks = (k : ℕ) → 1 ≤ k → k ≤ 16 → slice_index marks (k - 1) < 2 ^ choices_on e style k
 
--- The number is not 0, the style is one of the election's, and the mark sets fit. More marks than
--- allowed are valid: they are an overvote.
+-- The number is not 0, the style is one of the election's, and the mark sets fit. A ballot that marks more than a
+-- contest allows is valid: an overvote.
 pub record IsValid (e : Election) (b : Ballot) : Type 0 where
   pub some_number : 1 ≤ b.number
   pub short_number : b.number < 2 ^ 64

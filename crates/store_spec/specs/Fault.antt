@@ -1,6 +1,6 @@
 -- Faults of the outside: when a call on a source, a sink or a disk may answer that it failed.
 -- Each such object counts its faults. The count never falls, and stays at 2 ^ 64 - 1 once it is there.
-use Rattle.std.specs.Prelude.{ℕ, ◌<◌, ◌≤◌}
+use Rattle.std.specs.Prelude.{ℕ, ◌<◌}
 
 -- the last value of a count
 abbrev pub LAST_COUNT : ℕ

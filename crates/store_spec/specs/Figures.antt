@@ -1,7 +1,7 @@
 -- Worked figures of the definitions, under the example election.
-use Rattle.std.specs.Prelude.{◌≡◌, ℕ, List, [], ◌∷◌}
+use Rattle.std.specs.Prelude.{◌≡◌, ℕ, ◌+◌, ◌*◌, [], ◌∷◌, ◌++◌, replicate, codes}
 use Rattle.store_spec.specs.Ballot.{Ballot}
-use Rattle.store_spec.specs.Election.{Election, example, cell_count, cell_size, bank_size, medium_size}
+use Rattle.store_spec.specs.Election.{example, cell_count, cell_size, bank_size, medium_size}
 use Rattle.store_spec.specs.Home.{home_of}
 use Rattle.store_spec.specs.Image.{image_of}
 use Rattle.store_spec.specs.Input.{lines_of}
@@ -29,6 +29,18 @@ pub record ExampleSizes : Type 0 where
 pub record ExampleLayout : Type 0 where
   pub is : layout_of (home_of 3 0) 16 (1 ∷ 9 ∷ 14 ∷ []) ≡ 0 ∷ 0 ∷ 0 ∷ 0 ∷ 9 ∷ 14 ∷ 1 ∷ 0 ∷ 0 ∷ 0 ∷ 0 ∷ 0 ∷ 0 ∷ 0 ∷ 0 ∷ 0 ∷ []
 
--- a 7, b 8, an empty line, and a last line with no end
+-- a ballot of style 1, with these marks in the two contests of the example
+abbrev pub example_ballot : ℕ → ℕ → ℕ → Ballot
+example_ballot number first second = record { number = number; style = 1; marks = first ∷ second ∷ replicate 14 0 }
+
+-- ballot 9 marks choice 1 of contest 1, ballot 14 choice 2 of contest 2, and ballot 1 choice 2 and choices 1 and 3
+pub record ExampleImage : Type 0 where
+  pub is : image_of example (example_ballot 9 1 0 ∷ example_ballot 14 0 2 ∷ example_ballot 1 2 5 ∷ [])
+      ≡ codes "HIBSTORE" ++ 0 ∷ 1 ∷ 3 ∷ 2 ∷ 0 ∷ 0 ∷ 0 ∷ 8 ∷ replicate (16 + 4 * 17) 0
+      ++ replicate 7 0 ++ 9 ∷ 1 ∷ 0 ∷ 0 ∷ 0 ∷ 1 ∷ 0 ∷ 0 ∷ 0 ∷ 0
+      ∷ replicate 7 0 ++ 14 ∷ 1 ∷ 0 ∷ 0 ∷ 0 ∷ 0 ∷ 0 ∷ 0 ∷ 0 ∷ 2
+      ∷ replicate 7 0 ++ 1 ∷ 1 ∷ 0 ∷ 0 ∷ 0 ∷ 2 ∷ 0 ∷ 0 ∷ 0 ∷ 5 ∷ replicate (9 * 17) 0
+
+-- the lines `a`, `bc`, an empty one, and `d`, which has no end
 pub record ExampleLines : Type 0 where
   pub is : lines_of (97 ∷ 10 ∷ 98 ∷ 99 ∷ 10 ∷ 10 ∷ 100 ∷ []) ≡ (97 ∷ []) ∷ (98 ∷ 99 ∷ []) ∷ [] ∷ (100 ∷ []) ∷ []

@@ -1,5 +1,5 @@
 -- The bytes of a bank: a header, and the cells of the layout in order. All numbers are big-endian.
-use Rattle.std.specs.Prelude.{ℕ, List, [], ◌∷◌, ◌++◌, length, take, replicate, flat_map, codes}
+use Rattle.std.specs.Prelude.{ℕ, List, ◌++◌, length, take, replicate, flat_map, codes}
 use Rattle.std.specs.Int.{to_be_bytes, w8, w16, w32, w64}
 use Rattle.std.specs.Option.{option_map_or}
 use Rattle.store_spec.specs.Ballot.{Ballot, ballot_of, numbers_of}

@@ -34,8 +34,8 @@ abbrev pub ended_lines : List ℕ → List (List ℕ)
 ended_lines [] = []
 ended_lines (byte ∷ bytes) = if byte == LINE_END then [] ∷ ended_lines bytes else continued byte (ended_lines bytes)
 
--- The lines that are taken of a text where so many bytes may be: all of a text that has no more, else those that end
--- within so many.
+-- The lines that are taken of a text of which only so many bytes are cut: all of a text that has no more, else those
+-- that end within so many.
 abbrev pub lines_within : ℕ → List ℕ → List (List ℕ)
 lines_within room bytes = if nat_le (length bytes) room then lines_of bytes else ended_lines (take room bytes)
 

@@ -1,5 +1,5 @@
 -- Where the numbers of a set stand: linear probing by priority, which is history-independent
--- (Blelloch and Golovin, FOCS 2007). A greater number has the higher priority, and 0 is the empty cell.
+-- (Blelloch and Golovin, FOCS 2007). Of two numbers the greater comes first, and 0 is an empty cell.
 use Rattle.std.specs.Prelude.{◌≡◌, ◌≢◌, ℕ, zero, suc, ◌<◌, ◌≤◌, nat_le, ◌==◌, if◌then◌else◌, List, [], ◌∷◌, ◌+◌, ◌-◌, length, replicate, filter, not, slice_index, All, AllPairs, Contains}
 
 -- the numbers of a list in ascending order
@@ -23,7 +23,7 @@ laid_out home count [] = replicate count 0
 laid_out home count (v ∷ greater) = placed v (home v) (laid_out home count greater)
 
 -- The layout of a set of numbers, listed in any order: they are taken from the greatest down, and each goes into
--- the first empty cell at or after its home.
+-- the first cell from its home on that is still empty.
 abbrev pub layout_of : (ℕ → ℕ) → ℕ → List ℕ → List ℕ
 layout_of home count numbers = laid_out home count (ascending numbers)
 

@@ -9,6 +9,7 @@ pub mod Fault
 pub mod Figures
 pub mod Home
 pub mod Image
+pub mod ImageLaws
 pub mod Input
 pub mod Layout
 pub mod LineLaws

@@ -3,10 +3,11 @@
 
 pub mod build;
 mod disk;
+pub mod image;
 pub mod layout;
 pub mod line_laws;
 
-ghost use Rattle.store_spec.specs.Figures.{ExampleHomes, ExampleSizes, ExampleLayout, ExampleLines};
+ghost use Rattle.store_spec.specs.Figures.{ExampleHomes, ExampleSizes, ExampleLayout, ExampleImage, ExampleLines};
 
 pub use disk::{torn_again, torn_range, written_range};
 
@@ -23,6 +24,11 @@ pub fn example_sizes()
 /// Where three numbers stand under the example election.
 pub fn example_layout()
     ensures { ExampleLayout }
+{}
+
+/// The image of three ballots under the example election.
+pub fn example_image()
+    ensures { ExampleImage }
 {}
 
 /// How a text is cut into lines.

@@ -8,6 +8,7 @@ use Rattle.ballot_store_cli.proofs.election.read_text.Given as goal
 abbrev pub invariant-pieces : goal.invariant-pieces
 invariant-pieces g l = record {
   text : IfTold (g.E.Source.left l.initial.source) (g.E.Source.left l.source) (λ whole left. HasTaken l.text.items whole left);
+  few : length l.text.items ≤ ELECTION_LIMIT + 1;
   size : l.piece.len ≡ 65536;
   faults : g.E.Source.faults l.initial.source ≤ g.E.Source.faults l.source;
 }

@@ -1,8 +1,8 @@
-use Rattle.std.proofs.Common.{◌++◌, Err, subst, sym, ◌∙◌, arith}
+use Rattle.std.proofs.Common.{◌++◌, Err, ap, subst, sym, ◌∙◌, arith}
 use Rattle.ballot_record.specs.LineWhy.{reason}
 use Rattle.ballot_store_cli.specs.Ballots.{ballots_so_far, Judges}
 use Rattle.ballot_store_cli.specs.declared.ballots.Refusal.{Refusal}
-use Rattle.ballot_store_cli.proofs.Reading.{HasRead, has_read_start, told_first, told_read, told_refused, told_wide, told_all, told_too_much}
+use Rattle.ballot_store_cli.proofs.Reading.{HasRead, has_read_start, told_first, told_read, told_refused, told_wide, told_all, told_fault, told_too_much}
 use Rattle.ballot_store_cli.proofs.script.read_ballots.Goals as goal
 
 pub lines-init : goal.lines-init
@@ -46,4 +46,8 @@ returns-in-Ok-End-clause-reads g c =
 
 pub returns-in-Err-TooLong-clause-reads : goal.returns-in-Err-TooLong-clause-reads
 returns-in-Err-TooLong-clause-reads g c =
-    told_too_much (g.S.Source.left c.args.script.now) (g.S.Source.left c.lines.script) (g.S.Source.left c.next_line.new.source) c.args.election.now c.lines.lines c.next_line.new.self c.in-Err-TooLong.field-0 c.lines.count (ballots_so_far c.lines.ballots) c.lines.invariant.read c.lines.invariant.sound.set c.in-Err-TooLong.field-0-is c.in-Err-TooLong.ensures.answers
+    told_too_much (g.S.Source.left c.args.script.now) (g.S.Source.left c.lines.script) (g.S.Source.left c.next_line.new.source) c.args.election.now c.lines.lines c.next_line.new.self c.in-Err-TooLong.field-0 c.lines.count (ballots_so_far c.lines.ballots) c.lines.invariant.read c.lines.invariant.sound.set c.in-Err-TooLong.field-0-is c.in-Err-TooLong.ensures.answers c.in-Err-TooLong.ensures.kept
+
+pub returns-in-Err-ReadFault-clause-reads : goal.returns-in-Err-ReadFault-clause-reads
+returns-in-Err-ReadFault-clause-reads g c =
+    told_fault (g.S.Source.left c.args.script.now) (g.S.Source.left c.lines.script) (g.S.Source.left c.next_line.new.source) c.args.election.now c.lines.lines c.next_line.new.self c.in-Err-ReadFault.field-0 c.lines.count (ballots_so_far c.lines.ballots) c.lines.invariant.read c.lines.invariant.sound.set c.in-Err-ReadFault.field-0-is c.in-Err-ReadFault.ensures.answers (c.in-Err-ReadFault.ensures.none_whole (ap (λ fault. Err fault) c.in-Err-ReadFault.field-0-is))

@@ -1,6 +1,7 @@
 use Rattle.std.proofs.Common.{◌≡◌, ◌++◌, List, subst, sym, ap, ◌∙◌, rules}
 use Rattle.ballot_record.specs.Record.{ballot}
-use Rattle.body_store.proofs.BallotSets.{cells_of-IsPermutation, stored_in_order}
+use Rattle.body_store.proofs.BallotSets.{stored_in_order}
+use Rattle.store_spec.proofs.Images.{cells_of-IsPermutation}
 use Rattle.body_store.proofs.Closed.merged.Goals as goal
 use Rattle.body_store.proofs.Numbers.{numbers_rise}
 use Rattle.body_store.specs.Contents.{Contents, ballots_of}

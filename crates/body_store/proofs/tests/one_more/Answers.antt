@@ -1,6 +1,7 @@
 use Rattle.std.proofs.Common.{◌≡◌, ◌++◌, List, [], ◌∷◌, map, sym, ap, ◌∙◌, subst, rules}
 use Rattle.ballot_record.specs.Record.{ballot}
-use Rattle.body_store.proofs.BallotSets.{cells_of-IsPermutation, set-IsPermutation}
+use Rattle.body_store.proofs.BallotSets.{set-IsPermutation}
+use Rattle.store_spec.proofs.Images.{cells_of-IsPermutation}
 use Rattle.body_store.proofs.Blank.{blank}
 use Rattle.body_store.proofs.tests.one_more.Goals as goal
 use Rattle.body_store.specs.Contents.{ballots_of}

@@ -1,12 +1,11 @@
-use Rattle.std.proofs.Common.{rules, ◌≡◌, ℕ, ◌+◌, ◌-◌, ◌≤◌, ◌<◌, List, ◌++◌, length, take, drop, replicate, refl, ap, sym, ◌∙◌, subst, inl, inr, arith}
+use Rattle.std.proofs.Common.{◌≡◌, ◌+◌, ◌-◌, ◌≤◌, ◌<◌, length, take, refl, ap, sym, ◌∙◌, subst, inl, inr, arith}
 use Rattle.std.proofs.lemmas.Bool.{cases_lt}
 use Rattle.std.proofs.lemmas.List.{length-take-le, take_all}
 use Rattle.std.specs.Prelude.{slice_range}
-use Rattle.store_spec.specs.Input.{LINE_LIMIT, first_width, SCRIPT_LIMIT, IsTooLong}
-use Rattle.outside_io.specs.Lines.{Finds, IsAnswerFor, CutsOff, StaysSame}
+use Rattle.store_spec.specs.Input.{LINE_LIMIT, first_width, IsTooLong}
+use Rattle.outside_io.specs.Lines.{IsAnswerFor, CutsOff, StaysSame}
 use Rattle.outside_io.specs.Window.{Kept, kept_of, window_of}
 use Rattle.outside_io.specs.declared.lines.NextLine.{NextLine}
-use Rattle.outside_io.specs.declared.lines.NextLine.TheVariants.{Whole, TooWide}
 use Rattle.outside_io.proofs.Windows.{measured, behind_cut, line_cut}
 use Rattle.outside_io.proofs.lines.Lines.cut.Goals as goal
 use Rattle.outside_io.proofs.lines.Lines.cut.Goals.{else-length-kept-via-then-length-kept+else-width-self, else-length-kept-via-else-length-kept}
@@ -21,8 +20,8 @@ overflow_add-width c =
     let m = measured c.self.inside c.deref.result.now c.line_width.result c.self.invariant c.deref.ensures.value (c.deref.ensures.len ∙ c.self.invariant.size) c.line_width.ensures in
     omega (arith, m.found, m.short, c.self.invariant.within, c.self.invariant.counted, c.self.invariant.limited)
 
-pub returns-then-width-self : goal.returns-then-width-self
-returns-then-width-self c =
+pub returns-then-width-self-clause-finds : goal.returns-then-width-self-clause-finds
+returns-then-width-self-clause-finds c =
     let a = c.self.inside in
     let m = measured a c.deref.result.now c.line_width.result c.self.invariant c.deref.ensures.value (c.deref.ensures.len ∙ c.self.invariant.size) c.line_width.ensures in
     let text = (kept_of a).text in
@@ -51,8 +50,8 @@ returns-then-width-self c =
       room = omega arith;
     })
 
-pub returns-then-self-kept : goal.returns-then-self-kept
-returns-then-self-kept c =
+pub returns-then-self-kept-clause-finds : goal.returns-then-self-kept-clause-finds
+returns-then-self-kept-clause-finds c =
     let a = c.self.inside in
     let m = measured a c.deref.result.now c.line_width.result c.self.invariant c.deref.ensures.value (c.deref.ensures.len ∙ c.self.invariant.size) c.line_width.ensures in
     let P : Kept → Type 0 = λ old. IsTooLong old.text old.room × StaysSame old old in
@@ -89,8 +88,8 @@ invariant_of-self-2 c =
       limited = i.limited;
     }
 
-pub returns : goal.returns
-returns c =
+pub returns-clause-finds : goal.returns-clause-finds
+returns-clause-finds c =
     let a = c.self.inside in
     let i = c.self.invariant in
     let m = measured a c.deref.result.now c.line_width.result i c.deref.ensures.value (c.deref.ensures.len ∙ i.size) c.line_width.ensures in

@@ -1,9 +1,7 @@
 -- The ballot with a number, whichever way the ballots are listed.
 use Rattle.std.proofs.Common.{◌≡◌, ◌≢◌, ℕ, zero, suc, ◌⊎◌, inl, inr, ⊎_elim, List, [], ◌∷◌, get_or, Option, Some, None, refl, sym, ap, ◌∙◌, arith}
 use Rattle.std.proofs.lemmas.Bool.{cond-true, cond-false, eq-eqb, ne_eqb, cases_eq}
-use Rattle.std.proofs.lemmas.List.Sorted.{Contains-permutation, IsPermutation-sym}
 use Rattle.std.specs.List.{AllPairs, Contains}
-use Rattle.std.specs.List.Sorted.{IsPermutation}
 use Rattle.store_spec.specs.Ballot.{Ballot, ballot_of}
 
 pub option_cases : {A : Type 0} (o : Option A) → (o ≡ None) ⊎ ((x : A) × (o ≡ Some x))
@@ -59,16 +57,20 @@ found_once (x ∷ ballots) number b distinct (suc i, lt, is) e =
     further x ballots number (λ same. apart (same ∙ sym numbers))
     ∙ found_once ballots number b (λ j k d less within. distinct (suc j) (suc k) d (omega arith) (omega arith)) (i, omega arith, is) e
 
+-- each ballot of one list is in the other
+abbrev pub AreAmong : List Ballot → List Ballot → Type 0
+AreAmong xs ys = (b : Ballot) → Contains xs b → Contains ys b
+
 -- the order does not matter
-pub ballot_of-IsPermutation : (xs ys : List Ballot) (number : ℕ) → AreDistinct xs → IsPermutation xs ys → ballot_of xs number ≡ ballot_of ys number
-ballot_of-IsPermutation xs ys number distinct p = ⊎_elim
+pub ballot_of-same : (xs ys : List Ballot) (number : ℕ) → AreDistinct xs → AreAmong xs ys → AreAmong ys xs → ballot_of xs number ≡ ballot_of ys number
+ballot_of-same xs ys number distinct there back = ⊎_elim
     (λ (none : ballot_of ys number ≡ None). ⊎_elim
     (λ (also : ballot_of xs number ≡ None). also ∙ sym none)
     (λ some.
     let found = found_in xs number some.0 some.1 in
-    absurd (missing_from ys number none some.0 (Contains-permutation xs ys some.0 p found.0) found.1))
+    absurd (missing_from ys number none some.0 (there some.0 found.0) found.1))
     (option_cases (ballot_of xs number)))
     (λ some.
     let found = found_in ys number some.0 some.1 in
-    found_once xs number some.0 distinct (Contains-permutation ys xs some.0 (IsPermutation-sym xs ys p) found.0) found.1 ∙ sym some.1)
+    found_once xs number some.0 distinct (back some.0 found.0) found.1 ∙ sym some.1)
     (option_cases (ballot_of ys number))

@@ -1,9 +1,9 @@
 -- The first line of a text, and the lines behind it.
-use Rattle.std.proofs.Common.{◌≡◌, ℕ, zero, suc, ◌+◌, ◌-◌, ◌<◌, ◌≤◌, Bool, true, false, not, cond, eqb, leb, List, [], ◌∷◌, ◌++◌, length, take, drop, map, replicate, Option, Some, None, refl, ap, sym, ◌∙◌, subst, arith, length-append}
+use Rattle.std.proofs.Common.{◌≡◌, ℕ, zero, suc, ◌+◌, ◌-◌, ◌<◌, ◌≤◌, Bool, true, false, not, cond, eqb, List, [], ◌∷◌, ◌++◌, length, take, drop, replicate, refl, ap, sym, ◌∙◌, arith}
 use Rattle.std.proofs.Common.{inl, inr, le-leb, length-drop}
 use Rattle.std.proofs.lemmas.Bool.{cases_lt, lt-leb}
-use Rattle.std.proofs.lemmas.List.{take_at, drop_at, take_all, drop_all, take-take, drop-take, length-take-le, length-replicate}
-use Rattle.store_spec.specs.Input.{LINE_END, LINE_LIMIT, begun_with, continued, lines_of, ended_lines, lines_within, first_width, IsTooLong}
+use Rattle.std.proofs.lemmas.List.{take_all, drop_all, take-take, drop-take, length-take-le}
+use Rattle.store_spec.specs.Input.{LINE_END, begun_with, continued, lines_of, ended_lines, lines_within, first_width, IsTooLong}
 
 -- the width of a line that begins with this byte
 abbrev width_of : Bool → ℕ → ℕ
@@ -123,10 +123,10 @@ ended_lines-none (b ∷ text) none =
 
 -- ---- the lines within a room
 
-all_within : (room : ℕ) (text : List ℕ) → length text ≤ room → lines_within room text ≡ lines_of text
+pub all_within : (room : ℕ) (text : List ℕ) → length text ≤ room → lines_within room text ≡ lines_of text
 all_within room text within = ap (λ test. cond test (lines_of text) (ended_lines (take room text))) (le-leb (length text) room within)
 
-front_within : (room : ℕ) (text : List ℕ) → room < length text → lines_within room text ≡ ended_lines (take room text)
+pub front_within : (room : ℕ) (text : List ℕ) → room < length text → lines_within room text ≡ ended_lines (take room text)
 front_within room text more = ap (λ test. cond test (lines_of text) (ended_lines (take room text))) (lt-leb (length text) room more)
 
 within_ended : (room : ℕ) (text : List ℕ) → first_width text < length text → first_width text < room → lines_within room text ≡ take (first_width text) text ∷ lines_within (room - (first_width text + 1)) (drop (first_width text + 1) text)
