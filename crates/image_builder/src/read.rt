@@ -2,7 +2,7 @@
 
 ghost use Rattle.body_store.specs.Contents.{IsStored, ballots_of};
 ghost use Rattle.image_builder.specs.Reaches.{AreReaches, IsReach};
-ghost use Rattle.image_builder.specs.Reading.{ReadsAs};
+ghost use Rattle.image_builder.specs.Reading.{BankReadsAs};
 ghost use Rattle.std.specs.Prelude.{◌≡◌, ◌≢◌, ◌+◌, ◌*◌, ◌<◌, ◌≤◌, ◌↔◌, List, drop, length, take, AllPairs, IfOk, IfErr, IfSome, IsSome, MatchResult};
 ghost use Rattle.store_spec.specs.Ballot.{Ballot, IsBallotSet};
 ghost use Rattle.store_spec.specs.Election.{bank_size, cell_count, cell_size};
@@ -64,7 +64,7 @@ impl<T: Drop> From<AllocFailed<T>> for ImageFault {
 /// The store whose image the bytes of a bank are. It is never the empty store where they are the image of none.
 pub fn read_image(alloc: Global, bytes: &[u8], election: &Election) -> Result<Closed, ImageFault>
     requires { length bytes.now ≡ bank_size election.now }
-    ensures reads { ReadsAs (λ store. store.ballots) election.now bytes.now result }
+    ensures reads { BankReadsAs (λ store. store.ballots) election.now bytes.now result }
     ensures election { IfOk result (λ store. store.election ≡ election.now) }
     ensures stored { IfOk result IsStored }
 
@@ -96,7 +96,7 @@ fn check_header(bytes: &[u8], election: &Election) -> Result<(), ImageFault>
 fn read_cells(alloc: Global, bank: &[u8], election: &Election) -> Result<Vec<Record>, ImageFault>
     requires long { length bank.now ≡ bank_size election.now }
     requires header { take 32 bank.now ≡ header_of election.now }
-    ensures { ReadsAs (λ records. ballots_of records.items) election.now bank.now result }
+    ensures { BankReadsAs (λ records. ballots_of records.items) election.now bank.now result }
 {
     let limit = election.limit() as usize;
     let mut numbers = Vec::with_capacity(alloc, election.cells())?;

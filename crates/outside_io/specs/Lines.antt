@@ -23,7 +23,7 @@ pub record HandsNothing (text : List ℕ) (room : ℕ) : Type 0 where
   pub empty : text ≡ []
 
 -- no further line ends within the room, and there are more bytes
-pub record HasTooMuch (text : List ℕ) (room : ℕ) : Type 0 where
+pub record HasNoFurtherLine (text : List ℕ) (room : ℕ) : Type 0 where
   pub lines : taken_within room text ≡ []
   pub too_long : IsTooLong text room
 
@@ -39,7 +39,7 @@ abbrev pub Answers : Result NextLine LineEndFault → List ℕ → ℕ → Kept 
 Answers (Ok Whole) text room now rest = HandsOut (Some now.line) text room rest now.room
 Answers (Ok TooWide) text room now rest = HandsOut None text room rest now.room
 Answers (Ok End) text room now rest = HandsNothing text room × (rest ≡ []) × (now.room ≡ room)
-Answers (Err TooLong) text room now rest = HasTooMuch text room × LooksLike text rest × IsTooLong now.text now.room × (now.room ≡ room)
+Answers (Err TooLong) text room now rest = HasNoFurtherLine text room × LooksLike text rest × IsTooLong now.text now.room × (now.room ≡ room)
 Answers (Err ReadFault) text room now rest = LooksLike text rest × (now.room ≡ room)
 
 -- a relation of the bytes that a source has left before and after, which it tells both times or never

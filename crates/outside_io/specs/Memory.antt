@@ -38,5 +38,5 @@ abbrev pub sink_faults : MemorySink → ℕ
 sink_faults sink = sink.faults
 
 -- a call with these bytes fails: its number is one of those that are to fail, or there is no room for them
-abbrev pub IsRefused : MemorySink → List ℕ → Type 0
-IsRefused sink bytes = Contains (sink_failing sink) (next_call (sink_calls sink)) ⊎ (sink_room sink < length (sink_taken sink) + length bytes)
+abbrev pub IsFailing : MemorySink → List ℕ → Type 0
+IsFailing sink bytes = Contains (sink_failing sink) (next_call (sink_calls sink)) ⊎ (sink_room sink < length (sink_taken sink) + length bytes)

@@ -126,7 +126,7 @@ impl MemorySink {
 }
 
 impl Sink for MemorySink {
-    ghost use Rattle.outside_io.specs.Memory.{sink_taken, sink_room, sink_calls, sink_failing, sink_faults, next_call, IsRefused};
+    ghost use Rattle.outside_io.specs.Memory.{sink_taken, sink_room, sink_calls, sink_failing, sink_faults, next_call, IsFailing};
 
     ghost taken = { λ sink. Some (sink_taken sink) };
 
@@ -140,7 +140,7 @@ impl Sink for MemorySink {
         ensures faults { sink_faults self.old ≤ sink_faults self.new }
 
         // It fails exactly at the calls that it was told, and where there is no room.
-        ensures fails { IsErr result ↔ IsRefused self.old bytes.now }
+        ensures fails { IsErr result ↔ IsFailing self.old bytes.now }
         ensures room { sink_room self.new ≡ sink_room self.old }
         ensures failing { sink_failing self.new ≡ sink_failing self.old }
         ensures calls { sink_calls self.new ≡ next_call (sink_calls self.old) }

@@ -3,6 +3,7 @@ ghost use Rattle.std.specs.Prelude.{◌≡◌, ◌≤◌, ℕ, length, vec_len, 
 use crate::standard::read_again;
 use crate::*;
 use std::alloc::Global;
+use std::fmt::Display;
 use std::io::{ErrorKind, Read};
 use std::test::Fail;
 use std::{fs, io};
@@ -218,4 +219,26 @@ fn reads_a_file(rt: HostRuntime) -> Result<(), Fail> {
 fn writes_standard_output(rt: HostRuntime) {
     let written = StdoutSink::new(&rt).write_all(b"written by a test\n");
     assert_eq!(rt; written, Ok(()));
+}
+
+// An output that is closed.
+struct Closed;
+
+impl Print for Closed {
+    fn print<D: Display + Drop>(&self, _: D) -> io::Result<()> {
+        Err(ErrorKind::BrokenPipe.into())
+    }
+
+    fn println<D: Display + Drop>(&self, _: D) -> io::Result<()> {
+        Err(ErrorKind::BrokenPipe.into())
+    }
+
+    fn write_all(&self, _: &[u8]) -> io::Result<()> {
+        Err(ErrorKind::BrokenPipe.into())
+    }
+}
+
+#[test]
+fn tells_that_an_output_is_closed(rt: HostRuntime) {
+    assert_eq!(rt; StdoutSink::new(&Closed).write_all(b"a"), Err(Failed));
 }
