@@ -6,6 +6,7 @@ use Rattle.serde_json.specs.Data.{Data}
 use Rattle.serde_json.specs.Find.{get, as_array, as_str}
 use Rattle.serde_json.specs.Read.{read}
 use Rattle.store_spec.specs.Election.{Contest, Election}
+use Rattle.election_def.proofs.Salts.{one_salt}
 use Rattle.election_def.specs.Text.{listed, number_in, number_at, contest_set, IsArrayOf, IsContestIn, IsStyleIn, IsSaltText, IsElectionIn, DescribeOne}
 use Rattle.ballot_record.specs.Contest.{contests_of}
 use Rattle.ballot_record.specs.declared.contest.Contest as program
@@ -52,7 +53,7 @@ same_parts d e f x y =
     let styles : e.styles ≡ f.styles = both (get (codes "styles") d) _ _ (subst P contests x.styles) y.styles (λ v a b. one_array (IsStyleIn (length f.contests)) (one_style (length f.contests)) v e.styles f.styles a b) in
     let limit : e.limit ≡ f.limit = same_number (number_at (codes "limit") d) e.limit f.limit x.limit y.limit in
     let bits : e.bits ≡ f.bits = same_number (number_at (codes "bits") d) e.bits f.bits x.bits y.bits in
-    let salt : e.salt ≡ f.salt = both (option_and_then as_str (get (codes "salt") d)) _ _ x.salt y.salt (λ text a b. a.number ∙ sym b.number) in
+    let salt : e.salt ≡ f.salt = both (option_and_then as_str (get (codes "salt") d)) _ _ x.salt y.salt (λ text a b. one_salt text _ _ a b) in
     let step_1 : ◌≡◌ {A = Election} e (record e { contests = f.contests; styles = f.styles }) = ap₂ (λ (c : List Contest) (s : List ℕ). let g : Election = record e { contests = c; styles = s } in g) contests styles in
     let step_2 : ◌≡◌ {A = Election} (record e { contests = f.contests; styles = f.styles }) (record f { salt = e.salt }) = ap₂ (λ (l b : ℕ). let g : Election = record f { limit = l; bits = b; salt = e.salt } in g) limit bits in
     step_1 ∙ step_2 ∙ ap (λ (s : ℕ). let g : Election = record f { salt = s } in g) salt

@@ -1,7 +1,7 @@
 -- The election that a text describes: rules on the value that `serde_json` reads of the text.
 --
 -- In that value an object has each key once: of a key that stands twice in the text the last one counts.
-use Rattle.std.specs.Prelude.{◌≡◌, ℕ, ◌-◌, ◌*◌, ◌+◌, ◌^◌, ◌≤◌, ◌⊎◌, List, [], ◌∷◌, length, codes, All, Contains, sum_by, fold, if◌then◌else◌, nat_lt, Option, Some, IsSome, IsSomeAnd, IsUtf8, option_and_then}
+use Rattle.std.specs.Prelude.{◌≡◌, ℕ, ◌-◌, ◌/◌, ◌%◌, ◌^◌, ◌<◌, ◌≤◌, ◌⊎◌, List, [], ◌∷◌, length, codes, All, Contains, sum_by, slice_index, if◌then◌else◌, nat_lt, Option, Some, IsSome, IsSomeAnd, IsUtf8, option_and_then}
 use Rattle.std.specs.List.{AllZip}
 use Rattle.std.specs.List.Sorted.{IsStrictlyIncreasing}
 use Rattle.serde_json.specs.Data.{Data, Items, no_items, item}
@@ -62,11 +62,13 @@ IsSaltDigit c = ((48 ≤ c) × (c ≤ 57)) ⊎ ((97 ≤ c) × (c ≤ 102))
 abbrev pub salt_digit : ℕ → ℕ
 salt_digit c = if nat_lt c 58 then c - 48 else c - 87
 
--- sixteen digits, the highest first
+-- The sixteen digits of a number, the highest first: the digit at a place, from 0, stands for so many times 16 to the
+-- power 15 - place.
 pub record IsSaltText (text : List ℕ) (salt : ℕ) : Type 0 where
   pub size : length text ≡ 16
   pub digits : All IsSaltDigit text
-  pub number : salt ≡ fold (λ n c. n * 16 + salt_digit c) 0 text
+  pub short : salt < 2 ^ 64
+  pub each : (place : ℕ) → place < 16 → salt / 16 ^ (15 - place) % 16 ≡ salt_digit (slice_index text place)
 
 -- ---- an election
 

@@ -1,13 +1,13 @@
-use Rattle.std.proofs.Common.{◌≡◌, ℕ, List, length, rules, Err, Some, IsSome, sym, ap, ◌∙◌, subst, subst₂, arith, is_ok, true≢false}
-use Rattle.std.specs.Prelude.{IsSomeAnd, codes}
+use Rattle.std.proofs.Common.{◌≡◌, ℕ, List, length, rules, Err, Option, Some, IsSome, sym, ap, ◌∙◌, subst, subst₂, arith, is_ok, true≢false}
+use Rattle.std.specs.Prelude.{IsSomeAnd, codes, option_and_then}
 use Rattle.serde_json.specs.View.{view}
-use Rattle.serde_json.specs.Find.{get}
+use Rattle.serde_json.specs.Find.{as_str, get}
 use Rattle.store_spec.specs.Election.{IsElection}
 use Rattle.ballot_record.specs.Contest.{contests_of}
 use Rattle.ballot_record.specs.Parts.{parts_of}
 use Rattle.ballot_record.specs.declared.contest.Contest.{Contest}
 use Rattle.election_def.specs.declared.fault.ElectionFault.TheVariants.{NotElection}
-use Rattle.election_def.specs.Text.{IsArrayOf, IsContestIn}
+use Rattle.election_def.specs.Text.{IsArrayOf, IsContestIn, IsSaltText}
 use Rattle.election_def.proofs.One.{AreParts, same_contests, same_parts, no_styles, no_styles_at, are_styles, contest_count}
 use Rattle.election_def.proofs.One as one
 use Rattle.election_def.proofs.read.election_in.Goals as goal
@@ -48,3 +48,10 @@ returns-clause-none c = λ none e is.
     let P : List Contest → List ℕ → Type 0 = λ contests styles. IsElection (parts_of contests styles c.in_ok-limit.limit c.in_ok-bits.bits c.in_ok-salt.salt) in
     let some : IsSome c.from_parts.result = c.from_parts.ensures.valid.1 (subst₂ P (sym c.deref.ensures.value) (sym c.deref-2.ensures.value) valid) in
     true≢false (sym (sym (ap is_ok none) ∙ c.ok_or-7.ensures.variant ∙ some))
+
+pub returns-in_err-salt-clause-none : goal.returns-in_err-salt-clause-none
+returns-in_err-salt-clause-none c = λ none e is.
+    let text = c.in_ok-salt_text.salt_text.now in
+    let P : Option (List ℕ) → Type 0 = λ found. IsSomeAnd found (λ text. IsSaltText text e.salt) in
+    let at : Some text ≡ option_and_then as_str (get (codes "salt") (view c.args.value.now)) = search rules in
+    c.salt.ensures.none (sym c.in_err-salt.ensures.variant) e.salt (subst P (sym at) is.salt)
