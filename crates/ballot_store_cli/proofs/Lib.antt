@@ -1,3 +1,4 @@
+mod Causes
 mod Index
 mod Reading
 mod Texts

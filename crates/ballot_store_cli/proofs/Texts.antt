@@ -77,6 +77,11 @@ told_few_still a b c text few told same =
     let P : Option (List ℕ) → Type 0 = λ c. IfTold a c (GivesAtMost (ELECTION_LIMIT + 1)) in
     subst P (sym same) (told_few a b text few told)
 
+-- nothing was read
+pub told_none_given : (a : Option (List ℕ)) → IfTold a a (GivesAtMost (ELECTION_LIMIT + 1))
+told_none_given None = tt
+told_none_given (Some x) = omega arith
+
 -- the text that was read describes the election
 pub told_election : (a b : Option (List ℕ)) (text : List ℕ) (e : Election) → IfTold a b (λ whole left. IsWhole whole left × (text ≡ whole)) → Describes text e → IfTold a b (IsElectionRead e)
 told_election a b text e told describes = told_as a b (λ whole left. IsWhole whole left × (text ≡ whole)) (IsElectionRead e) (λ x y read. (read.0, subst (λ t. Describes t e) read.1 describes)) told

@@ -6,9 +6,9 @@ use Rattle.ballot_record.specs.Record.{ballot}
 use Rattle.ballot_record.specs.LineWhy.{reason}
 use Rattle.ballot_record.specs.declared.record.Record.{Record}
 use Rattle.ballot_record.specs.declared.fault.LineWhy.TheVariants.{Malformed, Invalid, Duplicate, Conflict, Full}
-use Rattle.ballot_store_cli.specs.declared.ballots.Ballots.{Ballots}
-use Rattle.ballot_store_cli.specs.declared.ballots.Refusal.{Refusal}
-use Rattle.ballot_store_cli.specs.declared.ballots.Refusal.TheVariants.{Bad, Memory}
+use Rattle.ballot_store_cli.specs.declared.build.ballots.Ballots.{Ballots}
+use Rattle.ballot_store_cli.specs.declared.build.ballots.Refusal.{Refusal}
+use Rattle.ballot_store_cli.specs.declared.build.ballots.Refusal.TheVariants.{Bad, Memory}
 use Rattle.store_spec.specs.Ballot.{Ballot, IsBallotSet}
 use Rattle.store_spec.specs.BallotLine.{Spells}
 use Rattle.store_spec.specs.Build.{IsRefused}

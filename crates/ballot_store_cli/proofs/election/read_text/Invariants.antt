@@ -10,7 +10,7 @@ invariant-pieces g l = record {
   text : IfTold (g.E.Source.left l.initial.source) (g.E.Source.left l.source) (λ whole left. HasTaken l.text.items whole left);
   few : length l.text.items ≤ ELECTION_LIMIT + 1;
   size : l.piece.len ≡ 65536;
-  faults : g.E.Source.faults l.initial.source ≤ g.E.Source.faults l.source;
+  faults : g.E.Source.faults l.source ≡ g.E.Source.faults l.initial.source;
 }
 
 -- each piece has a byte or more

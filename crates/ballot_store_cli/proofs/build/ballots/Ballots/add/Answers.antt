@@ -6,7 +6,7 @@ use Rattle.ballot_record.specs.declared.record.Record.{Record}
 use Rattle.ballot_record.specs.Record.{ballot}
 use Rattle.store_spec.specs.Ballot.{Ballot, IsBallotSet}
 use Rattle.ballot_store_cli.proofs.Index.{found, found_in, ballot_missing, index_grown, set_grown}
-use Rattle.ballot_store_cli.proofs.ballots.Ballots.add.Goals as goal
+use Rattle.ballot_store_cli.proofs.build.ballots.Ballots.add.Goals as goal
 
 abbrev record_like : Ballot → Record
 record_like b = record { number = b.number; style = b.style; marks = b.marks }

@@ -1,9 +1,9 @@
 use Rattle.std.proofs.Common.{◌++◌, Err, ap, subst, sym, ◌∙◌, arith}
 use Rattle.ballot_record.specs.LineWhy.{reason}
 use Rattle.ballot_store_cli.specs.Ballots.{ballots_so_far, Judges}
-use Rattle.ballot_store_cli.specs.declared.ballots.Refusal.{Refusal}
+use Rattle.ballot_store_cli.specs.declared.build.ballots.Refusal.{Refusal}
 use Rattle.ballot_store_cli.proofs.Reading.{HasRead, has_read_start, told_first, told_read, told_refused, told_wide, told_all, told_fault, told_too_much}
-use Rattle.ballot_store_cli.proofs.script.read_ballots.Goals as goal
+use Rattle.ballot_store_cli.proofs.build.script.read_ballots.Goals as goal
 
 pub lines-init : goal.lines-init
 lines-init g c =

@@ -7,7 +7,7 @@ ghost use Rattle.store_spec.specs.Fault.{Rose};
 ghost use Rattle.store_spec.specs.Input.{SCRIPT_LIMIT};
 ghost use Rattle.ballot_store_cli.specs.Script.{Reads};
 
-use crate::ballots::{Ballots, Refusal};
+use crate::build::ballots::{Ballots, Refusal};
 use ballot_record::{Election, LineWhy, Record};
 use outside_io::{LineEndFault, Lines, Memory, NextLine, Source};
 use std::alloc::Global;
@@ -27,7 +27,7 @@ pub enum ScriptFault {
 
 impl From<Memory> for ScriptFault {
     ghost use Rattle.std.specs.Prelude.{◌≡◌};
-    ghost use Rattle.ballot_store_cli.specs.declared.script.ScriptFault.TheVariants as faults;
+    ghost use Rattle.ballot_store_cli.specs.declared.build.script.ScriptFault.TheVariants as faults;
 
     ghost from_gives = { λ _ fault. fault ≡ faults.Memory };
 

@@ -18,7 +18,7 @@ pub enum Refusal {
 
 impl<T: Drop> From<AllocFailed<T>> for Refusal {
     ghost use Rattle.std.specs.Prelude.{◌≡◌};
-    ghost use Rattle.ballot_store_cli.specs.declared.ballots.Refusal.TheVariants.{Memory};
+    ghost use Rattle.ballot_store_cli.specs.declared.build.ballots.Refusal.TheVariants.{Memory};
 
     ghost from_gives = { λ _ refusal. refusal ≡ Memory };
 

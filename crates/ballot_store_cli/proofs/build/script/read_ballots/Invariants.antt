@@ -3,7 +3,7 @@ use Rattle.outside_io.specs.Lines.{IfTold}
 use Rattle.ballot_store_cli.specs.Ballots.{ballots_so_far, IsSound}
 use Rattle.ballot_store_cli.proofs.Reading.{HasRead}
 use Rattle.store_spec.specs.Input.{SCRIPT_LIMIT}
-use Rattle.ballot_store_cli.proofs.script.read_ballots.Given as goal
+use Rattle.ballot_store_cli.proofs.build.script.read_ballots.Given as goal
 
 -- the lines so far spell the ballots so far
 abbrev pub invariant-lines : goal.invariant-lines
