@@ -1,9 +1,9 @@
 ghost use Rattle.std.specs.Prelude.{◌≡◌, ◌-◌, ◌^◌, ◌<◌, ◌≤◌, ◌++◌, ◌↔◌, length, replicate, All, Some, IsTrue, IsSome, IfSome, slice_get};
-ghost use Rattle.store_spec.specs.Election.{IsContest, IsStyle, IsElection, choices_of, choices_on, is_on_style, cell_count, cell_size, bank_size, medium_size, example};
+ghost use Rattle.store_spec.specs.Election.{IsContest, IsContestUpTo, IsStyle, IsElection, choices_of, choices_on, is_on_style, cell_count, cell_size, bank_size, medium_size, example};
 ghost use Rattle.ballot_record.specs.Contest.{contest_of, contests_of, no_contest};
 ghost use Rattle.ballot_record.specs.Parts.{parts_of, AreContests, AreStyles};
 
-use crate::Contest;
+use crate::{Contest, MAX_CHOICES};
 use std::marker::Model;
 
 /// The most contests of an election.
@@ -52,13 +52,13 @@ impl Model for Election {
 }
 
 fn each_is_valid(contests: &[Contest]) -> bool
-    ensures { IsTrue result ↔ All (λ contest. IsContest (contest_of contest)) contests.now }
+    ensures { IsTrue result ↔ All (λ contest. IsContestUpTo MAX_CHOICES (contest_of contest)) contests.now }
 {
     contests.iter().all(|contest| contest.is_valid())
 }
 
 fn are_contests(contests: &[Contest]) -> bool
-    ensures { IsTrue result ↔ AreContests (contests_of contests.now) }
+    ensures { IsTrue result ↔ AreContests MAX_CONTESTS MAX_CHOICES (contests_of contests.now) }
 {
     let count = contests.len();
     1 <= count && count <= MAX_CONTESTS && each_is_valid(contests)
@@ -156,7 +156,7 @@ impl Election {
         requires first { 1 ≤ k }
         requires last { k ≤ length self.now.contests }
         ensures contest { slice_get self.now.contests (k - 1) ≡ Some (contest_of result) }
-        ensures valid { IsContest (contest_of result) }
+        ensures valid { IsContest self.now (contest_of result) }
     {
         let contests = &self.contests;
         contests[k - 1]

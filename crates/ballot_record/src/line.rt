@@ -108,8 +108,8 @@ fn parts(line: &[u8]) -> Option<(Record, usize)>
 /// has not a group for each contest, or its record is not valid.
 pub fn read_line(line: &[u8], election: &Election) -> Result<Record, LineFault>
     ensures read { IfOk result (λ r. Spells election.now line.now (ballot r)) }
-    ensures malformed { (result ≡ Err LineFault.Malformed) ↔ (¬ IsRecordLine line.now) }
-    ensures invalid { (result ≡ Err LineFault.Invalid) ↔ (IsRecordLine line.now × ¬ IsLineOf election.now line.now) }
+    ensures malformed { (result ≡ Err LineFault.Malformed) ↔ (¬ IsRecordLine election.now line.now) }
+    ensures invalid { (result ≡ Err LineFault.Invalid) ↔ (IsRecordLine election.now line.now × ¬ IsLineOf election.now line.now) }
 {
     let Some((record, groups)) = parts(line) else {
         return Err(LineFault::Malformed);

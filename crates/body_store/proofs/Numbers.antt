@@ -38,9 +38,3 @@ rise_from_ascending records h i j d le within = ⊎_elim
     omega arith)
     (λ (ge : j ≤ i). let same : i ≡ j = omega arith in let equal : (get_or records i d).number ≡ (get_or records j d).number = ap (λ k. (get_or records k d).number) same in omega arith)
     (cases_lt i j)
-
-pub rise_from_pairs : (ballots : List Ballot) → AllPairs (λ a b. a.number < b.number) ballots → IsNonDecreasing (numbers_of ballots)
-rise_from_pairs ballots h i j d le within = ⊎_elim
-    (λ (lt : i < j). let less = pairs_of_numbers (λ a b. a < b) ballots h i j d lt within in omega arith)
-    (λ (ge : j ≤ i). let same : i ≡ j = omega arith in let equal : get_or (numbers_of ballots) i d ≡ get_or (numbers_of ballots) j d = ap (λ k. get_or (numbers_of ballots) k d) same in omega arith)
-    (cases_lt i j)

@@ -9,7 +9,7 @@ mod tests;
 ghost use Rattle.body_store.specs.Contents.{Contents, IsStored, ballots_of, ballots_without};
 ghost use Rattle.std.specs.Prelude.{◌≡◌, ◌++◌, List, [], IfOk, IsPermutation, length, option_map};
 ghost use Rattle.ballot_record.specs.Record.{ballot};
-ghost use Rattle.store_spec.specs.Ballot.{IsBallotSet, ballot_of, numbers_of};
+ghost use Rattle.store_spec.specs.Ballot.{IsListing, IsWithinLimit, ballot_of, numbers_of};
 ghost use Rattle.store_spec.specs.Election.{cell_count};
 ghost use Rattle.store_spec.specs.Home.{home_of};
 ghost use Rattle.store_spec.specs.Image.{cells_of};
@@ -60,7 +60,8 @@ impl Closed {
         election: &Election,
         mut ballots: Vec<Record>,
     ) -> Result<Closed, Memory>
-        requires { IsBallotSet election.now (ballots_of ballots.items) }
+        requires listing { IsListing election.now (ballots_of ballots.items) }
+        requires within_limit { IsWithinLimit election.now (ballots_of ballots.items) }
         ensures election { IfOk result (λ store. store.election ≡ election.now) }
         ensures same { IfOk result (λ store. IsPermutation (ballots_of ballots.items) store.ballots) }
         ensures stored { IfOk result IsStored }
@@ -124,7 +125,8 @@ impl Closed {
         cells: Vec<u64>,
     ) -> Result<Closed, Memory>
         requires own { election.now ≡ self.now.election }
-        requires set { IsBallotSet election.now (self.now.ballots ++ ballots_of ballots.now) }
+        requires listing { IsListing election.now (self.now.ballots ++ ballots_of ballots.now) }
+        requires within_limit { IsWithinLimit election.now (self.now.ballots ++ ballots_of ballots.now) }
         requires layout { cells.items ≡ cells_of election.now (self.now.ballots ++ ballots_of ballots.now) }
         ensures election { IfOk result (λ store. store.election ≡ election.now) }
         ensures union { IfOk result

@@ -2,7 +2,7 @@
 
 ghost use Rattle.body_store.specs.Contents.{ballots_of};
 ghost use Rattle.std.specs.Prelude.{◌≡◌, ◌≢◌, ◌≤◌, All, AllPairs, IfOk, length, map, replicate};
-ghost use Rattle.store_spec.specs.Ballot.{IsBallotSet};
+ghost use Rattle.store_spec.specs.Ballot.{IsListing, IsWithinLimit};
 ghost use Rattle.store_spec.specs.Election.{example};
 
 use crate::{Closed, records};
@@ -25,7 +25,8 @@ fn blanks(alloc: Global, numbers: &[u64]) -> Result<Vec<Record>, Memory>
     requires some { All (λ number. number ≢ 0) numbers.now }
     requires distinct { AllPairs (λ a b. a ≢ b) numbers.now }
     requires few { length numbers.now ≤ 8 }
-    ensures set { IfOk result (λ v. IsBallotSet example (ballots_of v.items)) }
+    ensures listing { IfOk result (λ v. IsListing example (ballots_of v.items)) }
+    ensures within_limit { IfOk result (λ v. IsWithinLimit example (ballots_of v.items)) }
     ensures blank { IfOk result
         (λ v. ballots_of v.items
         ≡ map (λ number. record { number = number; style = 1; marks = replicate 16 0 }) numbers.now) }

@@ -6,7 +6,7 @@ ghost use Rattle.store_spec.specs.Election as definition;
 ghost use Rattle.ballot_record.specs.Contest.{contest_of};
 ghost use Rattle.election_def.specs.Text.{HasNoKeyBut, IsContestIn, IsStyleIn, IsSaltText, IsSaltDigit, contest_keys, salt_digit, number_in, number_at};
 
-use ballot_record::{Contest, MAX_CHOICES};
+use ballot_record::{Contest, MAX_CHOICES, MAX_CONTESTS};
 use serde_json::{Map, Value};
 
 const CONTEST_KEYS: [&str; 2] = ["choices", "allowed"];
@@ -54,8 +54,8 @@ pub fn number_at(value: &Value, key: &str, most: u64) -> Option<u64>
 
 /// The contest that a value describes.
 pub fn contest(value: &Value) -> Option<Contest>
-    ensures some { IfSome result (λ c. IsContestIn (view value.now) (contest_of c)) }
-    ensures none { IsNone result → (c : definition.Contest) → ¬ IsContestIn (view value.now) c }
+    ensures some { IfSome result (λ c. IsContestIn MAX_CHOICES (view value.now) (contest_of c)) }
+    ensures none { IsNone result → (c : definition.Contest) → ¬ IsContestIn MAX_CHOICES (view value.now) c }
 {
     if !has_no_key_but(value, &CONTEST_KEYS) {
         return None;
@@ -75,7 +75,7 @@ pub fn contest(value: &Value) -> Option<Contest>
 
 /// The style over so many contests that a value describes.
 pub fn style(value: &Value, contests: usize) -> Option<u32>
-    requires { contests ≤ 16 }
+    requires { contests ≤ MAX_CONTESTS }
     ensures some { IfSome result (λ s. IsStyleIn contests (view value.now) s) }
     ensures none { IsNone result → (s : ℕ) → ¬ IsStyleIn contests (view value.now) s }
 {

@@ -6,7 +6,7 @@ ghost use Rattle.election_def.specs.Text.{IsArrayOf, IsContestIn, IsStyleIn, IsE
 
 use crate::ElectionFault;
 use crate::parts::{contest, has_no_key_but, number_at, salt, style};
-use ballot_record::{Contest, Election, MAX_BITS, MAX_CONTESTS, MAX_LIMIT};
+use ballot_record::{Contest, Election, MAX_BITS, MAX_CHOICES, MAX_CONTESTS, MAX_LIMIT};
 use serde_json::Value;
 use std::alloc::Global;
 
@@ -14,8 +14,8 @@ const ELECTION_KEYS: [&str; 5] = ["contests", "styles", "limit", "bits", "salt"]
 
 /// The contests that an array describes.
 fn contests(alloc: Global, value: &Value) -> Result<Vec<Contest>, ElectionFault>
-    ensures contests { IfOk result (λ v. IsArrayOf IsContestIn (contests_of v.items) (view value.now)) }
-    ensures none { result ≡ Err ElectionFault.NotElection → (cs : List definition.Contest) → ¬ IsArrayOf IsContestIn cs (view value.now) }
+    ensures contests { IfOk result (λ v. IsArrayOf (IsContestIn MAX_CHOICES) (contests_of v.items) (view value.now)) }
+    ensures none { result ≡ Err ElectionFault.NotElection → (cs : List definition.Contest) → ¬ IsArrayOf (IsContestIn MAX_CHOICES) cs (view value.now) }
 {
     let Some(items) = value.as_array() else {
         return Err(ElectionFault::NotElection);
@@ -32,7 +32,7 @@ fn contests(alloc: Global, value: &Value) -> Result<Vec<Contest>, ElectionFault>
 
 /// The styles over so many contests that an array describes.
 fn styles(alloc: Global, value: &Value, count: usize) -> Result<Vec<u32>, ElectionFault>
-    requires { count ≤ 16 }
+    requires { count ≤ MAX_CONTESTS }
     ensures styles { IfOk result (λ v. IsArrayOf (IsStyleIn count) v.items (view value.now)) }
     ensures none { result ≡ Err ElectionFault.NotElection → (ss : List ℕ) → ¬ IsArrayOf (IsStyleIn count) ss (view value.now) }
 {

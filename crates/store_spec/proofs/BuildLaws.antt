@@ -3,13 +3,16 @@ use Rattle.std.proofs.Common.{◌≡◌, ◌≢◌, ℕ, zero, suc, ◌<◌, Lis
 use Rattle.std.proofs.lemmas.Bool.{cases_lt, cases_eq}
 use Rattle.std.proofs.lemmas.List.{length-take-le, get_or-take, get_or_default, take-take}
 use Rattle.std.specs.List.{AllZip}
+use Rattle.std.proofs.lemmas.List.Sorted.{Contains-permutation, IsPermutation-sym, IsPermutation-trans, length_permutation}
+use Rattle.std.specs.List.Sorted.{IsPermutation}
 use Rattle.std.specs.Prelude.{slice_get, Any, Contains, AllPairs}
-use Rattle.store_spec.specs.Ballot.{Ballot, IsBallotSet}
+use Rattle.store_spec.specs.Ballot.{Ballot, IsBallotSet, IsListing}
 use Rattle.store_spec.specs.BallotLine.{Spells, IsRecordLine, IsLineOf}
-use Rattle.store_spec.specs.Build.{IsSetOf, IsFirstBad, IsRefused, Reason}
+use Rattle.store_spec.specs.Build.{Builds, IsFirstBad, IsRefused, Reason}
 use Rattle.store_spec.specs.Build.Reason.{Malformed, Invalid, Duplicate, Conflict, Full}
 use Rattle.store_spec.specs.BuildLaws.{BuildOneWay}
 use Rattle.store_spec.specs.Election.{Election}
+use Rattle.store_spec.proofs.BallotSets.{listing_from_set, listing_of_set, same_in_order}
 use Rattle.store_spec.proofs.LineLaws.{one_ballot}
 
 same_ballots : (e : Election) (lines : List (List ℕ)) (xs ys : List Ballot) → AllZip (Spells e) lines xs → AllZip (Spells e) lines ys → xs ≡ ys
@@ -65,13 +68,25 @@ accepted e bytes before b Conflict spells new room bad =
     new (other.0, other.1, other.2, other.3, other.4.0 ∙ ap (λ (x : Ballot). x.number) same)
 accepted e bytes before b Full spells new room bad = omega (arith, bad.3)
 
-not_refused : (e : Election) (lines : List (List ℕ)) (ballots before : List Ballot) (i : ℕ) (bytes : List ℕ) (why : Reason) → IsSetOf e lines ballots → slice_get lines i ≡ Some bytes → AllZip (Spells e) (take i lines) before → IsRefused e before bytes why → ⊥
+-- who has a number in a list has it in the list in another order
+numbered_too : (xs ys : List Ballot) (b : Ballot) → IsPermutation xs ys → Any (λ other. other.number ≡ b.number) xs → Any (λ other. other.number ≡ b.number) ys
+numbered_too xs ys b p any =
+    let there = Contains-permutation xs ys any.1 p (any.0, any.2, any.3) in
+    (there.0, any.1, there.1, there.2, any.4)
+
+not_refused : (e : Election) (lines : List (List ℕ)) (ballots before : List Ballot) (i : ℕ) (bytes : List ℕ) (why : Reason) → Builds e lines ballots → slice_get lines i ≡ Some bytes → Builds e (take i lines) before → IsRefused e before bytes why → ⊥
 not_refused e lines ballots before i bytes why good here prefix bad =
-    let s = stands e lines ballots i bytes good.each here in
-    let same : before ≡ take i ballots = same_ballots e (take i lines) before (take i ballots) prefix s.before in
-    let P : List Ballot → Type 0 = λ before. IsRefused e before bytes why in
-    let size = length-take-le i ballots (omega (arith, s.place)) in
-    accepted e bytes (take i ballots) s.ballot why s.spells (numbered_before ballots i s.ballot good.set.distinct s.place s.is) (omega (arith, s.place, size, good.set.within_limit)) (subst P same bad)
+    let listing = good.listing in
+    let s = stands e lines listing i bytes good.each here in
+    let same : prefix.listing ≡ take i listing = same_ballots e (take i lines) prefix.listing (take i listing) prefix.each s.before in
+    let apart = listing_of_set e listing ballots good.same good.set in
+    let new = numbered_before listing i s.ballot apart.distinct s.place s.is in
+    let moved : IsPermutation before (take i listing) =
+    subst (λ (front : List Ballot). IsPermutation before front) same (IsPermutation-sym prefix.listing before prefix.same) in
+    let size = length-take-le i listing (omega (arith, s.place)) in
+    let count = length_permutation before (take i listing) moved in
+    let whole = length_permutation listing ballots good.same in
+    accepted e bytes before s.ballot why s.spells (λ any. new (numbered_too before (take i listing) s.ballot moved any)) (omega (arith, s.place, size, count, whole, good.within_limit)) bad
 
 -- ---- one reason
 
@@ -93,7 +108,7 @@ twice_or_not ballots b distinct has other =
       ]
     ]
 
-duplicate_conflict : (e : Election) (before : List Ballot) (bytes : List ℕ) → IsBallotSet e before → IsRefused e before bytes Duplicate → IsRefused e before bytes Conflict → ⊥
+duplicate_conflict : (e : Election) (before : List Ballot) (bytes : List ℕ) → IsListing e before → IsRefused e before bytes Duplicate → IsRefused e before bytes Conflict → ⊥
 duplicate_conflict e before bytes set x y =
     let P : Ballot → Type 0 = λ b. Contains before b in
     twice_or_not before y.0 set.distinct (subst P (one_ballot e bytes x.0 y.0 x.1 y.1) x.2) y.2
@@ -109,10 +124,10 @@ conflict_full e before bytes x y =
     let other = x.2 in
     y.2 (other.0, other.1, other.2, other.3, other.4.0 ∙ ap (λ (b : Ballot). b.number) same)
 
-line_of : (e : Election) (bytes : List ℕ) → IsLineOf e bytes → IsRecordLine bytes
+line_of : (e : Election) (bytes : List ℕ) → IsLineOf e bytes → IsRecordLine e bytes
 line_of e bytes is = (is.1.line, is.1.reads)
 
-one_reason : (e : Election) (before : List Ballot) (bytes : List ℕ) (x y : Reason) → IsBallotSet e before → IsRefused e before bytes x → IsRefused e before bytes y → x ≡ y
+one_reason : (e : Election) (before : List Ballot) (bytes : List ℕ) (x y : Reason) → IsListing e before → IsRefused e before bytes x → IsRefused e before bytes y → x ≡ y
 one_reason e before bytes Malformed Malformed set x y = refl
 one_reason e before bytes Malformed Invalid set x y = absurd (x y.0)
 one_reason e before bytes Malformed Duplicate set x y = absurd (x (line_of e bytes (y.0, y.1)))
@@ -141,6 +156,13 @@ one_reason e before bytes Full Full set x y = refl
 
 -- ---- one outcome
 
+pub same_set : (e : Election) (lines : List (List ℕ)) (xs ys : List Ballot) → Builds e lines xs → Builds e lines ys → xs ≡ ys
+same_set e lines xs ys first second =
+    let same : first.listing ≡ second.listing = same_ballots e lines first.listing second.listing first.each second.each in
+    let moved : IsPermutation first.listing ys = subst (λ (listing : List Ballot). IsPermutation listing ys) (sym same) second.same in
+    same_in_order xs ys first.set.ascending second.set.ascending
+    (IsPermutation-trans xs first.listing ys (IsPermutation-sym first.listing xs first.same) moved)
+
 slice_get_take : (n : ℕ) (lines : List (List ℕ)) (i : ℕ) → i < n → slice_get (take n lines) i ≡ slice_get lines i
 slice_get_take zero lines i before = absurd (omega arith)
 slice_get_take (suc n) [] i before = refl
@@ -150,18 +172,18 @@ slice_get_take (suc n) (l ∷ ls) (suc i) before = slice_get_take n ls i (omega 
 first_first : (e : Election) (lines : List (List ℕ)) (m n : ℕ) (v w : Reason) (x : IsFirstBad e lines m v) (y : IsFirstBad e lines n w) → x.index < y.index → ⊥
 first_first e lines m n v w x y before =
     let prefix = take-take x.index y.index lines (omega arith) in
-    let P : List (List ℕ) → Type 0 = λ front. AllZip (Spells e) front x.before in
-    not_refused e (take y.index lines) y.before x.before x.index x.bytes v y.good (slice_get_take y.index lines x.index before ∙ x.stands) (subst P (sym prefix) x.good.each) x.refused
+    let P : List (List ℕ) → Type 0 = λ front. Builds e front x.before in
+    not_refused e (take y.index lines) y.before x.before x.index x.bytes v y.good (slice_get_take y.index lines x.index before ∙ x.stands) (subst P (sym prefix) x.good) x.refused
 
 same_first : (e : Election) (lines : List (List ℕ)) (m n : ℕ) (v w : Reason) (x : IsFirstBad e lines m v) (y : IsFirstBad e lines n w) → x.index ≡ y.index → v ≡ w
 same_first e lines m n v w x y same =
     let here : Some x.bytes ≡ Some y.bytes = sym x.stands ∙ ap (λ i. slice_get lines i) same ∙ y.stands in
     let bytes : x.bytes ≡ y.bytes = cc in
-    let A : ℕ → Type 0 = λ i. AllZip (Spells e) (take i lines) x.before in
-    let before : x.before ≡ y.before = same_ballots e (take y.index lines) x.before y.before (subst A same x.good.each) y.good.each in
+    let A : ℕ → Type 0 = λ i. Builds e (take i lines) x.before in
+    let before : x.before ≡ y.before = same_set e (take y.index lines) x.before y.before (subst A same x.good) y.good in
     let B : List ℕ → Type 0 = λ bytes. IsRefused e x.before bytes v in
     let C : List Ballot → Type 0 = λ before. IsRefused e before y.bytes v in
-    one_reason e y.before y.bytes v w y.good.set (subst C before (subst B bytes x.refused)) y.refused
+    one_reason e y.before y.bytes v w (listing_from_set e y.before y.good.set) (subst C before (subst B bytes x.refused)) y.refused
 
 one_bad : (e : Election) (lines : List (List ℕ)) (p q : ℕ × Reason) → IsFirstBad e lines p.0 p.1 → IsFirstBad e lines q.0 q.1 → p ≡ q
 one_bad e lines p q x y = elim (cases_lt x.index y.index) [
@@ -176,7 +198,7 @@ one_bad e lines p q x y = elim (cases_lt x.index y.index) [
 ]
 
 pub build_one_way : BuildOneWay
-build_one_way e lines (Ok xs) (Ok ys) x y = ap Ok (same_ballots e lines xs ys x.each y.each)
-build_one_way e lines (Ok xs) (Err q) x y = absurd (not_refused e lines xs y.before y.index y.bytes q.1 x y.stands y.good.each y.refused)
-build_one_way e lines (Err p) (Ok ys) x y = absurd (not_refused e lines ys x.before x.index x.bytes p.1 y x.stands x.good.each x.refused)
+build_one_way e lines (Ok xs) (Ok ys) x y = ap Ok (same_set e lines xs ys x y)
+build_one_way e lines (Ok xs) (Err q) x y = absurd (not_refused e lines xs y.before y.index y.bytes q.1 x y.stands y.good y.refused)
+build_one_way e lines (Err p) (Ok ys) x y = absurd (not_refused e lines ys x.before x.index x.bytes p.1 y x.stands x.good x.refused)
 build_one_way e lines (Err p) (Err q) x y = ap Err (one_bad e lines p q x y)

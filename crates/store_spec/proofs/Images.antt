@@ -7,10 +7,12 @@ use Rattle.std.specs.List.Sorted.{IsPermutation}
 use Rattle.std.specs.Option.{option_map_or}
 use Rattle.store_spec.proofs.Ascending.{IsIn, IsRising, ascending-IsPermutation, ascending_distinct, contains_from_in, from_ascending, in_ascending, in_from_contains}
 use Rattle.store_spec.proofs.BallotNumbers.{ballot_with, contains_number, pairs_of_numbers}
+use Rattle.store_spec.proofs.BallotSets.{same_members}
 use Rattle.store_spec.proofs.LineLaws.{one_ballot}
 use Rattle.store_spec.proofs.Lookups.{AreAmong, AreDistinct, ballot_of-same}
 use Rattle.store_spec.specs.Ballot.{Ballot, ballot_of, numbers_of}
 use Rattle.store_spec.specs.BallotLine.{Spells}
+use Rattle.store_spec.specs.Build.{Builds}
 use Rattle.store_spec.specs.Election.{Election, cell_count, cell_size}
 use Rattle.store_spec.specs.Home.{home_of}
 use Rattle.store_spec.specs.Image.{ballot_bytes, cell_bytes, cells_of, header_of, image_of}
@@ -70,7 +72,7 @@ set_image e xs ys apart also there back =
     image_of-same e xs ys (ap (laid_out (home_of e.bits e.salt) (cell_count e)) numbers) (λ number. ballot_of-same xs ys number apart there back)
 
 pub sets_have_one_image : SetsHaveOneImage
-sets_have_one_image e xs ys set also same = set_image e xs ys set.distinct also.distinct (λ b. (same b).0) (λ b. (same b).1)
+sets_have_one_image e xs ys listing also same = set_image e xs ys listing.distinct also.distinct (λ b. (same b).0) (λ b. (same b).1)
 
 -- ---- with the same lines
 
@@ -99,8 +101,13 @@ spelled_among e lines others xs ys among each other b c =
     let to = spelled_by e others ys from.0 other (among from.0 from.1) in
     subst (λ (b : Ballot). Contains ys b) (one_ballot e from.0 to.0 b to.2 from.2) to.1
 
+built_among : (e : Election) (lines others : List (List ℕ)) (xs ys : List Ballot) → ((line : List ℕ) → Contains lines line → Contains others line) → Builds e lines xs → Builds e others ys → AreAmong xs ys
+built_among e lines others xs ys among built also b c =
+    let back = Contains-permutation xs built.listing b (IsPermutation-sym built.listing xs built.same) c in
+    Contains-permutation also.listing ys b also.same (spelled_among e lines others built.listing also.listing among built.each also.each b back)
+
 pub lines_have_one_image : LinesHaveOneImage
 lines_have_one_image e lines others xs ys same built also =
-    set_image e xs ys built.set.distinct also.set.distinct
-    (spelled_among e lines others xs ys (λ line. (same line).0) built.each also.each)
-    (spelled_among e others lines ys xs (λ line. (same line).1) also.each built.each)
+    ap (image_of e) (same_members xs ys built.set.ascending also.set.ascending
+    (λ b c. built_among e lines others xs ys (λ line. (same line).0) built also b c)
+    (λ b c. built_among e others lines ys xs (λ line. (same line).1) also built b c))

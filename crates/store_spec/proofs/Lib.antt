@@ -17,5 +17,6 @@ pub mod BuildLaws
 pub mod Lookups
 pub mod Images
 pub mod BallotNumbers
+pub mod BallotSets
 pub mod FirstLine
 pub mod LineFronts

@@ -3,11 +3,13 @@ use Rattle.std.proofs.Common.{◌≡◌, ◌≢◌, ℕ, zero, suc, ◌+◌, ◌
 use Rattle.std.proofs.lemmas.Bool.{cases_lt}
 use Rattle.std.proofs.lemmas.List.{get_or-take, take-take}
 use Rattle.std.proofs.lemmas.List.Elements.{All-take}
+use Rattle.std.proofs.lemmas.List.Sorted.{length_permutation}
 use Rattle.std.specs.List.{AllZip}
+use Rattle.store_spec.proofs.BallotSets.{in_order, in_order-IsPermutation, set_of_listing}
 use Rattle.store_spec.proofs.FirstLine.{all_within, front_within}
-use Rattle.store_spec.specs.Ballot.{Ballot, IsBallotSet, IsValid}
+use Rattle.store_spec.specs.Ballot.{Ballot, IsListing, IsValid, IsWithinLimit}
 use Rattle.store_spec.specs.BallotLine.{Spells}
-use Rattle.store_spec.specs.Build.{IsSetOf}
+use Rattle.store_spec.specs.Build.{Builds}
 use Rattle.store_spec.specs.Election.{Election}
 use Rattle.store_spec.specs.Input.{LINE_END, begun_with, continued, ended_lines, lines_of, lines_within}
 
@@ -102,21 +104,30 @@ zip_take e (suc n) [] (b ∷ ballots) each = absurd each
 zip_take e (suc n) (l ∷ lines) [] each = absurd each
 zip_take e (suc n) (l ∷ lines) (b ∷ ballots) each = (each.0, zip_take e n lines ballots each.1)
 
-set_take : (e : Election) (n : ℕ) (ballots : List Ballot) → IsBallotSet e ballots → IsBallotSet e (take n ballots)
-set_take e n ballots set = record {
-  valid = All-take (IsValid e) n ballots set.valid;
+listing_take : (e : Election) (n : ℕ) (ballots : List Ballot) → IsListing e ballots → IsListing e (take n ballots)
+listing_take e n ballots listing = record {
+  valid = All-take (IsValid e) n ballots listing.valid;
   distinct = λ i j d lt within.
       let size = length-take n ballots in
       let left = get_or-take n ballots i d (omega arith) in
       let right = get_or-take n ballots j d (omega arith) in
       subst (λ (b : Ballot). b.number ≢ (get_or (take n ballots) j d).number) (sym left)
-      (subst (λ (b : Ballot). (get_or ballots i d).number ≢ b.number) (sym right) (set.distinct i j d lt (omega arith)));
-  within_limit = omega (arith, length-take n ballots, set.within_limit);
+      (subst (λ (b : Ballot). (get_or ballots i d).number ≢ b.number) (sym right) (listing.distinct i j d lt (omega arith)));
+}
+
+-- lines that spell a listing build its set
+pub listing_builds : (e : Election) (lines : List (List ℕ)) (listing : List Ballot) → AllZip (Spells e) lines listing → IsListing e listing → IsWithinLimit e listing → Builds e lines (in_order listing)
+listing_builds e lines listing each is few = record {
+  listing = listing;
+  each = each;
+  same = in_order-IsPermutation listing;
+  set = set_of_listing e listing is;
+  within_limit = omega (arith, length_permutation listing (in_order listing) (in_order-IsPermutation listing), few);
 }
 
 -- so many lines build a set, and so do fewer
-pub front_builds : (e : Election) (lines : List (List ℕ)) (n count : ℕ) (ballots : List Ballot) → n ≤ count → AllZip (Spells e) (take count lines) ballots → IsBallotSet e ballots → IsSetOf e (take n lines) (take n ballots)
-front_builds e lines n count ballots few each set = record {
-  each = subst (λ (front : List (List ℕ)). AllZip (Spells e) front (take n ballots)) (take-take n count lines few) (zip_take e n (take count lines) ballots each);
-  set = set_take e n ballots set;
-}
+pub front_builds : (e : Election) (lines : List (List ℕ)) (n count : ℕ) (listing : List Ballot) → n ≤ count → AllZip (Spells e) (take count lines) listing → IsListing e listing → IsWithinLimit e listing → Builds e (take n lines) (in_order (take n listing))
+front_builds e lines n count listing few each is limit =
+    listing_builds e (take n lines) (take n listing)
+    (subst (λ (front : List (List ℕ)). AllZip (Spells e) front (take n listing)) (take-take n count lines few) (zip_take e n (take count lines) listing each))
+    (listing_take e n listing is) (omega (arith, length-take n listing, limit))

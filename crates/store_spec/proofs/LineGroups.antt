@@ -8,6 +8,7 @@ use Rattle.std.proofs.lemmas.Bool.{leb-false, eqb-true, lt-leb, ne_eqb}
 use Rattle.std.proofs.lemmas.Option.{none-some, some_pair_parts, same_Some, option_and_then_some}
 use Rattle.std.proofs.lemmas.Fmt.{decimal_nonempty, first_decimal}
 use Rattle.store_spec.specs.BallotLine.{IsGroup, group_text}
+use Rattle.store_spec.specs.Election.{Election}
 use Rattle.store_spec.proofs.LineReading.{digits_at, past_byte, with_first, choices_at, group_at}
 use Rattle.store_spec.proofs.LineNumbers.{chosen, StopsDigits, number_takes, number_again}
 
@@ -123,8 +124,8 @@ rises_ascending last (choice ∷ next ∷ choices) rises zero below = rises.2.0
 rises_ascending last (choice ∷ next ∷ choices) rises (suc k) below =
     let same : suc k + 1 ≡ suc (k + 1) = omega arith in rw same (rises_ascending choice (next ∷ choices) rises.2 k (omega arith))
 
-pub IsGroup-from_rises : (last : ℕ) (choices : List ℕ) → RisesFrom last choices → IsGroup choices
-IsGroup-from_rises last choices rises = record { within = rises_within last choices rises; ascending = rises_ascending last choices rises }
+pub IsGroup-from_rises : (e : Election) (last : ℕ) (choices : List ℕ) → RisesFrom last choices → IsGroup e choices
+IsGroup-from_rises e last choices rises = record { within = rises_within last choices rises; ascending = rises_ascending last choices rises }
 
 rises_from : (last : ℕ) (choices : List ℕ) → (1 ≤ length choices → last < get_or choices 0 0) → All (λ c. (1 ≤ c) × (c ≤ 32)) choices → IsStrictlyIncreasing choices → RisesFrom last choices
 rises_from last [] above within ascending = tt
@@ -134,27 +135,27 @@ rises_from last (choice ∷ choices) above within ascending = (
   rises_from choice choices (λ some. ascending 0 (omega arith)) (λ k d below. within (suc k) d (omega arith)) (λ k below. let same : suc k + 1 ≡ suc (k + 1) = omega arith in rw same at (ascending (suc k) (omega arith))),
 )
 
-pub rises_from_IsGroup : (choices : List ℕ) → IsGroup choices → RisesFrom 0 choices
-rises_from_IsGroup choices group = rises_from 0 choices (λ some. (group.within 0 0 (omega arith)).0) group.within group.ascending
+pub rises_from_IsGroup : (e : Election) (choices : List ℕ) → IsGroup e choices → RisesFrom 0 choices
+rises_from_IsGroup e choices group = rises_from 0 choices (λ some. (group.within 0 0 (omega arith)).0) group.within group.ascending
 
-pub record IsGroupAt (bytes choices rest : List ℕ) : Type 0 where
+pub record IsGroupAt (e : Election) (bytes choices rest : List ℕ) : Type 0 where
   pub spelled : bytes ≡ group_text choices ++ rest
-  pub group : IsGroup choices
+  pub group : IsGroup e choices
 
 text_of_some : (choices : List ℕ) → 1 ≤ length choices → group_text choices ≡ choices_text choices
 text_of_some [] some = absurd (omega arith)
 text_of_some (choice ∷ choices) some = refl
 
-pub group_takes : (bytes choices rest : List ℕ) → group_at bytes ≡ Some (choices, rest) → IsGroupAt bytes choices rest
+pub group_takes : (e : Election) (bytes choices rest : List ℕ) → group_at bytes ≡ Some (choices, rest) → IsGroupAt e bytes choices rest
 unfolding group_at
-group_takes bytes choices rest e =
-    elim (passed 45 bytes _ _ (Some (choices, rest)) e) [
+group_takes e bytes choices rest is =
+    elim (passed 45 bytes _ _ (Some (choices, rest)) is) [
       | inl dash ↦
           let parts = some_pair_parts [] choices dash.rest rest dash.is in
-          subst₂ (λ (choices rest : List ℕ). IsGroupAt bytes choices rest) parts.0 parts.1 (record { spelled = dash.bytes_are; group = IsGroup-from_rises 0 [] tt })
+          subst₂ (λ (choices rest : List ℕ). IsGroupAt e bytes choices rest) parts.0 parts.1 (record { spelled = dash.bytes_are; group = IsGroup-from_rises e 0 [] tt })
       | inr some ↦
           let at = choices_take 32 0 bytes choices rest some in
-          record { spelled = at.spelled ∙ ap (λ text. text ++ rest) (sym (text_of_some choices at.some)); group = IsGroup-from_rises 0 choices at.rises }
+          record { spelled = at.spelled ∙ ap (λ text. text ++ rest) (sym (text_of_some choices at.some)); group = IsGroup-from_rises e 0 choices at.rises }
     ]
 
 starts_above : (text : List ℕ) (rest : List ℕ) → 0 < length text → 48 < get_or text 0 0 → LacksFirst 45 (text ++ rest)
@@ -167,10 +168,10 @@ choices_start choice (next ∷ choices) rest some few =
     subst (LacksFirst 45) (sym (append_assoc (decimal choice) (44 ∷ choices_text (next ∷ choices)) rest))
     (starts_above (decimal choice) (44 ∷ choices_text (next ∷ choices) ++ rest) (decimal_nonempty choice (omega arith)) (first_decimal choice (omega arith) (omega arith)))
 
-pub group_again : (choices rest : List ℕ) → IsGroup choices → StopsChoices rest → group_at (group_text choices ++ rest) ≡ Some (choices, rest)
+pub group_again : (e : Election) (choices rest : List ℕ) → IsGroup e choices → StopsChoices rest → group_at (group_text choices ++ rest) ≡ Some (choices, rest)
 unfolding group_at
-group_again [] rest group stops = refl
-group_again (choice ∷ choices) rest group stops =
-    let rises = rises_from_IsGroup (choice ∷ choices) group in
+group_again e [] rest group stops = refl
+group_again e (choice ∷ choices) rest group stops =
+    let rises = rises_from_IsGroup e (choice ∷ choices) group in
     not_past 45 (choices_text (choice ∷ choices) ++ rest) _ (choices_at 32 0 (choices_text (choice ∷ choices) ++ rest)) (choices_start choice choices rest (omega arith) rises.1)
     ∙ choices_again 32 0 choice choices rest (omega arith) rises stops

@@ -9,8 +9,8 @@ use Rattle.std.proofs.lemmas.List.{length-map}
 use Rattle.std.proofs.lemmas.List.Elements.{recursion_from_All, All-from_recursion}
 use Rattle.std.proofs.lemmas.Option.{none-some, same_Some}
 use Rattle.store_spec.specs.Ballot.{Ballot, IsValid}
-use Rattle.store_spec.specs.BallotLine.{IsRecordLine, Line, IsGroup, group_text, line_text, mark_set, ballot_of_line}
-use Rattle.store_spec.specs.Election.{Election, IsElection}
+use Rattle.store_spec.specs.BallotLine.{IsRecordLine, RecordLine, IsGroup, group_text, line_text, mark_set, ballot_of_line}
+use Rattle.store_spec.specs.Election.{Election, IsElection, example}
 use Rattle.store_spec.specs.LineLaws.{ReadOneWay, AreShort, SpellOneBallot, SpelledOneWay, SpellEachBallot, AreMarkSets, ExampleRecordLines}
 use Rattle.store_spec.proofs.LineGroups.{RisesFrom, choices_text, rises_from_IsGroup}
 use Rattle.store_spec.proofs.LineReading.{digits_at, choices_at, group_at, groups_of, line_of}
@@ -19,7 +19,7 @@ use Rattle.store_spec.proofs.ValidMarks.{small_set, marks_kept}
 use Rattle.store_spec.proofs.MarkSets.{mark_set-cons, doubled, group_of, IsGroup-group_of, mark_set-group_of, group_of-mark_set}
 
 pub one_reading : ReadOneWay
-one_reading bytes x y first second = same_Some x y (sym (line_again bytes x first) ∙ line_again bytes y second)
+one_reading e bytes x y first second = same_Some x y (sym (line_again e bytes x first) ∙ line_again e bytes y second)
 
 -- ---- how long a line is
 
@@ -43,51 +43,51 @@ choices_length last choice (next ∷ choices) rises =
       | inr two ↦ omega (arith, digits.0, rest, whole, rises.0, rises.1)
     ]
 
-group_length : (choices : List ℕ) → IsGroup choices → length (group_text choices) ≤ 86
-group_length [] group = omega arith
-group_length (choice ∷ choices) group = omega (arith, choices_length 0 choice choices (rises_from_IsGroup (choice ∷ choices) group))
+group_length : (e : Election) (choices : List ℕ) → IsGroup e choices → length (group_text choices) ≤ 86
+group_length e [] group = omega arith
+group_length e (choice ∷ choices) group = omega (arith, choices_length 0 choice choices (rises_from_IsGroup e (choice ∷ choices) group))
 
-groups_length : (group : List ℕ) (groups : List (List ℕ)) → AllByRecursion IsGroup (group ∷ groups) → length (groups_text (group ∷ groups)) + 1 ≤ 87 * length (group ∷ groups)
-groups_length group [] each = omega (arith, group_length group each.0)
-groups_length group (next ∷ groups) each =
-    omega (arith, group_length group each.0, groups_length next groups each.1, length-append (group_text group) (47 ∷ groups_text (next ∷ groups)))
+groups_length : (e : Election) (group : List ℕ) (groups : List (List ℕ)) → AllByRecursion (IsGroup e) (group ∷ groups) → length (groups_text (group ∷ groups)) + 1 ≤ 87 * length (group ∷ groups)
+groups_length e group [] each = omega (arith, group_length e group each.0)
+groups_length e group (next ∷ groups) each =
+    omega (arith, group_length e group each.0, groups_length e next groups each.1, length-append (group_text group) (47 ∷ groups_text (next ∷ groups)))
 
-all_groups_length : (groups : List (List ℕ)) → All IsGroup groups → 1 ≤ length groups → length (groups_text groups) + 1 ≤ 87 * length groups
-all_groups_length [] each some = absurd (omega arith)
-all_groups_length (group ∷ groups) each some = groups_length group groups (recursion_from_All IsGroup (group ∷ groups) each)
+all_groups_length : (e : Election) (groups : List (List ℕ)) → All (IsGroup e) groups → 1 ≤ length groups → length (groups_text groups) + 1 ≤ 87 * length groups
+all_groups_length e [] each some = absurd (omega arith)
+all_groups_length e (group ∷ groups) each some = groups_length e group groups (recursion_from_All (IsGroup e) (group ∷ groups) each)
 
 pub short_lines : AreShort
-short_lines bytes line reads =
+short_lines e bytes line reads =
     let p = reads.parts in
     let number = length-decimal-le 20 line.number (omega arith) (omega (arith, p.short_number)) p.short_number in
     let style = length-decimal-le 3 line.style (omega arith) (omega (arith, p.short_style)) (omega (arith, p.short_style)) in
     let front = length-append (decimal line.number) (32 ∷ decimal line.style) in
     let whole = length-append (decimal line.number ++ (32 ∷ decimal line.style)) (32 ∷ groups_text line.groups) in
-    omega (arith, ap length reads.spelled, number, style, front, whole, all_groups_length line.groups p.each_group p.some_group, p.few_groups)
+    omega (arith, ap length reads.spelled, number, style, front, whole, all_groups_length e line.groups p.each_group p.some_group, p.few_groups)
 
 -- ---- a line and its ballot
 
 pub one_ballot : SpellOneBallot
 one_ballot e bytes x y first second =
-    first.is ∙ ap ballot_of_line (one_reading bytes first.line second.line first.reads second.reads) ∙ sym second.is
+    first.is ∙ ap ballot_of_line (one_reading e bytes first.line second.line first.reads second.reads) ∙ sym second.is
 
-same_groups : (xs ys : List (List ℕ)) → AllByRecursion IsGroup xs → AllByRecursion IsGroup ys → map mark_set xs ≡ map mark_set ys → xs ≡ ys
-same_groups [] [] first second same = refl
-same_groups [] (y ∷ ys) first second same = absurd cc
-same_groups (x ∷ xs) [] first second same = absurd cc
-same_groups (x ∷ xs) (y ∷ ys) first second same =
+same_groups : (e : Election) (xs ys : List (List ℕ)) → AllByRecursion (IsGroup e) xs → AllByRecursion (IsGroup e) ys → map mark_set xs ≡ map mark_set ys → xs ≡ ys
+same_groups e [] [] first second same = refl
+same_groups e [] (y ∷ ys) first second same = absurd cc
+same_groups e (x ∷ xs) [] first second same = absurd cc
+same_groups e (x ∷ xs) (y ∷ ys) first second same =
     let set : mark_set x ≡ mark_set y = cc in
     let sets : map mark_set xs ≡ map mark_set ys = cc in
-    let group : x ≡ y = sym (group_of-mark_set x first.0) ∙ ap group_of set ∙ group_of-mark_set y second.0 in
-    let groups = same_groups xs ys first.1 second.1 sets in
+    let group : x ≡ y = sym (group_of-mark_set e x first.0) ∙ ap group_of set ∙ group_of-mark_set e y second.0 in
+    let groups = same_groups e xs ys first.1 second.1 sets in
     cc
 
 same_front : (xs ys vs ws : List ℕ) → length xs ≡ length ys → xs ++ vs ≡ ys ++ ws → xs ≡ ys
 same_front xs ys vs ws long same = sym (take_at xs vs (length xs) refl) ∙ ap (take (length xs)) same ∙ take_at ys ws (length xs) (sym long)
 
-same_line : (x y : Line) → x.number ≡ y.number → x.style ≡ y.style → x.groups ≡ y.groups → x ≡ y
+same_line : (x y : RecordLine) → x.number ≡ y.number → x.style ≡ y.style → x.groups ≡ y.groups → x ≡ y
 same_line x y number style groups =
-    let made : ℕ → ℕ → List (List ℕ) → Line = λ n s gs. record { number = n; style = s; groups = gs } in
+    let made : ℕ → ℕ → List (List ℕ) → RecordLine = λ n s gs. record { number = n; style = s; groups = gs } in
     ap (λ n. made n x.style x.groups) number ∙ ap (λ s. made y.number s x.groups) style ∙ ap (made y.number y.style) groups
 
 pub one_spelling : SpelledOneWay
@@ -96,7 +96,7 @@ one_spelling e a b x first second =
     let count : length first.line.groups ≡ length second.line.groups = first.a_group_each ∙ sym second.a_group_each in
     let sets : map mark_set first.line.groups ≡ map mark_set second.line.groups =
     same_front (map mark_set first.line.groups) (map mark_set second.line.groups) _ _ (length-map first.line.groups mark_set ∙ count ∙ sym (length-map second.line.groups mark_set)) (ap (λ (b : Ballot). b.marks) same) in
-    let groups = same_groups first.line.groups second.line.groups (recursion_from_All IsGroup first.line.groups first.reads.parts.each_group) (recursion_from_All IsGroup second.line.groups second.reads.parts.each_group) sets in
+    let groups = same_groups e first.line.groups second.line.groups (recursion_from_All (IsGroup e) first.line.groups first.reads.parts.each_group) (recursion_from_All (IsGroup e) second.line.groups second.reads.parts.each_group) sets in
     first.reads.spelled
     ∙ ap line_text (same_line first.line second.line (ap (λ (b : Ballot). b.number) same) (ap (λ (b : Ballot). b.style) same) groups)
     ∙ sym second.reads.spelled
@@ -110,11 +110,11 @@ sets_again (set ∷ sets) small =
     let rest = sets_again sets (λ i within. small (suc i) (omega arith)) in
     cc
 
-groups_valid : (sets : List ℕ) → AllByRecursion IsGroup (map group_of sets)
-groups_valid [] = tt
-groups_valid (set ∷ sets) = (IsGroup-group_of set, groups_valid sets)
+groups_valid : (e : Election) (sets : List ℕ) → AllByRecursion (IsGroup e) (map group_of sets)
+groups_valid e [] = tt
+groups_valid e (set ∷ sets) = (IsGroup-group_of e set, groups_valid e sets)
 
-line_for : Election → Ballot → Line
+line_for : Election → Ballot → RecordLine
 line_for e x = record { number = x.number; style = x.style; groups = map group_of (take (length e.contests) x.marks) }
 
 ballot_again : (e : Election) (x : Ballot) → IsElection e → IsValid e x → x ≡ ballot_of_line (line_for e x)
@@ -122,7 +122,7 @@ unfolding line_for
 ballot_again e x election valid =
     let n = length e.contests in
     let front = take n x.marks in
-    let front_length : length front ≡ n = omega (arith, length-take n x.marks, valid.sixteen, election.few_contests) in
+    let front_length : length front ≡ n = omega (arith, length-take n x.marks, valid.every_set, election.few_contests) in
     let sets : map mark_set (map group_of front) ≡ front = sets_again front (λ i within.
     subst (λ set. set < 2 ^ 32) (sym (get_or-take n x.marks i 0 (omega (arith, front_length)))) (small_set e x election valid i (omega (arith, front_length, election.few_contests)))) in
     let count : 16 - n ≡ 16 - length (map group_of front) = omega (arith, length-map front group_of, front_length) in
@@ -136,7 +136,7 @@ unfolding line_for
 each_spelled e x election valid =
     let n = length e.contests in
     let sets = take n x.marks in
-    let count : length (map group_of sets) ≡ n = omega (arith, length-map sets group_of, length-take n x.marks, valid.sixteen, election.few_contests) in (
+    let count : length (map group_of sets) ≡ n = omega (arith, length-map sets group_of, length-take n x.marks, valid.every_set, election.few_contests) in (
       line_text (line_for e x),
       record {
         line = line_for e x;
@@ -148,7 +148,7 @@ each_spelled e x election valid =
             short_style = omega (arith, valid.known_style, election.few_styles);
             some_group = omega (arith, count, election.some_contest);
             few_groups = omega (arith, count, election.few_contests);
-            each_group = All-from_recursion IsGroup (map group_of sets) (groups_valid sets);
+            each_group = All-from_recursion (IsGroup e) (map group_of sets) (groups_valid e sets);
           };
           spelled = refl;
         };
@@ -180,25 +180,25 @@ set_counts (choice ∷ choices) last n rises low offered =
 
 pub mark_sets : AreMarkSets
 mark_sets = record {
-  one_group = λ a b first second same. sym (group_of-mark_set a first) ∙ ap group_of same ∙ group_of-mark_set b second;
-  one_set = λ set small. (group_of set, IsGroup-group_of set, mark_set-group_of set small);
-  offered = λ choices n group. (
-    λ small. All-from_recursion (λ choice. choice ≤ n) choices (choice_counts choices 0 n (rises_from_IsGroup choices group) small),
-    λ offered. omega (arith, set_counts choices 0 n (rises_from_IsGroup choices group) (omega arith) (recursion_from_All (λ choice. choice ≤ n) choices offered)),
+  one_group = λ e a b first second same. sym (group_of-mark_set e a first) ∙ ap group_of same ∙ group_of-mark_set e b second;
+  one_set = λ e set small. (group_of set, IsGroup-group_of e set, mark_set-group_of set small);
+  offered = λ e choices n group. (
+    λ small. All-from_recursion (λ choice. choice ≤ n) choices (choice_counts choices 0 n (rises_from_IsGroup e choices group) small),
+    λ offered. omega (arith, set_counts choices 0 n (rises_from_IsGroup e choices group) (omega arith) (recursion_from_All (λ choice. choice ≤ n) choices offered)),
   );
 }
 
 -- ---- examples
 
-not_read : (bytes : List ℕ) → line_of bytes ≡ None → ¬ IsRecordLine bytes
-not_read bytes none is = none-some is.0 (sym none ∙ line_again bytes is.0 is.1)
+not_read : (e : Election) (bytes : List ℕ) → line_of bytes ≡ None → ¬ IsRecordLine e bytes
+not_read e bytes none is = none-some is.0 (sym none ∙ line_again e bytes is.0 is.1)
 
 pub example_record_lines : ExampleRecordLines
 unfolding line_of groups_of group_at choices_at digits_at
 example_record_lines = record {
-  one_mark = line_takes _ _ refl;
-  three_marks = line_takes _ _ refl;
-  leading_zero = not_read _ refl;
-  descending = not_read _ refl;
-  too_great = not_read _ refl;
+  one_mark = line_takes example _ _ refl;
+  three_marks = line_takes example _ _ refl;
+  leading_zero = not_read example _ refl;
+  descending = not_read example _ refl;
+  too_great = not_read example _ refl;
 }

@@ -1,7 +1,7 @@
 -- How a record line is read from left to right: a value and the bytes after it, or nothing.
 use Rattle.std.specs.Prelude.{ℕ, zero, suc, ◌+◌, ◌-◌, ◌*◌, ◌^◌, ◌==◌, nat_lt, nat_le, if◌then◌else◌, List, [], ◌∷◌, length, Option, Some, None, option_map, option_and_then}
 use Rattle.std.specs.Char.{is_ascii_digit}
-use Rattle.store_spec.specs.BallotLine.{Line}
+use Rattle.store_spec.specs.BallotLine.{RecordLine}
 
 -- The number that goes on with these bytes after digits of this value; 0 is no digit yet. It is at most the limit.
 unfoldable pub digits_at : ℕ → ℕ → List ℕ → Option (ℕ × List ℕ)
@@ -42,7 +42,7 @@ groups_of (suc more) bytes =
     (group_at bytes)
 
 -- all of a line
-unfoldable pub line_of : List ℕ → Option Line
+unfoldable pub line_of : List ℕ → Option RecordLine
 line_of bytes =
     option_and_then (λ (number : ℕ × List ℕ).
     past_byte 32 number.1 (λ bytes.

@@ -7,7 +7,8 @@ use Rattle.std.proofs.lemmas.Bool.{eqb-true, ne_eqb}
 use Rattle.std.proofs.lemmas.List.{nil_from_length, length-map}
 use Rattle.std.proofs.lemmas.List.Elements.{All-from_recursion, recursion_from_All}
 use Rattle.std.proofs.lemmas.Option.{none-some, same_Some, option_and_then_some}
-use Rattle.store_spec.specs.BallotLine.{Line, IsGroup, ReadsAs, group_text}
+use Rattle.store_spec.specs.BallotLine.{RecordLine, IsGroup, ReadsAs, group_text}
+use Rattle.store_spec.specs.Election.{Election}
 use Rattle.store_spec.proofs.LineReading.{digits_at, group_at, groups_of, line_of}
 use Rattle.store_spec.proofs.LineNumbers.{chosen, number_takes, number_again}
 use Rattle.store_spec.proofs.LineGroups.{passed, option_map_some, join_more, group_takes, group_again}
@@ -15,22 +16,22 @@ use Rattle.store_spec.proofs.LineGroups.{passed, option_map_some, join_more, gro
 abbrev pub groups_text : List (List ℕ) → List ℕ
 groups_text groups = join_with_byte 47 (map group_text groups)
 
-record AreGroups (most : ℕ) (bytes : List ℕ) (groups : List (List ℕ)) : Type 0 where
+record AreGroups (e : Election) (most : ℕ) (bytes : List ℕ) (groups : List (List ℕ)) : Type 0 where
   spelled : bytes ≡ groups_text groups
   some : 1 ≤ length groups
   few : length groups ≤ most
-  each : AllByRecursion IsGroup groups
+  each : AllByRecursion (IsGroup e) groups
 
-groups_take : (most : ℕ) (bytes : List ℕ) (groups : List (List ℕ)) → groups_of most bytes ≡ Some groups → AreGroups most bytes groups
+groups_take : (e : Election) (most : ℕ) (bytes : List ℕ) (groups : List (List ℕ)) → groups_of most bytes ≡ Some groups → AreGroups e most bytes groups
 unfolding groups_of
-groups_take zero bytes groups e = absurd (none-some groups e)
-groups_take (suc most) bytes groups e =
-    option_and_then_some _ (group_at bytes) groups e (λ first first_is goes_on.
-    let group = group_takes bytes first.0 first.1 first_is in
+groups_take e zero bytes groups is = absurd (none-some groups is)
+groups_take e (suc most) bytes groups is =
+    option_and_then_some _ (group_at bytes) groups is (λ first first_is goes_on.
+    let group = group_takes e bytes first.0 first.1 first_is in
     elim (chosen (eqb (length first.1) 0) _ _ (Some groups) goes_on) [
       | inl end ↦
           let nothing : first.1 ≡ [] = nil_from_length first.1 (eqb-true (length first.1) 0 end.0) in
-          subst (AreGroups (suc most) bytes) (same_Some (first.0 ∷ []) groups end.1) (record {
+          subst (AreGroups e (suc most) bytes) (same_Some (first.0 ∷ []) groups end.1) (record {
             spelled = group.spelled ∙ ap (λ rest. group_text first.0 ++ rest) nothing ∙ append-nil (group_text first.0);
             some = omega arith;
             few = omega arith;
@@ -40,9 +41,9 @@ groups_take (suc most) bytes groups e =
           elim (passed 47 first.1 _ _ (Some groups) further.1) [
             | inl slash ↦
                 let others = option_map_some (λ others. first.0 ∷ others) (groups_of most slash.rest) groups slash.is in
-                let at = groups_take most slash.rest others.0 others.1 in
+                let at = groups_take e most slash.rest others.0 others.1 in
                 let joined : groups_text (first.0 ∷ others.0) ≡ group_text first.0 ++ (47 ∷ groups_text others.0) = join_more 47 (group_text first.0) (map group_text others.0) (omega (arith, length-map others.0 group_text, at.some)) in
-                subst (AreGroups (suc most) bytes) others.2 (record {
+                subst (AreGroups e (suc most) bytes) others.2 (record {
                   spelled = group.spelled ∙ ap (λ rest. group_text first.0 ++ rest) (slash.bytes_are ∙ ap (λ rest. 47 ∷ rest) at.spelled) ∙ sym joined;
                   some = omega arith;
                   few = omega (arith, at.few);
@@ -52,22 +53,22 @@ groups_take (suc most) bytes groups e =
           ]
     ])
 
-groups_again : (most : ℕ) (group : List ℕ) (groups : List (List ℕ)) → length (group ∷ groups) ≤ most → AllByRecursion IsGroup (group ∷ groups) → groups_of most (groups_text (group ∷ groups)) ≡ Some (group ∷ groups)
+groups_again : (e : Election) (most : ℕ) (group : List ℕ) (groups : List (List ℕ)) → length (group ∷ groups) ≤ most → AllByRecursion (IsGroup e) (group ∷ groups) → groups_of most (groups_text (group ∷ groups)) ≡ Some (group ∷ groups)
 unfolding groups_of
-groups_again zero group groups few each = absurd (omega arith)
-groups_again (suc most) group [] few each =
-    ap (groups_of (suc most)) (sym (append-nil (group_text group))) ∙ rw (group_again group [] each.0 (tt, tt)) refl
-groups_again (suc most) group (next ∷ groups) few each =
+groups_again e zero group groups few each = absurd (omega arith)
+groups_again e (suc most) group [] few each =
+    ap (groups_of (suc most)) (sym (append-nil (group_text group))) ∙ rw (group_again e group [] each.0 (tt, tt)) refl
+groups_again e (suc most) group (next ∷ groups) few each =
     let others = groups_text (next ∷ groups) in
-    rw (group_again group (47 ∷ others) each.0 (refl, refl), ne_eqb (length (47 ∷ others)) 0 (λ zero. omega arith))
-    (ap (option_map (λ others. group ∷ others)) (groups_again most next groups (omega arith) each.1))
+    rw (group_again e group (47 ∷ others) each.0 (refl, refl), ne_eqb (length (47 ∷ others)) 0 (λ zero. omega arith))
+    (ap (option_map (λ others. group ∷ others)) (groups_again e most next groups (omega arith) each.1))
 
 -- ---- the whole line
 
-pub line_takes : (bytes : List ℕ) (line : Line) → line_of bytes ≡ Some line → ReadsAs bytes line
+pub line_takes : (e : Election) (bytes : List ℕ) (line : RecordLine) → line_of bytes ≡ Some line → ReadsAs e bytes line
 unfolding line_of
-line_takes bytes line e =
-    option_and_then_some _ (digits_at (2 ^ 64 - 1) 0 bytes) line e (λ number number_is goes_on.
+line_takes e bytes line is =
+    option_and_then_some _ (digits_at (2 ^ 64 - 1) 0 bytes) line is (λ number number_is goes_on.
     let number_at = number_takes (2 ^ 64 - 1) (omega arith) bytes number.0 number.1 number_is in
     elim (passed 32 number.1 _ _ (Some line) goes_on) [
       | inl space ↦
@@ -76,8 +77,8 @@ line_takes bytes line e =
           elim (passed 32 style.1 _ _ (Some line) goes_on) [
             | inl further ↦
                 let groups = option_map_some (λ groups. record { number = number.0; style = style.0; groups = groups }) (groups_of 16 further.rest) line further.is in
-                let at = groups_take 16 further.rest groups.0 groups.1 in
-                subst (ReadsAs bytes) groups.2 (record {
+                let at = groups_take e 16 further.rest groups.0 groups.1 in
+                subst (ReadsAs e bytes) groups.2 (record {
                   parts = record {
                     some_number = number_at.some;
                     short_number = omega (arith, number_at.within);
@@ -85,7 +86,7 @@ line_takes bytes line e =
                     short_style = style_at.within;
                     some_group = at.some;
                     few_groups = at.few;
-                    each_group = All-from_recursion IsGroup groups.0 at.each;
+                    each_group = All-from_recursion (IsGroup e) groups.0 at.each;
                   };
                   spelled = number_at.spelled
                       ∙ ap (λ rest. decimal number.0 ++ rest) (space.bytes_are ∙ ap (λ rest. 32 ∷ rest) (style_at.spelled ∙ ap (λ rest. decimal style.0 ++ rest) (further.bytes_are ∙ ap (λ rest. 32 ∷ rest) at.spelled)))
@@ -96,13 +97,13 @@ line_takes bytes line e =
       | inr none ↦ absurd (none-some line none)
     ])
 
-groups_again_some : (groups : List (List ℕ)) → 1 ≤ length groups → length groups ≤ 16 → All IsGroup groups → groups_of 16 (groups_text groups) ≡ Some groups
-groups_again_some [] some few each = absurd (omega arith)
-groups_again_some (group ∷ groups) some few each = groups_again 16 group groups few (recursion_from_All IsGroup (group ∷ groups) each)
+groups_again_some : (e : Election) (groups : List (List ℕ)) → 1 ≤ length groups → length groups ≤ 16 → All (IsGroup e) groups → groups_of 16 (groups_text groups) ≡ Some groups
+groups_again_some e [] some few each = absurd (omega arith)
+groups_again_some e (group ∷ groups) some few each = groups_again e 16 group groups few (recursion_from_All (IsGroup e) (group ∷ groups) each)
 
-pub line_again : (bytes : List ℕ) (line : Line) → ReadsAs bytes line → line_of bytes ≡ Some line
+pub line_again : (e : Election) (bytes : List ℕ) (line : RecordLine) → ReadsAs e bytes line → line_of bytes ≡ Some line
 unfolding line_of
-line_again bytes line reads =
+line_again e bytes line reads =
     let p = reads.parts in
     let marks = groups_text line.groups in
     let regrouped : bytes ≡ decimal line.number ++ (32 ∷ (decimal line.style ++ (32 ∷ marks))) = reads.spelled ∙ append_assoc (decimal line.number) (32 ∷ decimal line.style) (32 ∷ marks) in
@@ -110,5 +111,5 @@ line_again bytes line reads =
     ∙ rw (
       number_again (2 ^ 64 - 1) line.number (32 ∷ (decimal line.style ++ (32 ∷ marks))) (omega arith) p.some_number (omega (arith, p.short_number)) refl,
       number_again 255 line.style (32 ∷ marks) (omega arith) p.some_style p.short_style refl,
-      groups_again_some line.groups p.some_group p.few_groups p.each_group,
+      groups_again_some e line.groups p.some_group p.few_groups p.each_group,
     ) refl

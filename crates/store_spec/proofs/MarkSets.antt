@@ -3,6 +3,7 @@ use Rattle.std.proofs.Common.{◌≡◌, ℕ, zero, suc, ◌+◌, ◌-◌, ◌*�
 use Rattle.std.proofs.lemmas.Bool.{cases_lt, cases_eq, eq-eqb, ne_eqb}
 use Rattle.std.proofs.lemmas.List.Sums.{sum_by-cons}
 use Rattle.store_spec.specs.BallotLine.{IsGroup, mark_set}
+use Rattle.store_spec.specs.Election.{Election}
 use Rattle.store_spec.proofs.LineGroups.{RisesFrom, IsGroup-from_rises, rises_from_IsGroup}
 
 -- the choices of a set, from choice k + 1 on, where bit 0 stands for it
@@ -102,14 +103,14 @@ choices_from-mark_set (suc more) k set (choice ∷ choices) room rises is =
 pub group_of : ℕ → List ℕ
 group_of set = choices_from 32 0 set
 
-pub IsGroup-group_of : (set : ℕ) → IsGroup (group_of set)
+pub IsGroup-group_of : (e : Election) (set : ℕ) → IsGroup e (group_of set)
 unfolding group_of
-IsGroup-group_of set = IsGroup-from_rises 0 (choices_from 32 0 set) (rises-choices_from 32 0 0 set (omega arith) (omega arith))
+IsGroup-group_of e set = IsGroup-from_rises e 0 (choices_from 32 0 set) (rises-choices_from 32 0 0 set (omega arith) (omega arith))
 
 pub mark_set-group_of : (set : ℕ) → set < 2 ^ 32 → mark_set (group_of set) ≡ set
 unfolding group_of
 mark_set-group_of set small = mark_set-choices_from 32 0 set small ∙ mul-one set
 
-pub group_of-mark_set : (choices : List ℕ) → IsGroup choices → group_of (mark_set choices) ≡ choices
+pub group_of-mark_set : (e : Election) (choices : List ℕ) → IsGroup e choices → group_of (mark_set choices) ≡ choices
 unfolding group_of
-group_of-mark_set choices group = choices_from-mark_set 32 0 (mark_set choices) choices (omega arith) (rises_from_IsGroup choices group) (sym (mul-one (mark_set choices)))
+group_of-mark_set e choices group = choices_from-mark_set 32 0 (mark_set choices) choices (omega arith) (rises_from_IsGroup e choices group) (sym (mul-one (mark_set choices)))

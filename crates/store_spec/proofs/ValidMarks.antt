@@ -15,7 +15,7 @@ few_choices : (e : Election) (k : ℕ) → IsElection e → choices_of e k ≤ 3
 few_choices e k valid =
     cond_both (eqb k 0) 0 (option_map_or (λ contest. contest.choices) (slice_get e.contests (k - 1)) 0) (λ n. n ≤ 32) (λ _. omega arith)
     (λ _. offered (slice_get e.contests (k - 1)) (λ n. n ≤ 32) (omega arith)
-    (λ contest found. (subst IsContest (get_or_from_slice_get e.contests (k - 1) contest contest found) (valid.each_contest (k - 1) contest (slice_get_within e.contests (k - 1) contest found))).few_choices))
+    (λ contest found. (subst (IsContest e) (get_or_from_slice_get e.contests (k - 1) contest contest found) (valid.each_contest (k - 1) contest (slice_get_within e.contests (k - 1) contest found))).few_choices))
 
 no_choices : (e : Election) (k : ℕ) → length e.contests < k → choices_of e k ≡ 0
 no_choices e k past = rw (ne_eqb k 0 (λ zero. omega arith), slice_get_past e.contests (k - 1) (omega arith)) refl
@@ -51,6 +51,6 @@ marks_kept e x election valid =
     let n = length e.contests in
     let behind = drop n x.marks in
     let zeros : behind ≡ replicate (length behind) 0 = all_zero behind (λ i within.
-    get_or-drop n x.marks i 0 ∙ no_set e x valid (n + i) (omega arith) (omega (arith, length-drop n x.marks, valid.sixteen))) in
-    let count : length behind ≡ 16 - n = omega (arith, length-drop n x.marks, valid.sixteen) in
+    get_or-drop n x.marks i 0 ∙ no_set e x valid (n + i) (omega arith) (omega (arith, length-drop n x.marks, valid.every_set))) in
+    let count : length behind ≡ 16 - n = omega (arith, length-drop n x.marks, valid.every_set) in
     sym (take-append-drop n x.marks) ∙ ap (λ rest. take n x.marks ++ rest) (zeros ∙ ap (λ k. replicate k 0) count)

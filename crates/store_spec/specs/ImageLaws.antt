@@ -1,6 +1,6 @@
 -- The bytes of a set show nothing of the order in which its ballots, or their lines, came.
 use Rattle.std.specs.Prelude.{◌≡◌, ℕ, ◌↔◌, List, Contains, Ok}
-use Rattle.store_spec.specs.Ballot.{Ballot, IsBallotSet}
+use Rattle.store_spec.specs.Ballot.{Ballot, IsListing}
 use Rattle.store_spec.specs.Build.{BuiltFrom}
 use Rattle.store_spec.specs.Election.{Election}
 use Rattle.store_spec.specs.Image.{image_of}
@@ -11,7 +11,7 @@ HoldTheSame {A} xs ys = (x : A) → Contains xs x ↔ Contains ys x
 
 -- two lists of the same ballots, each a set, have one image
 abbrev pub SetsHaveOneImage : Type 0
-SetsHaveOneImage = (e : Election) (xs ys : List Ballot) → IsBallotSet e xs → IsBallotSet e ys → HoldTheSame xs ys → image_of e xs ≡ image_of e ys
+SetsHaveOneImage = (e : Election) (xs ys : List Ballot) → IsListing e xs → IsListing e ys → HoldTheSame xs ys → image_of e xs ≡ image_of e ys
 
 -- the same lines, in whatever order, build one image
 abbrev pub LinesHaveOneImage : Type 0

@@ -1,4 +1,4 @@
-use Rattle.body_store.proofs.BallotSets.{same_in_order}
+use Rattle.store_spec.proofs.BallotSets.{same_in_order}
 use Rattle.body_store.proofs.laws.one_order.Goals as goal
 
 pub returns : goal.returns

@@ -15,7 +15,7 @@ use Rattle.election_def.proofs.read.election_in.Goals as goal
 pub returns-then-len-gt-MAX_CONTESTS-clause-none : goal.returns-then-len-gt-MAX_CONTESTS-clause-none
 returns-then-len-gt-MAX_CONTESTS-clause-none c = λ none e is.
     let contests = c.in_ok-contests.contests.items in
-    let are : IsSomeAnd (get (codes "contests") (view c.args.value.now)) (IsArrayOf IsContestIn (contests_of contests)) = search rules in
+    let are : IsSomeAnd (get (codes "contests") (view c.args.value.now)) (IsArrayOf (IsContestIn 32) (contests_of contests)) = search rules in
     let same = same_contests (view c.args.value.now) e.contests (contests_of contests) is.contests are in
     omega (arith, ap length same, contest_count contests, c.if-len-gt-MAX_CONTESTS.true, c.len.ensures, is.valid.few_contests)
 
@@ -23,7 +23,7 @@ pub returns-in_err-styles-clause-none : goal.returns-in_err-styles-clause-none
 returns-in_err-styles-clause-none c = λ none e is.
     let contests = c.in_ok-contests.contests.items in
     let d = view c.args.value.now in
-    let are : IsSomeAnd (get (codes "contests") d) (IsArrayOf IsContestIn (contests_of contests)) = search rules in
+    let are : IsSomeAnd (get (codes "contests") d) (IsArrayOf (IsContestIn 32) (contests_of contests)) = search rules in
     let at : Some (view c.in_ok-styles_value.styles_value.now) ≡ get (codes "styles") d = search rules in
     let fault : c.in_err-styles.field-0.0 ≡ NotElection = search rules in
     let count : c.len-2.result ≡ length (contests_of contests) = omega (arith, contest_count contests, c.len-2.ensures) in
