@@ -35,6 +35,13 @@ status_text WriteFault = codes "write fault"
 status_text Memory = codes "out of memory"
 status_text (BadLine line why) = codes "bad line " ++ decimal line
 
+-- the status is neither a fault of the outside nor want of memory
+abbrev pub IsDecided : Status → Type 0
+IsDecided (ReadFault which) = ⊥
+IsDecided WriteFault = ⊥
+IsDecided Memory = ⊥
+IsDecided status = Unit {0}
+
 -- ---- the causes that the parts of the program tell
 
 abbrev pub no_election_status : NoElection → Status

@@ -4,6 +4,7 @@
 mod build;
 mod command;
 mod election;
+pub mod laws;
 mod run;
 mod status;
 mod streams;
