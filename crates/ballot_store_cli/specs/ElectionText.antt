@@ -5,18 +5,18 @@ use Rattle.ballot_store_cli.specs.declared.status.Status.{Status}
 use Rattle.ballot_store_cli.specs.declared.status.Status.TheVariants as status
 use Rattle.ballot_store_cli.specs.declared.status.Which.TheVariants as which
 use Rattle.election_def.specs.Text.{Describes, IsElectionText}
-use Rattle.outside_io.specs.Lines.{IfTold}
+use Rattle.outside_io.specs.Told.{IfTold}
 use Rattle.outside_io.specs.Stream.{GivesAtMost, GivesExactly}
 use Rattle.store_spec.specs.Election.{Election, IsElection}
 use Rattle.store_spec.specs.Fault.{Rose}
 
 -- the most bytes of an election's text
-abbrev pub ELECTION_LIMIT : ℕ
-ELECTION_LIMIT = 1048576
+abbrev pub election_limit : ℕ
+election_limit = 1048576
 
 -- the whole text was read, within its limit
 abbrev pub IsWhole : List ℕ → List ℕ → Type 0
-IsWhole text left = (length text ≤ ELECTION_LIMIT) × (left ≡ [])
+IsWhole text left = (length text ≤ election_limit) × (left ≡ [])
 
 -- the whole text was read, and it describes this election
 abbrev pub IsElectionRead : Election → List ℕ → List ℕ → Type 0
@@ -37,7 +37,7 @@ pub record ForElection {E : Type 0} (before after : Input E) (Holds : Election �
 -- Why a source gave no election, and how much was read of it then.
 abbrev pub RefusesElection : {E : Type 0} → Status → Input E → Input E → Type 0
 RefusesElection status.BadElection before after = IfTold before.left after.left IsNoElectionRead × (after.faults ≡ before.faults)
-RefusesElection (status.TooLong which.Election) before after = IfTold before.left after.left (GivesExactly (ELECTION_LIMIT + 1)) × (after.faults ≡ before.faults)
-RefusesElection (status.ReadFault which.Election) before after = IfTold before.left after.left (GivesAtMost ELECTION_LIMIT) × Rose before.faults after.faults
-RefusesElection status.Memory before after = IfTold before.left after.left (GivesAtMost (ELECTION_LIMIT + 1)) × (after.faults ≡ before.faults)
+RefusesElection (status.TooLong which.Election) before after = IfTold before.left after.left (GivesExactly (election_limit + 1)) × (after.faults ≡ before.faults)
+RefusesElection (status.ReadFault which.Election) before after = IfTold before.left after.left (GivesAtMost election_limit) × Rose before.faults after.faults
+RefusesElection status.Memory before after = IfTold before.left after.left (GivesAtMost (election_limit + 1)) × (after.faults ≡ before.faults)
 RefusesElection other before after = ⊥

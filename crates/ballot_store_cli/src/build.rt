@@ -1,9 +1,5 @@
 //! The command `build`: the image of the set of the script's record lines.
 
-ghost use Rattle.std.specs.Prelude.{◌≡◌, IfOk};
-ghost use Rattle.body_store.specs.Contents.{ballots_of};
-ghost use Rattle.store_spec.specs.Ballot.{IsBallotSet};
-ghost use Rattle.store_spec.specs.Image.{image_of};
 ghost use Rattle.ballot_store_cli.specs.Build.{BuildEnds};
 ghost use Rattle.ballot_store_cli.specs.Outside.{input, output, outside};
 ghost use Rattle.ballot_store_cli.specs.Status.{build_fault_status, ended_as};
@@ -11,7 +7,7 @@ ghost use Rattle.ballot_store_cli.specs.Status.{build_fault_status, ended_as};
 mod ballots;
 mod script;
 
-use ballot_record::{Election, LineWhy, Record};
+use ballot_record::{Election, LineWhy};
 use body_store::Closed;
 use image_builder::image;
 use outside_io::{Failed, Memory, Sink, Source};
@@ -72,19 +68,6 @@ impl From<Failed> for BuildFault {
     }
 }
 
-// The image of the set of these records.
-fn image_of_records(
-    alloc: Global,
-    election: &Election,
-    records: Vec<Record>,
-) -> Result<Vec<u8>, Memory>
-    requires { IsBallotSet election.now (ballots_of records.items) }
-    ensures { IfOk result (λ bytes. bytes.items ≡ image_of election.now (ballots_of records.items)) }
-{
-    let store = Closed::from_records(alloc, election, records)?;
-    image(alloc, &store, election)
-}
-
 /// Writes the image of the set of the script's record lines. The first bad line ends the run, and nothing is written.
 pub fn build<S: Source, K: Sink>(
     alloc: Global,
@@ -97,6 +80,7 @@ pub fn build<S: Source, K: Sink>(
         (outside (input S.left S.faults script.new) (output K.taken K.faults out.new)) }
 {
     let records = read_ballots(alloc, election, script)?;
-    let bytes = image_of_records(alloc, election, records)?;
+    let store = Closed::from_records(alloc, election, records)?;
+    let bytes = image(alloc, &store, election)?;
     Ok(out.write_all(&bytes)?)
 }

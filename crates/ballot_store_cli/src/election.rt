@@ -1,5 +1,5 @@
 ghost use Rattle.std.specs.Prelude.{◌≡◌, ◌++◌, IfOk, IfErr, OnOk, vec_len};
-ghost use Rattle.outside_io.specs.Lines.{IfTold};
+ghost use Rattle.outside_io.specs.Told.{AsTold};
 ghost use Rattle.ballot_store_cli.specs.ElectionText.{IsElectionRead, IsWhole, RefusesElection};
 ghost use Rattle.ballot_store_cli.specs.Outside.{input};
 ghost use Rattle.ballot_store_cli.specs.Status.{no_election_status};
@@ -79,7 +79,7 @@ fn append(text: &mut Vec<u8>, piece: &[u8]) -> Result<(), Memory>
 
 // Reads a source to its end, or until it has given more bytes than the limit of an election's text.
 fn read_text<E: Source>(alloc: Global, source: &mut E) -> Result<Vec<u8>, NoElection>
-    ensures text { IfOk result (λ text. IfTold (E.left source.old) (E.left source.new)
+    ensures text { IfOk result (λ text. AsTold E.left source.old source.new
         (λ whole left. IsWhole whole left × (text.items ≡ whole))) }
     ensures refused { IfErr result (λ cause.
         RefusesElection (no_election_status cause) (input E.left E.faults source.old) (input E.left E.faults source.new)) }
@@ -101,7 +101,7 @@ fn read_text<E: Source>(alloc: Global, source: &mut E) -> Result<Vec<u8>, NoElec
 /// The election that the whole text of a source describes.
 pub fn election_from<E: Source>(alloc: Global, source: &mut E) -> Result<Election, NoElection>
     ensures election { IfOk result (λ election.
-        IfTold (E.left source.old) (E.left source.new) (IsElectionRead election)) }
+        AsTold E.left source.old source.new (IsElectionRead election)) }
     ensures valid { IfOk result IsElection }
     ensures refused { IfErr result (λ cause.
         RefusesElection (no_election_status cause) (input E.left E.faults source.old) (input E.left E.faults source.new)) }

@@ -1,10 +1,8 @@
-ghost use Rattle.std.specs.Prelude.{◌≡◌, ◌+◌, ◌≤◌, Err, IfOk};
+ghost use Rattle.std.specs.Prelude.{◌≡◌, Err, IfOk};
 ghost use Rattle.body_store.specs.Contents.{ballots_of};
-ghost use Rattle.store_spec.specs.Ballot.{IsBallotSet};
-ghost use Rattle.outside_io.specs.Lines.{IfTold};
-ghost use Rattle.outside_io.specs.Stream.{GivesAtMost};
-ghost use Rattle.store_spec.specs.Fault.{Rose};
-ghost use Rattle.store_spec.specs.Input.{SCRIPT_LIMIT};
+ghost use Rattle.store_spec.specs.Ballot.{IsListing, IsWithinLimit};
+ghost use Rattle.outside_io.specs.Told.{AsTold};
+ghost use Rattle.store_spec.specs.Fault.{CountsFaultIf};
 ghost use Rattle.ballot_store_cli.specs.Script.{Reads};
 
 use crate::build::ballots::{Ballots, Refusal};
@@ -42,11 +40,10 @@ pub fn read_ballots<S: Source>(
     election: &Election,
     script: &mut S,
 ) -> Result<Vec<Record>, ScriptFault>
-    ensures reads { IfTold (S.left script.old) (S.left script.new) (Reads result election.now) }
-    ensures set { IfOk result (λ records. IsBallotSet election.now (ballots_of records.items)) }
-    ensures taken { IfTold (S.left script.old) (S.left script.new) (GivesAtMost (SCRIPT_LIMIT + 1)) }
-    ensures failed { result ≡ Err ScriptFault.ReadFault → Rose (S.faults script.old) (S.faults script.new) }
-    ensures faults { S.faults script.old ≤ S.faults script.new }
+    ensures reads { AsTold S.left script.old script.new (Reads result election.now) }
+    ensures listing { IfOk result (λ records. IsListing election.now (ballots_of records.items)) }
+    ensures within_limit { IfOk result (λ records. IsWithinLimit election.now (ballots_of records.items)) }
+    ensures fault { CountsFaultIf (result ≡ Err ScriptFault.ReadFault) (S.faults script.old) (S.faults script.new) }
 {
     let mut lines = Lines::new(alloc)?;
     let mut ballots = Ballots::new(alloc);
