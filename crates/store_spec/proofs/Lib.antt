@@ -11,12 +11,9 @@ pub mod LaidOut
 pub mod OrderedCells
 pub mod Placing
 pub mod ValidMarks
-pub mod DiskMoments
-pub mod TornBytes
 pub mod BuildLaws
 pub mod Lookups
 pub mod Images
 pub mod BallotNumbers
 pub mod BallotSets
-pub mod FirstLine
 pub mod LineFronts

@@ -2,14 +2,11 @@
 #![tactic(auto)]
 
 pub mod build;
-mod disk;
 pub mod image;
 pub mod layout;
 pub mod line_laws;
 
 ghost use Rattle.store_spec.specs.Figures.{ExampleHomes, ExampleSizes, ExampleLayout, ExampleImage, ExampleLines};
-
-pub use disk::{torn_again, torn_range, written_range};
 
 /// The homes of some numbers under the example election.
 pub fn example_homes()

@@ -3,7 +3,7 @@ use Rattle.std.proofs.Common.{◌≡◌, ℕ, zero, suc, ◌+◌, ◌-◌, ◌<�
 use Rattle.std.proofs.Common.{inl, inr, le-leb, length-drop}
 use Rattle.std.proofs.lemmas.Bool.{cases_lt, lt-leb}
 use Rattle.std.proofs.lemmas.List.{take_all, drop_all, take-take, drop-take, length-take-le}
-use Rattle.store_spec.specs.Input.{LINE_END, begun_with, continued, lines_of, ended_lines, lines_within, first_width, IsTooLong}
+use Rattle.store_spec.specs.Input.{line_end, begun_with, continued, lines_of, ended_lines, lines_within, first_width, IsTooLong}
 
 -- the width of a line that begins with this byte
 abbrev width_of : Bool → ℕ → ℕ
@@ -13,7 +13,7 @@ pub first_width-le : (text : List ℕ) → first_width text ≤ length text
 first_width-le [] = omega arith
 first_width-le (b ∷ text) =
     let both : (ends : Bool) → width_of ends (first_width text) ≤ suc (length text) = elim [ true ↦ omega arith | false ↦ omega (arith, first_width-le text) ] in
-    both (eqb b LINE_END)
+    both (eqb b line_end)
 
 -- a text with no line end
 pub first_width-append : (front rest : List ℕ) → first_width front ≡ length front → first_width (front ++ rest) ≡ length front + first_width rest
@@ -23,7 +23,7 @@ first_width-append (b ∷ front) rest none =
       | true ↦ λ h. absurd (omega arith)
       | false ↦ λ h. omega (arith, first_width-append front rest (omega arith))
     ] in
-    both (eqb b LINE_END) none
+    both (eqb b line_end) none
 
 -- what stands before the first line end stays there
 pub first_width-more : (front rest : List ℕ) → first_width front ≤ first_width (front ++ rest)
@@ -33,7 +33,7 @@ first_width-more (b ∷ front) rest =
       | true ↦ omega arith
       | false ↦ omega (arith, first_width-more front rest)
     ] in
-    both (eqb b LINE_END)
+    both (eqb b line_end)
 
 -- a line end stays the first one
 pub first_width-same : (front rest : List ℕ) → first_width front < length front → first_width (front ++ rest) ≡ first_width front
@@ -43,7 +43,7 @@ first_width-same (b ∷ front) rest ends =
       | true ↦ λ h. refl
       | false ↦ λ h. omega (arith, first_width-same front rest (omega arith))
     ] in
-    both (eqb b LINE_END) ends
+    both (eqb b line_end) ends
 
 pub first_width-zeros : (n : ℕ) → first_width (replicate n 0) ≡ n
 first_width-zeros zero = refl
@@ -60,7 +60,7 @@ lines_of-ended (b ∷ text) ends =
       | true ↦ λ h. refl
       | false ↦ λ h. ap (begun_with b) (lines_of-ended text (omega arith)) ∙ sym (ap (λ n. take n (b ∷ text) ∷ lines_of (drop (1 + w + 1) (b ∷ text))) one ∙ ap (λ n. (b ∷ take w text) ∷ lines_of (drop n (b ∷ text))) two)
     ] in
-    both (eqb b LINE_END) ends
+    both (eqb b line_end) ends
 
 -- the only line, where it has none
 pub lines_of-last : (text : List ℕ) → first_width text ≡ length text → 0 < length text → lines_of text ≡ text ∷ []
@@ -70,13 +70,13 @@ lines_of-last (b ∷ []) none some =
       | true ↦ λ h. absurd (omega arith)
       | false ↦ λ h. refl
     ] in
-    both (eqb b LINE_END) none
+    both (eqb b line_end) none
 lines_of-last (b ∷ c ∷ text) none some =
     let both : (is_end : Bool) → width_of is_end (first_width (c ∷ text)) ≡ suc (length (c ∷ text)) → cond is_end ([] ∷ lines_of (c ∷ text)) (begun_with b (lines_of (c ∷ text))) ≡ (b ∷ c ∷ text) ∷ [] = elim [
       | true ↦ λ h. absurd (omega arith)
       | false ↦ λ h. ap (begun_with b) (lines_of-last (c ∷ text) (omega arith) (omega arith))
     ] in
-    both (eqb b LINE_END) none
+    both (eqb b line_end) none
 
 -- where the front of a text has its first line end
 pub first_width-take : (n : ℕ) (text : List ℕ) → first_width text < n → first_width (take n text) ≡ first_width text
@@ -87,7 +87,7 @@ first_width-take (suc n) (b ∷ text) ends =
       | true ↦ λ h. refl
       | false ↦ λ h. omega (arith, first_width-take n text (omega arith))
     ] in
-    both (eqb b LINE_END) ends
+    both (eqb b line_end) ends
 
 pub first_width-take_none : (n : ℕ) (text : List ℕ) → n ≤ first_width text → first_width (take n text) ≡ n
 first_width-take_none zero text none = refl
@@ -97,7 +97,7 @@ first_width-take_none (suc n) (b ∷ text) none =
       | true ↦ λ h. absurd (omega arith)
       | false ↦ λ h. omega (arith, first_width-take_none n text (omega arith))
     ] in
-    both (eqb b LINE_END) none
+    both (eqb b line_end) none
 
 -- the same of the lines that have an end
 pub ended_lines-ended : (text : List ℕ) → first_width text < length text → ended_lines text ≡ take (first_width text) text ∷ ended_lines (drop (first_width text + 1) text)
@@ -110,7 +110,7 @@ ended_lines-ended (b ∷ text) ends =
       | true ↦ λ h. refl
       | false ↦ λ h. ap (continued b) (ended_lines-ended text (omega arith)) ∙ sym (ap (λ n. take n (b ∷ text) ∷ ended_lines (drop (1 + w + 1) (b ∷ text))) one ∙ ap (λ n. (b ∷ take w text) ∷ ended_lines (drop n (b ∷ text))) two)
     ] in
-    both (eqb b LINE_END) ends
+    both (eqb b line_end) ends
 
 pub ended_lines-none : (text : List ℕ) → first_width text ≡ length text → ended_lines text ≡ []
 ended_lines-none [] none = refl
@@ -119,7 +119,7 @@ ended_lines-none (b ∷ text) none =
       | true ↦ λ h. absurd (omega arith)
       | false ↦ λ h. ap (continued b) (ended_lines-none text (omega arith))
     ] in
-    both (eqb b LINE_END) none
+    both (eqb b line_end) none
 
 -- ---- the lines within a room
 
