@@ -11,20 +11,28 @@ use Rattle.store_spec.proofs.BallotSets.{listing-IsPermutation, listing_from_set
 use Rattle.body_store.specs.Contents.{Contents, IsStored, ballots_without}
 use Rattle.probe_order.specs.Below.{home_of-lt}
 use Rattle.store_spec.proofs.LaidOut.{layout_of_is}
-use Rattle.store_spec.specs.Ballot.{Ballot, IsListing, IsValid, IsWithinLimit, numbers_of}
+use Rattle.store_spec.specs.Ballot.{Ballot, IsBallotSet, IsListing, IsValid, IsWithinLimit, numbers_of}
 use Rattle.store_spec.specs.Election.{Election, IsElection, cell_count}
 use Rattle.store_spec.specs.Home.{home_of}
 use Rattle.store_spec.specs.Image.{cells_of}
 use Rattle.store_spec.specs.Layout.{HasRoom, IsLayout}
 
+-- a listing of a set that the election's store may hold
+pub record MayHold (e : Election) (ballots : List Ballot) : Type 0 where
+  pub listing : IsListing e ballots
+  pub within_limit : IsWithinLimit e ballots
+
+pub may_hold_set : (e : Election) (ballots : List Ballot) → IsBallotSet e ballots → IsWithinLimit e ballots → MayHold e ballots
+may_hold_set e ballots set few = record { listing = listing_from_set e ballots set; within_limit = few }
+
 -- the cells of an election have room for each of its sets, however it is listed
-pub has_room : (e : Election) (ballots : List Ballot) → IsElection e → IsListing e ballots → IsWithinLimit e ballots → HasRoom (home_of e.bits e.salt) (2 ^ e.bits) (cell_count e) (numbers_of ballots)
-has_room e ballots election listing few = record {
-  distinct = pairs_of_numbers (λ a b. a ≢ b) ballots listing.distinct;
+pub has_room : (e : Election) (ballots : List Ballot) → IsElection e → MayHold e ballots → HasRoom (home_of e.bits e.salt) (2 ^ e.bits) (cell_count e) (numbers_of ballots)
+has_room e ballots election held = record {
+  distinct = pairs_of_numbers (λ a b. a ≢ b) ballots held.listing.distinct;
   some = All-map (λ v. v ≢ 0) (λ b. b.number) ballots
-      (All-weaker (IsValid e) (λ b. b.number ≢ 0) (λ b h. let one = h.some_number in λ z. omega arith) ballots listing.valid);
+      (All-weaker (IsValid e) (λ b. b.number ≢ 0) (λ b h. let one = h.some_number in λ z. omega arith) ballots held.listing.valid);
   homed = λ k d lt. home_of-lt e.bits e.salt _ election.few_bits;
-  room = let size = length-numbers_of ballots in omega arith;
+  room = omega (arith, length-numbers_of ballots, held.within_limit);
 }
 
 pub limit-IsPermutation : (e : Election) (xs ys : List Ballot) → IsPermutation xs ys → IsWithinLimit e xs → IsWithinLimit e ys
@@ -63,4 +71,4 @@ stored_without store numbers h =
 
 -- the cells of what is stored
 pub stored_layout : (store : Contents) → IsStored store → IsLayout (home_of store.election.bits store.election.salt) (cell_count store.election) (numbers_of store.ballots) (cells_of store.election store.ballots)
-stored_layout store h = layout_of_is _ _ _ _ (has_room store.election store.ballots h.election (listing_from_set store.election store.ballots h.set) h.within_limit)
+stored_layout store h = layout_of_is _ _ _ _ (has_room store.election store.ballots h.election (may_hold_set store.election store.ballots h.set h.within_limit))

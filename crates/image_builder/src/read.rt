@@ -2,12 +2,12 @@
 
 ghost use Rattle.body_store.specs.Contents.{IsStored, ballots_of};
 ghost use Rattle.image_builder.specs.Reaches.{AreReaches, IsReach};
-ghost use Rattle.image_builder.specs.Reading.{BankReadsAs};
-ghost use Rattle.std.specs.Prelude.{◌≡◌, ◌≢◌, ◌+◌, ◌*◌, ◌<◌, ◌≤◌, ◌↔◌, List, drop, length, take, AllPairs, IfOk, IfErr, IfSome, IsSome, MatchResult};
-ghost use Rattle.store_spec.specs.Ballot.{Ballot, IsBallotSet};
+ghost use Rattle.image_builder.specs.Reading.{IsRefusedBank};
+ghost use Rattle.std.specs.Prelude.{◌≡◌, ◌≢◌, ◌+◌, ◌*◌, ◌<◌, ◌≤◌, ◌↔◌, List, drop, length, take, IfOk, IfErr, IfSome, IsSome, MatchResult};
+ghost use Rattle.store_spec.specs.Ballot.{Ballot, IsListing, IsWithinLimit};
 ghost use Rattle.store_spec.specs.Election.{bank_size, cell_count, cell_size};
 ghost use Rattle.store_spec.specs.Home.{home_of};
-ghost use Rattle.store_spec.specs.Image.{header_of, image_of};
+ghost use Rattle.store_spec.specs.Image.{IsImageOf, header_of, image_of};
 ghost use Rattle.store_spec.specs.Layout.{MayStand};
 
 use crate::write::{HEADER_BYTES, header};
@@ -64,13 +64,14 @@ impl<T: Drop> From<AllocFailed<T>> for ImageFault {
 /// The store whose image the bytes of a bank are. It is never the empty store where they are the image of none.
 pub fn read_image(alloc: Global, bytes: &[u8], election: &Election) -> Result<Closed, ImageFault>
     requires { length bytes.now ≡ bank_size election.now }
-    ensures reads { BankReadsAs (λ store. store.ballots) election.now bytes.now result }
+    ensures image { IfOk result (λ store. IsImageOf election.now bytes.now store.ballots) }
+    ensures refused { IfErr result (IsRefusedBank election.now bytes.now) }
     ensures election { IfOk result (λ store. store.election ≡ election.now) }
     ensures stored { IfOk result IsStored }
 
     // The image of a set is read as that set and as no other.
-    ensures back { (ballots : List Ballot) → IsBallotSet election.now ballots → AllPairs (λ a b. a.number < b.number) ballots
-        → bytes.now ≡ image_of election.now ballots → MatchResult result (λ store. store.ballots ≡ ballots) (λ fault. fault ≡ ImageFault.Memory) }
+    ensures back { (ballots : List Ballot) → IsImageOf election.now bytes.now ballots
+        → MatchResult result (λ store. store.ballots ≡ ballots) (λ fault. fault ≡ ImageFault.Memory) }
 {
     check_header(bytes, election)?;
     let records = read_cells(alloc, bytes, election)?;
@@ -96,7 +97,10 @@ fn check_header(bytes: &[u8], election: &Election) -> Result<(), ImageFault>
 fn read_cells(alloc: Global, bank: &[u8], election: &Election) -> Result<Vec<Record>, ImageFault>
     requires long { length bank.now ≡ bank_size election.now }
     requires header { take 32 bank.now ≡ header_of election.now }
-    ensures { BankReadsAs (λ records. ballots_of records.items) election.now bank.now result }
+    ensures listing { IfOk result (λ records. IsListing election.now (ballots_of records.items)) }
+    ensures within_limit { IfOk result (λ records. IsWithinLimit election.now (ballots_of records.items)) }
+    ensures image { IfOk result (λ records. bank.now ≡ image_of election.now (ballots_of records.items)) }
+    ensures refused { IfErr result (IsRefusedBank election.now bank.now) }
 {
     let limit = election.limit() as usize;
     let mut numbers = Vec::with_capacity(alloc, election.cells())?;

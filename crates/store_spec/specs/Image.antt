@@ -1,8 +1,8 @@
 -- The bytes of a bank: a header, and the cells of the layout in order. All numbers are big-endian.
-use Rattle.std.specs.Prelude.{ℕ, List, ◌++◌, length, take, replicate, flat_map, codes}
+use Rattle.std.specs.Prelude.{◌≡◌, ℕ, List, ◌++◌, length, take, replicate, flat_map, codes}
 use Rattle.std.specs.Int.{to_be_bytes, bytes_high_first, w8, w16, w32, w64}
 use Rattle.std.specs.Option.{option_map_or}
-use Rattle.store_spec.specs.Ballot.{Ballot, ballot_of, numbers_of}
+use Rattle.store_spec.specs.Ballot.{Ballot, IsBallotSet, IsWithinLimit, ballot_of, numbers_of}
 use Rattle.store_spec.specs.Election.{Election, cell_count, cell_size, set_width, version}
 use Rattle.store_spec.specs.Home.{home_of}
 use Rattle.store_spec.specs.Layout.{layout_of}
@@ -29,3 +29,9 @@ cells_of e ballots = layout_of (home_of e.bits e.salt) (cell_count e) (numbers_o
 -- the image of a set of ballots, listed in any order
 abbrev pub image_of : Election → List Ballot → List ℕ
 image_of e ballots = header_of e ++ flat_map (cell_bytes e ballots) (cells_of e ballots)
+
+-- the bank holds this set, which is one that the election's store may hold
+pub record IsImageOf (e : Election) (bank : List ℕ) (ballots : List Ballot) : Type 0 where
+  pub set : IsBallotSet e ballots
+  pub within_limit : IsWithinLimit e ballots
+  pub bytes : bank ≡ image_of e ballots

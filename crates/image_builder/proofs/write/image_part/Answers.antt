@@ -3,7 +3,7 @@ use Rattle.std.proofs.lemmas.List.{length-append, length-take-le, length-drop}
 use borrow.Rule.Slice.PartMut.{post_of}
 use Rattle.image_builder.proofs.Images.{length-image_of, written_more}
 use Rattle.image_builder.proofs.write.image_part.Goals as goal
-use Rattle.store_spec.specs.Ballot.{IsBallotSet}
+use Rattle.body_store.proofs.BallotSets.{MayHold, may_hold_set}
 use Rattle.store_spec.specs.Election.{Election, IsElection}
 use Rattle.store_spec.specs.Image.{cells_of, image_of}
 
@@ -28,4 +28,4 @@ returns-clause-whole c =
     let ballots = c.args.closed.now.ballots in
     let stored = c.cells-cells.ensures.stored in
     let own = sym c.requires.own in
-    length-image_of e ballots (subst (λ (e : Election). IsElection e) own stored.election) (subst (λ (e : Election). IsBallotSet e ballots) own stored.set)
+    length-image_of e ballots (subst (λ (e : Election). IsElection e) own stored.election) (subst (λ (e : Election). MayHold e ballots) own (may_hold_set c.args.closed.now.election ballots stored.set stored.within_limit))
