@@ -7,7 +7,7 @@ use Rattle.ballot_record.specs.declared.fault.LineWhy.{LineWhy}
 use Rattle.ballot_record.specs.declared.fault.LineWhy.TheVariants.{Malformed, Invalid, Duplicate, Conflict, Full}
 use Rattle.ballot_store_cli.specs.Build.{BuildEnds}
 use Rattle.ballot_store_cli.specs.Command.{Forms, FormNone, Names}
-use Rattle.ballot_store_cli.specs.ElectionText.{ELECTION_LIMIT, ForElection, IsElectionRead, RefusesElection}
+use Rattle.ballot_store_cli.specs.ElectionText.{election_limit, ForElection, IsElectionRead, RefusesElection}
 use Rattle.ballot_store_cli.specs.Outcome.{CommandEnds, Ends, RunEnds}
 use Rattle.ballot_store_cli.specs.Outside.{Input, Outside}
 use Rattle.ballot_store_cli.specs.Status.{IsDecided}
@@ -59,10 +59,10 @@ build_decides : {S K : Type 0} (e : Election) (a : Status) (before after : Outsi
     → IsDecided a → BuildEnds e a before after → Decides e text a
 build_decides e status.Ok before after text is decided ends =
     let read = told_at text is ends.0.built in
-    (read.1.0.0, (ends.0.set, subst (λ lines. BuiltFrom e lines (Ok ends.0.set)) (sym (lines_of_all text read.1.0.0)) read.1.1))
-build_decides e (status.BadLine line why) before after text is decided ends = (told_at text is ends.why).1.0
+    (read.1.0.0, (ends.0.set, subst (λ (lines : List (List ℕ)). BuiltFrom e lines (Ok ends.0.set)) (sym (lines_of_all text read.1.0.0)) read.1.1))
+build_decides e (status.BadLine line why) before after text is decided ends = (told_at text is ends.0.why).1.0
 build_decides e (status.TooLong which.Script) before after text is decided ends =
-    let read = (told_at text is ends.why).1 in (omega (arith, read.0), read.1)
+    let read = (told_at text is ends.0.why).1 in (omega (arith, read.0), (read.1, read.2))
 build_decides e (status.TooLong which.Election) before after text is decided ends = ends
 build_decides e (status.ReadFault which) before after text is decided ends = absurd decided
 build_decides e status.WriteFault before after text is decided ends = absurd decided
@@ -116,8 +116,8 @@ decides_one e text a other x y = absurd y
 
 -- the status that the text of an election decides
 abbrev pub DecidesElection : List ℕ → Status → Type 0
-DecidesElection text status.BadElection = (length text ≤ ELECTION_LIMIT) × ¬ IsElectionText text
-DecidesElection text (status.TooLong which.Election) = ELECTION_LIMIT < length text
+DecidesElection text status.BadElection = (length text ≤ election_limit) × ¬ IsElectionText text
+DecidesElection text (status.TooLong which.Election) = election_limit < length text
 DecidesElection text other = ⊥
 
 refusal_decides : {E : Type 0} (a : Status) (old new : Input E) (text : List ℕ) → old.left ≡ Some text → IsDecided a → RefusesElection a old new → DecidesElection text a
@@ -147,8 +147,8 @@ election_decides_one text a (status.TooLong which.Script) x y = absurd y
 election_decides_one text a other x y = absurd y
 
 -- a text that describes an election is not refused
-none_refused : (text : List ℕ) (a : Status) (e : Election) → length text ≤ ELECTION_LIMIT → Describes text e → DecidesElection text a → ⊥
-none_refused text status.BadElection e few describes refused = ?
+none_refused : (text : List ℕ) (a : Status) (e : Election) → length text ≤ election_limit → Describes text e → DecidesElection text a → ⊥
+none_refused text status.BadElection e few describes refused = refused.1 (e, describes)
 none_refused text (status.TooLong which.Election) e few describes refused = omega arith
 none_refused text (status.TooLong which.Script) e few describes refused = refused
 none_refused text (status.ReadFault which) e few describes refused = refused
@@ -181,3 +181,38 @@ run_decides c a b old a_new b_new before a_after b_after text script told tells 
     decides_one one.election script a b (command_decides c one.election a before a_after script tells da one.holds) (subst (λ e. Decides e script b) same y_decides))
     y)
     x
+
+-- how a run ends is either Usage, or how the command ends that the words form
+ends_with : {E S K : Type 0} (words : List (List ℕ)) (a : Status) (old new : Input E) (before after : Outside S K) → Ends words a old new before after
+    → (FormNone words × (a ≡ status.Usage)) ⊎ ((c : Command) × Forms words c × RunEnds c a old new before after)
+ends_with words status.Usage old new before after ends = inl (ends.0, refl)
+ends_with words status.Ok old new before after ends = inr ends
+ends_with words status.BadElection old new before after ends = inr ends
+ends_with words (status.TooLong which) old new before after ends = inr ends
+ends_with words (status.ReadFault which) old new before after ends = inr ends
+ends_with words status.WriteFault old new before after ends = inr ends
+ends_with words status.Memory old new before after ends = inr ends
+ends_with words (status.BadLine line why) old new before after ends = inr ends
+
+some_told : (a : Option (List ℕ)) → IsSome a → (x : List ℕ) × (a ≡ Some x)
+some_told None is = absurd is
+some_told (Some x) is = (x, refl)
+
+pub one_answer : {E S K : Type 0} (words : List (List ℕ)) (a b : Status) (old a_new b_new : Input E) (before a_after b_after : Outside S K) → IsSome old.left → IsSome before.script.left
+    → Ends words a old a_new before a_after → Ends words b old b_new before b_after → IsDecided a → IsDecided b → a ≡ b
+one_answer words a b old a_new b_new before a_after b_after told tells x y da db =
+    let text = some_told old.left told in
+    let script = some_told before.script.left tells in
+    ⊎_elim
+    (λ none. ⊎_elim
+    (λ other. none.1 ∙ sym other.1)
+    (λ some. absurd (none.0 (some.0, some.1)))
+    (ends_with words b old b_new before b_after y))
+    (λ one. ⊎_elim
+    (λ none. absurd (none.0 (one.0, one.1)))
+    (λ some.
+    let same : some.0 ≡ one.0 = one_command words some.0 one.0 some.1 one.1 in
+    let b_ends = subst (λ c. RunEnds c b old b_new before b_after) same some.2 in
+    run_decides one.0 a b old a_new b_new before a_after b_after text.0 script.0 text.1 script.1 one.2 b_ends da db)
+    (ends_with words b old b_new before b_after y))
+    (ends_with words a old a_new before a_after x)

@@ -1,11 +1,26 @@
 -- The ballots that the lines of a script spell, as far as they were read.
-use Rattle.std.proofs.Common.{◌≡◌, ℕ, ◌+◌, ◌<◌, ◌≤◌, ◌⊎◌, ⊎_elim, inl, inr, cond, List, [], ◌∷◌, ◌++◌, length, take, drop, slice_get, Option, Some, None, refl, ap, sym, subst, ◌∙◌, arith, nat_le, length-append}
-use Rattle.std.proofs.lemmas.Bool.{cases_le, le-leb, lt-leb}
+use Rattle.std.proofs.Common.{◌≡◌, ◌≢◌, ℕ, ◌+◌, ◌<◌, ◌≤◌, ⊎_elim, inl, inr, cond, List, [], ◌∷◌, ◌++◌, length, take, Option, Some, None, refl, ap, sym, subst, ◌∙◌, arith, append_assoc, le-leb}
+use Rattle.std.proofs.lemmas.Bool.{cases_lt, lt-leb}
+use Rattle.std.proofs.lemmas.List.{append-nil, length-drop, take_all, take_at}
+use Rattle.std.proofs.lemmas.List.Sorted.{Contains-permutation, IsPermutation-sym, length_permutation}
+use Rattle.std.proofs.lemmas.Slice.Zip.{AllZip-long}
 use Rattle.std.specs.List.{AllZip}
-use Rattle.std.specs.Prelude.{Contains, Any, IsPermutation}
+use Rattle.std.specs.Prelude.{Any, IsPermutation, slice_get}
+use Rattle.ballot_store_cli.specs.Build.{HasBadLine, HasTooMuch, IsGoodSoFar, IsReadOut}
+use Rattle.outside_io.proofs.EndedLines.{front_of_within}
+use Rattle.outside_io.proofs.FirstLine.{all_within}
+use Rattle.outside_io.proofs.Told.{told_as, told_with}
+use Rattle.outside_io.specs.Reading.{ReadLines, ReadFirst, ReadToFault, ReadsTo}
+use Rattle.outside_io.specs.Reading.Ending.{ReadOut, TooMuch}
+use Rattle.outside_io.specs.Stream.{GivesAtMost}
+use Rattle.outside_io.specs.Told.{IfTold}
+use Rattle.store_spec.proofs.BallotSets.{in_order, in_order-IsPermutation}
+use Rattle.store_spec.proofs.LineFronts.{front_builds, listing_builds}
+use Rattle.store_spec.proofs.LineLaws.{short_lines}
 use Rattle.store_spec.specs.Ballot.{Ballot, IsListing, IsWithinLimit}
 use Rattle.store_spec.specs.BallotLine.{Spells}
-use Rattle.store_spec.specs.Build.{IsFirstBad, IsRefused, Reason}
+use Rattle.store_spec.specs.Build.{Builds, IsFirstBad, IsRefused, Reason}
+use Rattle.store_spec.specs.Build.Reason.{Malformed, Invalid, Duplicate, Conflict, Full}
 use Rattle.store_spec.specs.Election.{Election}
 use Rattle.store_spec.specs.Input.{line_limit, script_limit, lines_of, ended_lines, lines_within, taken_line, taken_lines, taken_within}
 
@@ -30,9 +45,9 @@ spelled_more e (x ∷ ballots) line b spells (l ∷ lines) each = (each.0, spell
 taken_same : (e : Election) (line : List ℕ) (b : Ballot) → SpellsTaken e (taken_line line) b → Spells e line b
 taken_same e line b spells =
     let T = λ (o : Option (List ℕ)). SpellsTaken e o b in
-    elim (cases_le (length line) line_limit) [
-      | inl narrow ↦ subst T (ap (λ t. cond t (Some line) None) (le-leb (length line) line_limit narrow)) spells
-      | inr wide ↦ absurd (subst T (ap (λ t. cond t (Some line) None) (lt-leb (length line) line_limit wide)) spells)
+    elim (cases_lt line_limit (length line)) [
+      | inl wide ↦ absurd (subst T (ap (λ t. cond t (Some line) None) (lt-leb (length line) line_limit wide)) spells)
+      | inr narrow ↦ subst T (ap (λ t. cond t (Some line) None) (le-leb (length line) line_limit narrow)) spells
     ]
 
 pub spelled_lines : (e : Election) (lines : List (List ℕ)) (ballots : List Ballot) → AreSpelled e ballots (taken_lines lines) → AllZip (Spells e) lines ballots
@@ -56,7 +71,7 @@ refused_after e listing set bytes Full same refused = (
   refused.0,
   refused.1,
   λ any. refused.2 (any_too (λ other. other.number ≡ refused.0.number) set listing (IsPermutation-sym listing set same) any),
-  sym (length_permutation listing set same) ∙ refused.3,
+  length_permutation listing set same ∙ refused.3,
 )
 
 -- a line among others: those before it, and those behind it
@@ -101,7 +116,7 @@ first_bad e lines read taken listing why a spelled is few refused =
       stands = slice_get_front a.front a.bytes a.rest;
       before = in_order listing;
       good = subst (λ (ls : List (List ℕ)). Builds e ls (in_order listing)) (sym (take_front a.front a.bytes a.rest)) built;
-      refused = refused_after e listing (in_order listing) a.bytes why built.same (refused a.bytes a.is);
+      refused = refused_after e listing (in_order listing) a.bytes why (in_order-IsPermutation listing) (refused a.bytes a.is);
     })
 
 -- ---- what a loop over the lines has to say
@@ -131,7 +146,7 @@ refused_whole e listing line why refused bytes is = subst (λ (l : List ℕ). Is
 -- a line that is too wide is none of the grammar
 pub refused_wide : (e : Election) (listing : List Ballot) (bytes : List ℕ) → taken_line bytes ≡ None → IsRefused e listing bytes Malformed
 refused_wide e listing bytes is line = elim (cases_lt line_limit (length bytes)) [
-  | inl wide ↦ omega (arith, short_line e bytes line.0 line.1)
+  | inl wide ↦ omega (arith, short_lines e bytes line.0 line.1)
   | inr narrow ↦ absurd (let some : Some bytes ≡ None = sym (ap (λ t. cond t (Some bytes) None) (le-leb (length bytes) line_limit narrow)) ∙ is in cc)
 ]
 
@@ -141,12 +156,23 @@ told_all e listing reads = told_as reads.told (λ x y h. ((h.0, h.1), spelled_li
 pub told_too_much : {a b : Option (List ℕ)} (e : Election) (listing : List Ballot) → IsListing e listing → IsWithinLimit e listing → ReadsTo (ReadLines TooMuch) (AreSpelled e listing) a b → IfTold a b (HasTooMuch e)
 told_too_much e listing is few reads = told_as reads.told (λ x y h.
     let each = spelled_lines e (lines_within script_limit x) listing (subst (λ (ls : List (Option (List ℕ))). AreSpelled e listing ls) h.2 reads.good) in
-    (omega (arith, h.0, ap length h.1, length-drop (script_limit + 1) x), (in_order listing, listing_builds e (lines_within script_limit x) listing each is few)))
+    (omega (arith, h.0, ap length h.1, length-drop (script_limit + 1) x), in_order listing, listing_builds e (lines_within script_limit x) listing each is few))
 
 pub told_fault : {a b : Option (List ℕ)} (e : Election) (listing : List Ballot) → IsListing e listing → IsWithinLimit e listing → ReadsTo ReadToFault (AreSpelled e listing) a b → IfTold a b (IsGoodSoFar e)
 told_fault e listing is few reads = told_as reads.told (λ x y h. ⊎_elim
     (λ ended.
     let each = spelled_lines e (ended_lines ended.0) listing (subst (λ (ls : List (Option (List ℕ))). AreSpelled e listing ls) ended.3 reads.good) in
-    (ended.0, ended.1, ended.2, (in_order listing, listing_builds e (ended_lines ended.0) listing each is few)))
-    (λ out. ?)
+    (ended.0, ended.1, ended.2, in_order listing, listing_builds e (ended_lines ended.0) listing each is few))
+    (λ out.
+    let n = length x in
+    let within : n ≤ script_limit = out.0 in
+    let lines = lines_within script_limit x in
+    let k = length (ended_lines (take n x)) in
+    let whole : take n x ≡ x = take_all n x (omega arith) in
+    let first : ended_lines x ≡ take k lines = sym (ap ended_lines whole) ∙ front_of_within n script_limit x within in
+    let each : AllZip (Spells e) lines listing =
+    spelled_lines e lines listing (subst (λ (ls : List (Option (List ℕ))). AreSpelled e listing ls) (out.2 ∙ ap taken_lines (sym (all_within script_limit x within))) reads.good) in
+    let all : take (length lines + k) lines ≡ lines = take_all (length lines + k) lines (omega arith) in
+    let built = front_builds e lines k (length lines + k) listing (omega arith) (subst (λ (ls : List (List ℕ)). AllZip (Spells e) ls listing) (sym all) each) is few in
+    (x, sym (append-nil x) ∙ ap (λ rest. x ++ rest) (sym out.1), within, in_order (take k listing), subst (λ (ls : List (List ℕ)). Builds e ls (in_order (take k listing))) (sym first) built))
     h)

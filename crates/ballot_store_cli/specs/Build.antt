@@ -56,8 +56,8 @@ pub record RefusesScript {S K : Type 0} (before after : Outside S K) (Why : List
 abbrev pub BuildEnds : {S K : Type 0} → Election → Status → Outside S K → Outside S K → Type 0
 BuildEnds e status.Ok before after = WritesImage e before after (λ image. TakesAll before.sink.taken image after.sink.taken) × NoFault before after
 BuildEnds e status.WriteFault before after = WritesImage e before after (λ image. TakesSome before.sink.taken image after.sink.taken) × Rose before.sink.faults after.sink.faults
-BuildEnds e (status.BadLine line why) before after = RefusesScript before after (HasBadLine e line (reason why))
-BuildEnds e (status.TooLong which.Script) before after = RefusesScript before after (HasTooMuch e)
+BuildEnds e (status.BadLine line why) before after = RefusesScript before after (HasBadLine e line (reason why)) × NoFault before after
+BuildEnds e (status.TooLong which.Script) before after = RefusesScript before after (HasTooMuch e) × NoFault before after
 BuildEnds e (status.ReadFault which.Script) before after = RefusesScript before after (IsGoodSoFar e) × Rose before.script.faults after.script.faults
-BuildEnds e status.Memory before after = RefusesScript before after (GivesAtMost (script_limit + 1))
+BuildEnds e status.Memory before after = RefusesScript before after (GivesAtMost (script_limit + 1)) × NoFault before after
 BuildEnds e other before after = ⊥
