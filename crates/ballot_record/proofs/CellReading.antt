@@ -10,7 +10,7 @@ use Rattle.std.proofs.lemmas.Nat.{be_bytes_4, be_bytes_8, from_be_bytes-to_be_by
 use Rattle.store_spec.specs.Ballot.{Ballot, IsValid}
 use Rattle.store_spec.specs.Election.{Election, IsElection}
 use Rattle.store_spec.specs.Image.{ballot_bytes}
-use Rattle.store_spec.proofs.ValidMarks.{small_set, marks_kept}
+use Rattle.ballot_record.proofs.ValidMarks.{small_set, marks_kept}
 use Rattle.ballot_record.specs.CellReading.{sets_at, ballot_at}
 
 abbrev pub AreBytes : List ℕ → Type 0

@@ -5,9 +5,9 @@ use Rattle.std.proofs.lemmas.Option.{none-some, some_pair_parts}
 use Rattle.store_spec.specs.Ballot.{Ballot, IsValid}
 use Rattle.store_spec.specs.BallotLine.{RecordLine, ReadsAs, IsRecordLine, Spells, IsLineOf, ballot_of_line}
 use Rattle.store_spec.specs.Election.{Election}
-use Rattle.store_spec.proofs.LineReading.{line_of}
-use Rattle.store_spec.proofs.LineLaws.{one_reading}
-use Rattle.store_spec.proofs.LineWhole.{line_takes, line_again}
+use Rattle.ballot_record.specs.LineReading.{line_of}
+use Rattle.ballot_record.proofs.LineLaws.{one_reading}
+use Rattle.ballot_record.proofs.LineWhole.{line_takes, line_again}
 use Rattle.ballot_record.specs.Line.{line_seen}
 
 pub not_a_line : (e : Election) (bytes : List ℕ) → None ≡ option_map line_seen (line_of bytes) → ¬ IsRecordLine e bytes

@@ -5,6 +5,7 @@ mod cell;
 mod contest;
 mod election;
 mod fault;
+pub mod laws;
 mod line;
 mod record;
 

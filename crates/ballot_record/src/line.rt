@@ -1,6 +1,6 @@
 ghost use Rattle.std.specs.Prelude.{◌≡◌, ℕ, ◌^◌, ◌<◌, ◌≤◌, ◌↔◌, option_map, option_copied, Some, None, Ok, Err, IfOk};
 ghost use Rattle.store_spec.specs.BallotLine.{IsRecordLine, Spells, IsLineOf};
-ghost use Rattle.store_spec.proofs.LineReading.{digits_at, past_byte, choices_at, group_at, groups_of, line_of};
+ghost use Rattle.ballot_record.specs.LineReading.{digits_at, past_byte, choices_at, group_at, groups_of, line_of};
 ghost use Rattle.ballot_record.specs.Line.{set_seen, sets_seen, line_seen};
 ghost use Rattle.ballot_record.specs.Record.{ballot};
 
@@ -17,7 +17,7 @@ fn after_byte(bytes: &[u8], byte: u8) -> Option<&[u8]>
 }
 
 /// The number from 1 to the limit that stands first, and the bytes after it.
-#[tactic(auto, unfolding(store_spec::proofs::LineReading::digits_at))]
+#[tactic(auto, unfolding(crate::specs::LineReading::digits_at))]
 fn take_number(bytes: &[u8], limit: u64) -> Option<(u64, &[u8])>
     ensures { option_map (λ x. (x.0, x.1.now)) result ≡ digits_at limit 0 bytes.now }
 {
@@ -60,7 +60,7 @@ fn take_choices(bytes: &[u8]) -> Option<(u32, &[u8])>
 }
 
 /// The mark set of a group, and the bytes after it.
-#[tactic(auto, unfolding(store_spec::proofs::LineReading::group_at))]
+#[tactic(auto, unfolding(crate::specs::LineReading::group_at))]
 fn take_group(bytes: &[u8]) -> Option<(u32, &[u8])>
     ensures { option_map (λ x. (x.0, x.1.now)) result ≡ option_map set_seen (group_at bytes.now) }
 {
@@ -88,7 +88,7 @@ fn all_groups(bytes: &[u8]) -> Option<([u32; MAX_CONTESTS], usize)>
 }
 
 /// The record that a line in the grammar spells, and how many groups it has.
-#[tactic(auto, unfolding(store_spec::proofs::LineReading::line_of))]
+#[tactic(auto, unfolding(crate::specs::LineReading::line_of))]
 fn parts(line: &[u8]) -> Option<(Record, usize)>
     ensures { option_map (λ x. (ballot x.0, x.1)) result ≡ option_map line_seen (line_of line.now) }
 {

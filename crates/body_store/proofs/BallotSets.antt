@@ -1,21 +1,22 @@
 -- Sets of ballots: their layout, and what a store may hold.
-use Rattle.std.proofs.Common.{◌≡◌, ◌≢◌, ◌==◌, ◌^◌, ℕ, ◌<◌, ◌≤◌, not, List, [], length, arith}
+use Rattle.std.proofs.Common.{◌≡◌, ◌≢◌, ◌==◌, ◌^◌, ℕ, ◌<◌, ◌≤◌, not, List, length, sym, ap, arith}
 use Rattle.std.proofs.lemmas.List.Elements.{All-filter, All-map, All-weaker}
 use Rattle.std.proofs.lemmas.List.Kept.{AllPairs-filter}
-use Rattle.std.proofs.lemmas.List.Sorted.{length_permutation}
+use Rattle.std.proofs.lemmas.List.Sorted.{IsPermutation-map, length_permutation}
 use Rattle.std.proofs.lemmas.List.Sums.{length-filter, count_by-le-length}
 use Rattle.std.specs.List.{list_any}
 use Rattle.std.specs.List.Sorted.{IsPermutation, IsNonDecreasing}
-use Rattle.store_spec.proofs.BallotNumbers.{length-numbers_of, pairs_of_numbers, pairs_of_ballots}
-use Rattle.store_spec.proofs.BallotSets.{listing-IsPermutation, listing_from_set}
+use Rattle.ballot_record.proofs.BallotNumbers.{length-numbers_of, pairs_of_numbers, pairs_of_ballots}
+use Rattle.ballot_record.proofs.BallotSets.{listing-IsPermutation, listing_from_set}
 use Rattle.body_store.specs.Contents.{Contents, IsStored, ballots_without}
 use Rattle.probe_order.specs.Below.{home_of-lt}
-use Rattle.store_spec.proofs.LaidOut.{layout_of_is}
+use Rattle.layout_def.proofs.Ascending.{ascending-IsPermutation}
+use Rattle.layout_def.proofs.LaidOut.{layout_of_is}
 use Rattle.store_spec.specs.Ballot.{Ballot, IsBallotSet, IsListing, IsValid, IsWithinLimit, numbers_of}
 use Rattle.store_spec.specs.Election.{Election, IsElection, cell_count}
 use Rattle.store_spec.specs.Home.{home_of}
 use Rattle.store_spec.specs.Image.{cells_of}
-use Rattle.store_spec.specs.Layout.{HasRoom, IsLayout}
+use Rattle.store_spec.specs.Layout.{HasRoom, IsLayout, laid_out}
 
 -- a listing of a set that the election's store may hold
 pub record MayHold (e : Election) (ballots : List Ballot) : Type 0 where
@@ -34,6 +35,10 @@ has_room e ballots election held = record {
   homed = λ k d lt. home_of-lt e.bits e.salt _ election.few_bits;
   room = omega (arith, length-numbers_of ballots, held.within_limit);
 }
+
+pub cells_of-IsPermutation : (e : Election) (xs ys : List Ballot) → IsPermutation xs ys → cells_of e xs ≡ cells_of e ys
+cells_of-IsPermutation e xs ys p =
+    ap (laid_out (home_of e.bits e.salt) (cell_count e)) (sym (ascending-IsPermutation _ _ (IsPermutation-map (λ b. b.number) xs ys p)))
 
 pub limit-IsPermutation : (e : Election) (xs ys : List Ballot) → IsPermutation xs ys → IsWithinLimit e xs → IsWithinLimit e ys
 limit-IsPermutation e xs ys p few = let size = length_permutation xs ys p in omega arith

@@ -6,7 +6,7 @@ use Rattle.std.proofs.lemmas.Nat.{pow_pos}
 use Rattle.std.specs.List.{All, AllPairs}
 use Rattle.ballot_record.specs.declared.record.Record.{Record}
 use Rattle.body_store.specs.Contents.{ballots_of}
-use Rattle.store_spec.proofs.BallotNumbers.{pairs_of_ballots}
+use Rattle.ballot_record.proofs.BallotNumbers.{pairs_of_ballots}
 use Rattle.store_spec.specs.Ballot.{Ballot, IsListing, IsValid, numbers_of}
 use Rattle.store_spec.specs.Election.{example, choices_on}
 

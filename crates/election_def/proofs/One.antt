@@ -7,7 +7,7 @@ use Rattle.serde_json.specs.Find.{get, as_array, as_str}
 use Rattle.serde_json.specs.Read.{read}
 use Rattle.store_spec.specs.Election.{Contest, Election}
 use Rattle.election_def.proofs.Salts.{one_salt}
-use Rattle.election_def.specs.Text.{listed, number_in, number_at, contest_set, IsArrayOf, IsContestIn, IsStyleIn, IsSaltText, IsElectionIn, DescribeOne}
+use Rattle.election_def.specs.Text.{listed, number_in, number_at, contest_set, IsArrayOf, IsContestIn, IsStyleIn, IsSaltText, IsElectionIn, Describes}
 use Rattle.ballot_record.specs.Contest.{contests_of}
 use Rattle.ballot_record.specs.declared.contest.Contest as program
 use Rattle.election_def.proofs.Zips.{one_list}
@@ -65,7 +65,7 @@ no_styles d xs are none e is =
     let P : List Contest → Type 0 = λ contests. IsSomeAnd (get (codes "styles") d) (IsArrayOf (IsStyleIn (length contests)) e.styles) in
     both (get (codes "styles") d) _ _ none (subst P contests is.styles) (λ v no some. no e.styles some)
 
-pub one_election : DescribeOne
+pub one_election : (bytes : List ℕ) (e f : Election) → Describes bytes e → Describes bytes f → e ≡ f
 one_election bytes e f x y = both (read bytes) _ _ x.value y.value (λ d a b. same_parts d e f (parts_of d e a) (parts_of d f b))
 
 pub are_styles : (d v : Data) (count contests : ℕ) (ss : List ℕ) → Some v ≡ get (codes "styles") d → count ≡ contests → IsArrayOf (IsStyleIn count) ss v → IsSomeAnd (get (codes "styles") d) (IsArrayOf (IsStyleIn contests) ss)

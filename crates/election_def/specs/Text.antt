@@ -93,7 +93,3 @@ pub record Describes (bytes : List ℕ) (e : Election) : Type 0 where
 -- the bytes describe an election
 abbrev pub IsElectionText : List ℕ → Type 0
 IsElectionText bytes = (e : Election) × Describes bytes e
-
--- no bytes describe two
-abbrev pub DescribeOne : Type 0
-DescribeOne = (bytes : List ℕ) (e f : Election) → Describes bytes e → Describes bytes f → e ≡ f

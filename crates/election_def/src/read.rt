@@ -2,7 +2,7 @@ ghost use Rattle.std.specs.Prelude.{◌≡◌, ◌<◌, ◌≤◌, ℕ, List, le
 ghost use Rattle.serde_json.specs.View.{view};
 ghost use Rattle.store_spec.specs.Election as definition;
 ghost use Rattle.ballot_record.specs.Contest.{contests_of};
-ghost use Rattle.election_def.specs.Text.{IsArrayOf, IsContestIn, IsStyleIn, IsElectionIn, Describes, IsElectionText, DescribeOne};
+ghost use Rattle.election_def.specs.Text.{IsArrayOf, IsContestIn, IsStyleIn, IsElectionIn, Describes, IsElectionText};
 
 use crate::ElectionFault;
 use crate::parts::{contest, has_no_key_but, number_at, salt, style};
@@ -75,11 +75,6 @@ fn election_in(alloc: Global, value: &Value) -> Result<Election, ElectionFault>
         ElectionFault::NotElection,
     )
 }
-
-/// No bytes describe two elections.
-pub fn one_election()
-    ensures { DescribeOne }
-{}
 
 /// The election that the bytes describe. `NotElection` comes exactly where they describe none, but for want of memory,
 /// which may come in place of any answer.

@@ -8,8 +8,8 @@ use Rattle.std.specs.Int.{to_be_bytes, w32}
 use Rattle.std.specs.Option.{option_map_or}
 use Rattle.body_store.proofs.BallotSets.{MayHold, has_room}
 use borrow.Rule.Slice.PartMut.{put_mid, post_of}
-use Rattle.store_spec.proofs.LaidOut.{layout_of_is}
-use Rattle.store_spec.proofs.Lookups.{option_cases, found_in}
+use Rattle.layout_def.proofs.LaidOut.{layout_of_is}
+use Rattle.ballot_record.proofs.Lookups.{option_cases, found_in}
 use Rattle.store_spec.specs.Ballot.{Ballot, IsValid, ballot_of}
 use Rattle.store_spec.specs.Election.{Election, IsElection, bank_size, cell_count, cell_size}
 use Rattle.store_spec.specs.Image.{ballot_bytes, cell_bytes, cells_of, header_of, image_of}

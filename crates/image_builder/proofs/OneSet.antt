@@ -9,13 +9,13 @@ use Rattle.std.proofs.lemmas.List.Elements.{All-contains}
 use Rattle.std.specs.List.{AllPairs, Contains, flat_map}
 use Rattle.body_store.proofs.BallotSets.{MayHold, may_hold_set}
 use Rattle.image_builder.proofs.Images.{cell_of_found, drop_pieces, length-cell_bytes}
-use Rattle.store_spec.proofs.BallotSets.{same_members}
-use Rattle.store_spec.proofs.BallotNumbers.{ballot_with, contains_number}
-use Rattle.store_spec.proofs.Lookups.{found_once}
+use Rattle.ballot_record.proofs.BallotSets.{same_members}
+use Rattle.ballot_record.proofs.BallotNumbers.{ballot_with, contains_number}
+use Rattle.ballot_record.proofs.Lookups.{found_once}
 use Rattle.image_builder.proofs.Reading.{layout_read, number_in_cell, same_numbers, split_same}
 use Rattle.image_builder.proofs.Wrong.{known_cell}
-use Rattle.store_spec.proofs.ValidMarks.{marks_kept, small_set}
-use Rattle.store_spec.proofs.OrderedCells.{place_from_contains, contains_from_place}
+use Rattle.ballot_record.proofs.ValidMarks.{marks_kept, small_set}
+use Rattle.layout_def.proofs.OrderedCells.{place_from_contains, contains_from_place}
 use Rattle.store_spec.specs.Ballot.{Ballot, IsBallotSet, IsValid, IsWithinLimit, numbers_of}
 use Rattle.store_spec.specs.Election.{Election, IsElection, cell_size}
 use Rattle.store_spec.specs.Image.{ballot_bytes, cell_bytes, cells_of, header_of, image_of}

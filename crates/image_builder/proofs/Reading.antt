@@ -8,13 +8,13 @@ use Rattle.std.proofs.lemmas.Nat.{from_be_bytes-to_be_bytes_8}
 use Rattle.std.specs.List.{All, AllPairs, Contains, flat_map}
 use Rattle.std.specs.Int.{to_be_bytes, from_be_bytes, w8, w32, w64}
 use Rattle.body_store.proofs.BallotSets.{MayHold, has_room, limit-IsPermutation}
-use Rattle.store_spec.proofs.BallotSets.{in_order, in_order-IsPermutation, set_of_listing}
-use Rattle.store_spec.proofs.Images.{image_of-IsPermutation}
+use Rattle.ballot_record.proofs.BallotSets.{in_order, in_order-IsPermutation, set_of_listing}
+use Rattle.image_builder.proofs.Listings.{image_of-IsPermutation}
 use Rattle.image_builder.proofs.Images.{take-add, length-cell_bytes, cell_of_found, cell_of_none}
-use Rattle.store_spec.proofs.Lookups.{option_cases, found_in, missing_from}
-use Rattle.store_spec.proofs.BallotNumbers.{ballot_with, pairs_of_ballots}
-use Rattle.store_spec.proofs.Fronts.{distinct_in, front_is_layout}
-use Rattle.store_spec.proofs.LaidOut.{layout_of_is}
+use Rattle.ballot_record.proofs.Lookups.{option_cases, found_in, missing_from}
+use Rattle.ballot_record.proofs.BallotNumbers.{ballot_with, pairs_of_ballots}
+use Rattle.layout_def.proofs.Fronts.{distinct_in, front_is_layout}
+use Rattle.layout_def.proofs.LaidOut.{layout_of_is}
 use Rattle.store_spec.specs.Ballot.{Ballot, IsValid, ballot_of, numbers_of}
 use Rattle.store_spec.specs.Damage.{BeginsAnImage, first_cells}
 use Rattle.store_spec.specs.Election.{Election, IsElection, cell_count, cell_size}

@@ -1,7 +1,13 @@
 //! What a layout is like, and that nothing else is like it. Each function here states a law and does nothing.
 
-ghost use Rattle.std.specs.Prelude.{◌≡◌, ◌≢◌, ◌++◌, ℕ, ◌+◌, ◌<◌, ◌≤◌, List, ◌∷◌, All, AllPairs, Contains, length, set, slice_index, take};
+ghost use Rattle.std.specs.Prelude.{◌≡◌, ◌≢◌, ◌++◌, ℕ, ◌+◌, ◌<◌, ◌≤◌, List, ◌∷◌, All, AllPairs, Contains, IsPermutation, length, set, slice_index, take};
 ghost use Rattle.store_spec.specs.Layout.{HasRoom, HoldsExactly, IsLayout, IsOrdered, MayStand, layout_of, numbers_in, placed};
+
+/// The layout does not depend on the order in which its numbers are listed.
+pub fn any_listing()
+    ensures { (home : ℕ → ℕ) (count : ℕ) (xs ys : List ℕ) → IsPermutation xs ys
+        → layout_of home count xs ≡ layout_of home count ys }
+{}
 
 /// Whichever way they came about, ordered cells with the numbers of a set, and no others, are its layout.
 pub fn ordered_cells_are_the_layout()

@@ -2,7 +2,7 @@
 #![tactic(auto)]
 
 ghost use Rattle.std.specs.Prelude.{◌≡◌, ℕ, ◌^◌, ◌<◌, ◌≤◌};
-ghost use Rattle.store_spec.specs.Home.{home_of, MULTIPLIER};
+ghost use Rattle.store_spec.specs.Home.{home_of};
 ghost use Rattle.probe_order.specs.Below.{home_of-lt};
 
 /// 2 ^ 64 divided by the golden ratio, the multiplier of a Fibonacci hash.

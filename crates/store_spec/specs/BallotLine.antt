@@ -36,25 +36,26 @@ pub record IsLine (e : Election) (line : RecordLine) : Type 0 where
   pub few_groups : length line.groups ≤ most_contests e
   pub each_group : All (IsGroup e) line.groups
 
--- how the parts are spelled
-abbrev pub DASH : ℕ
-DASH = 45
+-- ---- how the parts are spelled
 
-abbrev pub COMMA : ℕ
-COMMA = 44
+abbrev pub dash : ℕ
+dash = 45
 
-abbrev pub SLASH : ℕ
-SLASH = 47
+abbrev pub comma : ℕ
+comma = 44
 
-abbrev pub SPACE : ℕ
-SPACE = 32
+abbrev pub slash : ℕ
+slash = 47
+
+abbrev pub space : ℕ
+space = 32
 
 abbrev pub group_text : List ℕ → List ℕ
-group_text [] = DASH ∷ []
-group_text (choice ∷ choices) = join_with_byte COMMA (map decimal (choice ∷ choices))
+group_text [] = dash ∷ []
+group_text (choice ∷ choices) = join_with_byte comma (map decimal (choice ∷ choices))
 
 abbrev pub line_text : RecordLine → List ℕ
-line_text line = decimal line.number ++ SPACE ∷ decimal line.style ++ SPACE ∷ join_with_byte SLASH (map group_text line.groups)
+line_text line = decimal line.number ++ space ∷ decimal line.style ++ space ∷ join_with_byte slash (map group_text line.groups)
 
 -- the bytes are in the grammar, and these are their parts
 pub record ReadsAs (e : Election) (bytes : List ℕ) (line : RecordLine) : Type 0 where
@@ -64,6 +65,12 @@ pub record ReadsAs (e : Election) (bytes : List ℕ) (line : RecordLine) : Type 
 -- the bytes are in the grammar
 abbrev pub IsRecordLine : Election → List ℕ → Type 0
 IsRecordLine e bytes = (line : RecordLine) × ReadsAs e bytes line
+
+-- the most bytes of a record line
+abbrev pub longest_line : Election → ℕ
+longest_line e = 1416
+
+-- ---- the ballot of a line
 
 -- the mark set of some choices
 abbrev pub mark_set : List ℕ → ℕ

@@ -3,9 +3,9 @@
 use Rattle.std.specs.Prelude.{ℕ, ◌*◌, ◌-◌, ◌/◌, ◌%◌, ◌^◌, bit_xor}
 
 -- 2 ^ 64 divided by the golden ratio
-abbrev pub MULTIPLIER : ℕ
-MULTIPLIER = 0x9E3779B97F4A7C15
+abbrev pub multiplier : ℕ
+multiplier = 0x9E3779B97F4A7C15
 
 -- the top bits of the product that is left in 64 bits; 0 where there are no bits
 abbrev pub home_of : ℕ → ℕ → ℕ → ℕ
-home_of bits salt number = bit_xor number salt * MULTIPLIER % 2 ^ 64 / 2 ^ (64 - bits)
+home_of bits salt number = bit_xor number salt * multiplier % 2 ^ 64 / 2 ^ (64 - bits)

@@ -1,7 +1,6 @@
 pub mod Ballot
 pub mod BallotLine
 pub mod Build
-pub mod BuildLaws
 pub mod Damage
 pub mod Disk
 pub mod Election
@@ -9,8 +8,6 @@ pub mod Fault
 pub mod Figures
 pub mod Home
 pub mod Image
-pub mod ImageLaws
 pub mod Input
 pub mod Layout
-pub mod LineLaws
 pub mod Probe

@@ -1,10 +1,5 @@
-//! The definitions that the whole store is proved against, and laws about them.
+//! The definitions that the whole store is proved against, and worked figures of them.
 #![tactic(auto)]
-
-pub mod build;
-pub mod image;
-pub mod layout;
-pub mod line_laws;
 
 ghost use Rattle.store_spec.specs.Figures.{ExampleHomes, ExampleSizes, ExampleLayout, ExampleImage, ExampleLines};
 

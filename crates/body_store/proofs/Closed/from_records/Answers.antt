@@ -2,7 +2,7 @@ use Rattle.std.proofs.Common.{◌≡◌, List, subst, sym, ap, ◌∙◌, rules}
 use Rattle.ballot_record.specs.declared.record.Record.{Record}
 use Rattle.ballot_record.specs.Record.{ballot}
 use Rattle.body_store.proofs.BallotSets.{limit-IsPermutation, stored_in_order}
-use Rattle.store_spec.proofs.BallotSets.{listing-IsPermutation}
+use Rattle.ballot_record.proofs.BallotSets.{listing-IsPermutation}
 use Rattle.body_store.proofs.Closed.from_records.Goals as goal
 use Rattle.body_store.proofs.Numbers.{numbers_rise}
 use Rattle.body_store.specs.Contents.{ballots_of}

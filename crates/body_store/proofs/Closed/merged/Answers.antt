@@ -1,7 +1,7 @@
 use Rattle.std.proofs.Common.{◌≡◌, ◌++◌, List, subst, sym, ap, ◌∙◌, rules}
 use Rattle.ballot_record.specs.Record.{ballot}
 use Rattle.body_store.proofs.BallotSets.{stored_in_order}
-use Rattle.store_spec.proofs.Images.{cells_of-IsPermutation}
+use Rattle.body_store.proofs.BallotSets.{cells_of-IsPermutation}
 use Rattle.body_store.proofs.Closed.merged.Goals as goal
 use Rattle.body_store.proofs.Numbers.{numbers_rise}
 use Rattle.body_store.specs.Contents.{Contents, ballots_of}
@@ -34,5 +34,5 @@ returns-clause-stored c =
 pub invariant_of-result : goal.invariant_of-result
 invariant_of-result c = record {
   stored = returns-clause-stored c;
-  cells = c.requires.layout ∙ sym (cells_of-IsPermutation c.args.election.now _ _ (returns-clause-union c));
+  cells = c.requires.layout ∙ cells_of-IsPermutation c.args.election.now _ _ (returns-clause-union c);
 }

@@ -1,5 +1,5 @@
 use Rattle.std.proofs.Common.{◌≡◌, List, [], ◌∷◌, map, ap, ◌∙◌, subst, rules}
-use Rattle.store_spec.proofs.BallotSets.{same_in_order}
+use Rattle.ballot_record.proofs.BallotSets.{same_in_order}
 use Rattle.body_store.proofs.Blank.{blank, blanks_rise}
 use Rattle.body_store.proofs.tests.one_less.Goals as goal
 use Rattle.body_store.specs.Contents.{IsStored, ballots_of, ballots_without}

@@ -1,8 +1,8 @@
 use Rattle.std.proofs.Common.{◌≡◌, ◌++◌, List, [], ◌∷◌, map, sym, ap, ◌∙◌, subst, rules}
 use Rattle.ballot_record.specs.Record.{ballot}
 use Rattle.body_store.proofs.BallotSets.{limit-IsPermutation}
-use Rattle.store_spec.proofs.BallotSets.{listing-IsPermutation}
-use Rattle.store_spec.proofs.Images.{cells_of-IsPermutation}
+use Rattle.ballot_record.proofs.BallotSets.{listing-IsPermutation}
+use Rattle.body_store.proofs.BallotSets.{cells_of-IsPermutation}
 use Rattle.body_store.proofs.Blank.{blank}
 use Rattle.body_store.proofs.tests.one_more.Goals as goal
 use Rattle.body_store.specs.Contents.{ballots_of}
@@ -56,4 +56,4 @@ merged-requires-clause-layout g c =
     IsPermutation-append_left last (map blank (1 ∷ 9 ∷ 14 ∷ [])) held (subst (λ (bs : List Ballot). IsPermutation bs held) were moved) in
     let more : ballot c.blank.result ≡ blank 22 = ap ballot c.blank.ensures in
     let laid : c.expect-cells.result.items ≡ cells_of e (ballots_of c.expect-four.result.items) = search rules in
-    laid ∙ ap (cells_of e) are ∙ sym (cells_of-IsPermutation e _ _ all) ∙ ap (λ b. cells_of e (held ++ b ∷ [])) (sym more)
+    laid ∙ ap (cells_of e) are ∙ cells_of-IsPermutation e _ _ all ∙ ap (λ b. cells_of e (held ++ b ∷ [])) (sym more)

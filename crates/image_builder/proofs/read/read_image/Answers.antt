@@ -1,6 +1,6 @@
 use Rattle.std.proofs.Common.{sym, subst, ◌∙◌}
 use Rattle.body_store.specs.Contents.{ballots_of}
-use Rattle.store_spec.proofs.Images.{image_of-IsPermutation}
+use Rattle.image_builder.proofs.Listings.{image_of-IsPermutation}
 use Rattle.image_builder.proofs.OneSet.{one_set}
 use Rattle.image_builder.proofs.read.read_image.Goals as goal
 use Rattle.store_spec.specs.Ballot.{IsBallotSet, IsWithinLimit}

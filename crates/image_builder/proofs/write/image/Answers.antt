@@ -1,8 +1,8 @@
 use Rattle.std.proofs.Common.{◌≡◌, length, drop, ◌∙◌, arith}
 use Rattle.std.proofs.lemmas.List.{take_all, take_at}
 use Rattle.std.proofs.lemmas.List.Sorted.{IsPermutation-sym}
-use Rattle.store_spec.proofs.BallotSets.{listing_from_set}
-use Rattle.store_spec.proofs.Images.{image_of-IsPermutation}
+use Rattle.ballot_record.proofs.BallotSets.{listing_from_set}
+use Rattle.image_builder.proofs.Listings.{image_of-IsPermutation}
 use Rattle.image_builder.proofs.write.image.Goals as goal
 use Rattle.store_spec.specs.Election.{bank_size}
 use Rattle.store_spec.specs.Image.{image_of}
