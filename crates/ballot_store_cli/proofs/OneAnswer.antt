@@ -20,7 +20,7 @@ use Rattle.ballot_store_cli.specs.declared.status.Which.TheVariants as which
 use Rattle.election_def.proofs.One.{one_election}
 use Rattle.election_def.specs.Text.{Describes, IsElectionText}
 use Rattle.outside_io.specs.Told.{IfTold}
-use Rattle.store_spec.proofs.BuildLaws.{build_one_way}
+use Rattle.ballot_record.proofs.BuildLaws.{build_one_way}
 use Rattle.store_spec.specs.Ballot.{Ballot}
 use Rattle.store_spec.specs.Build.{BuiltFrom, Reason}
 use Rattle.store_spec.specs.Election.{Election, IsElection}

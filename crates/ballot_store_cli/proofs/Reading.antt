@@ -14,9 +14,9 @@ use Rattle.outside_io.specs.Reading.{ReadLines, ReadFirst, ReadToFault, ReadsTo}
 use Rattle.outside_io.specs.Reading.Ending.{ReadOut, TooMuch}
 use Rattle.outside_io.specs.Stream.{GivesAtMost}
 use Rattle.outside_io.specs.Told.{IfTold}
-use Rattle.store_spec.proofs.BallotSets.{in_order, in_order-IsPermutation}
-use Rattle.store_spec.proofs.LineFronts.{front_builds, listing_builds}
-use Rattle.store_spec.proofs.LineLaws.{short_lines}
+use Rattle.ballot_record.proofs.BallotSets.{in_order, in_order-IsPermutation}
+use Rattle.ballot_record.proofs.LineFronts.{front_builds, listing_builds}
+use Rattle.ballot_record.proofs.LineLaws.{short_lines}
 use Rattle.store_spec.specs.Ballot.{Ballot, IsListing, IsWithinLimit}
 use Rattle.store_spec.specs.BallotLine.{Spells}
 use Rattle.store_spec.specs.Build.{Builds, IsFirstBad, IsRefused, Reason}

@@ -5,12 +5,13 @@ use Rattle.store_spec.specs.Disk.{leaves_now, torn_from, LeavesAtMost, LeavesExa
 use Rattle.crash_disk.specs.Entries.{Line, event_of, events_of, with_one_more}
 use Rattle.crash_disk.specs.History.{State, settled_state, state_after, state_inside, state_at, left_in}
 use Rattle.crash_disk.specs.History.Event.{Wrote, Synced, Unchanged}
-use Rattle.crash_disk.specs.Laws.{state_at-end, state-past, state-inside, state-after}
-use Rattle.crash_disk.specs.Members.{length-history, medium-image}
+use Rattle.crash_disk.specs.SeenIsImage.{state_at-end}
+use Rattle.crash_disk.proofs.Histories.{state-past, state-inside, state-after}
+use Rattle.crash_disk.specs.SeenIsImage.{length-history, medium-image}
 use Rattle.crash_disk.specs.Notes.{Notes, lines_of, history_of, left_of}
 use Rattle.crash_disk.specs.declared.entry.DiskCall.TheVariants.{Size, Read, Write, Sync}
 use Rattle.crash_disk.specs.declared.medium.Medium.{Medium}
-use Rattle.store_spec.proofs.TornBytes.{torn-same}
+use Rattle.crash_disk.proofs.TornBytes.{torn-same}
 use Rattle.crash_disk.proofs.Record.{map-one_more}
 
 -- the state of a medium at a moment

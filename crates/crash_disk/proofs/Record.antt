@@ -7,11 +7,12 @@ use Rattle.std.proofs.lemmas.Bool.{and_from, lt-ltb, le-leb}
 use Rattle.std.specs.Prelude.{suc, nat_le}
 use Rattle.std.proofs.lemmas.List.Elements.{All-append, All-cons, All-nil}
 use Rattle.std.proofs.lemmas.Bool.Decides.{nat_tests}
-use Rattle.store_spec.specs.Disk.{next_count, overwritten}
+use Rattle.store_spec.specs.Disk.{overwritten}
+use Rattle.store_spec.specs.Fault.{next_count}
 use Rattle.crash_disk.specs.Entries.{Line, event_of, events_of, line_of, lines_in, AreStored, ChangesNothing, with_one_more}
 use Rattle.crash_disk.specs.History.{Event, State, settled_state, state_after, state_at, seen_after, begin_within}
 use Rattle.crash_disk.specs.History.Event.{Wrote, Synced, Unchanged}
-use Rattle.crash_disk.specs.Laws.{state_at-after, begin_within-append}
+use Rattle.crash_disk.proofs.Histories.{state_at-after, begin_within-append}
 use Rattle.crash_disk.specs.declared.entry.DiskCall.{DiskCall}
 use Rattle.crash_disk.specs.declared.entry.DiskCall.TheVariants.{Size, Read, Write, Sync}
 use Rattle.crash_disk.specs.declared.entry.Entry.{Entry}

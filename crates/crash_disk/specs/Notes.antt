@@ -1,6 +1,6 @@
 -- What a call leaves in the record of a disk in memory.
 use Rattle.std.specs.Prelude.{◌≡◌, ℕ, ◌≤◌, if◌then◌else◌, List}
-use Rattle.store_spec.specs.Disk.{next_count}
+use Rattle.store_spec.specs.Fault.{next_count}
 use Rattle.crash_disk.specs.Entries.{Line, lines_in, events_of, with_one_more}
 use Rattle.crash_disk.specs.History.{Event, left_at}
 use Rattle.crash_disk.specs.declared.medium.Medium.{Medium}

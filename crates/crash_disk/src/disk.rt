@@ -2,7 +2,7 @@
 
 ghost use Rattle.std.specs.Prelude.{◌≡◌, ℕ, ◌+◌, ◌≤◌, List, length, slice_range, Option, Some, option_map, is_some, IsSome, IfSome, IfOk, OnOk, OnErr};
 ghost use Rattle.std.specs.Option.{ForSome};
-ghost use Rattle.store_spec.specs.Fault.{Rose};
+ghost use Rattle.store_spec.specs.Fault.{last_count, CountsFault};
 ghost use Rattle.store_spec.specs.Disk.{after_calls, leaves_now, overwritten, torn_from, SeenTorn, LeavesAtMost, LeavesExactly, MayLeaveInside, IsSettled};
 
 use outside_io::Failed;
@@ -27,9 +27,7 @@ pub trait Disk {
         ensures size { IfOk result (λ size. IfSome (seen self.old) (λ bytes. size ≡ length bytes)) }
         ensures same_bytes { seen self.new ≡ seen self.old }
         ensures images { LeavesExactly calls may_leave (leaves_now calls may_leave self.old) self.old self.new }
-        ensures never_falls { faults self.old ≤ faults self.new }
-        ensures steady { OnOk result (faults self.new ≡ faults self.old) }
-        ensures cause { OnErr result (Rose (faults self.old) (faults self.new)) };
+        ensures fault { CountsFault result (faults self.old) (faults self.new) };
 
     /// Reads as many bytes as `buf` has, from `at` on. After `Failed` nothing is said of `buf`.
     fn read(&mut self, at: u64, buf: &mut [u8]) -> Result<(), Failed>
@@ -37,9 +35,7 @@ pub trait Disk {
         ensures read { OnOk result (IfSome (seen self.old) (λ bytes. buf.new ≡ slice_range bytes at (at + length buf.old))) }
         ensures same_bytes { seen self.new ≡ seen self.old }
         ensures images { LeavesExactly calls may_leave (leaves_now calls may_leave self.old) self.old self.new }
-        ensures never_falls { faults self.old ≤ faults self.new }
-        ensures steady { OnOk result (faults self.new ≡ faults self.old) }
-        ensures cause { OnErr result (Rose (faults self.old) (faults self.new)) };
+        ensures fault { CountsFault result (faults self.old) (faults self.new) };
 
     /// Writes over what is there, and past the end. Until a sync a crash may leave any bytes in the range, and any
     /// size between the old and the new. After `Failed` a read may give such bytes too.
@@ -49,9 +45,7 @@ pub trait Disk {
         ensures torn { OnErr result (SeenTorn at (length bytes.now) (seen self.old) (seen self.new)) }
         ensures images { LeavesAtMost calls may_leave (torn_from at (length bytes.now) (leaves_now calls may_leave self.old)) self.old self.new }
         ensures any_bytes { OnOk result (LeavesExactly calls may_leave (torn_from at (length bytes.now) (leaves_now calls may_leave self.old)) self.old self.new) }
-        ensures never_falls { faults self.old ≤ faults self.new }
-        ensures steady { OnOk result (faults self.new ≡ faults self.old) }
-        ensures cause { OnErr result (Rose (faults self.old) (faults self.new)) };
+        ensures fault { CountsFault result (faults self.old) (faults self.new) };
 
     /// Once it has succeeded, a crash can leave only what a read gives. After `Failed` nothing is safe, and a read may
     /// give whatever a crash could have left.
@@ -62,13 +56,16 @@ pub trait Disk {
         ensures inside { MayLeaveInside calls may_leave (leaves_now calls may_leave self.old) self.old self.new }
         ensures settled { OnOk result (IsSettled seen calls may_leave self.new) }
         ensures unsettled { OnErr result (LeavesExactly calls may_leave (leaves_now calls may_leave self.old) self.old self.new) }
-        ensures never_falls { faults self.old ≤ faults self.new }
-        ensures steady { OnOk result (faults self.new ≡ faults self.old) }
-        ensures cause { OnErr result (Rose (faults self.old) (faults self.new)) };
+        ensures fault { CountsFault result (faults self.old) (faults self.new) };
 
     /// How many calls of the four above were made. It stays at 2^64 - 1.
     fn calls(&self) -> u64
         ensures { result ≡ calls self.now };
+
+    /// Both counts are counts.
+    ghost counted_calls: { (disk : Self) → calls disk ≤ last_count };
+
+    ghost counted_faults: { (disk : Self) → faults disk ≤ last_count };
 
     /// What a read gives is one thing that a crash now can leave.
     ghost seen_is_image: { (disk : Self) (bytes : List ℕ) → seen disk ≡ Some bytes → leaves_now calls may_leave disk bytes };

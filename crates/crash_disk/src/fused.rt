@@ -2,7 +2,7 @@
 
 ghost use Rattle.std.specs.Prelude.{Some, ◌≡◌, ◌≤◌, ◌+◌, ◌&&◌, ℕ, true, false, [], length, slice_range, option_map, is_some, IfSome, is_ok, IfOk, OnOk, OnErr, refl};
 ghost use Rattle.std.specs.Option.{ForSome};
-ghost use Rattle.crash_disk.specs.Members.{medium-image};
+ghost use Rattle.crash_disk.specs.SeenIsImage.{medium-image};
 
 use crate::disk::Disk;
 use crate::entry::Room;
@@ -53,7 +53,7 @@ impl FusedDisk {
 }
 
 impl Disk for FusedDisk {
-    ghost use Rattle.store_spec.specs.Fault.{Rose};
+    ghost use Rattle.store_spec.specs.Fault.{CountsFault};
     ghost use Rattle.store_spec.specs.Disk.{leaves_now, overwritten, torn_from, SeenTorn, LeavesAtMost, LeavesExactly, MayLeaveInside, IsSettled};
     ghost use Rattle.crash_disk.specs.declared.entry.DiskCall.TheVariants.{Size, Read, Write, Sync};
     ghost use Rattle.crash_disk.specs.Fused.{fused_sees, fused_leaves, fused_calls, fused_faults, fused_passes, fused_fits, Records};
@@ -66,6 +66,10 @@ impl Disk for FusedDisk {
 
     ghost faults = { fused_faults };
 
+    ghost counted_calls = { λ disk. disk.medium.counted_calls };
+
+    ghost counted_faults = { λ disk. disk.medium.counted_faults };
+
     ghost seen_is_image = { λ disk bytes is. medium-image disk.medium bytes is };
 
     ghost told_images = { λ disk m image left. refl };
@@ -76,9 +80,7 @@ impl Disk for FusedDisk {
         ensures size { IfOk result (λ size. IfSome (fused_sees self.old) (λ bytes. size ≡ length bytes)) }
         ensures same_bytes { fused_sees self.new ≡ fused_sees self.old }
         ensures images { LeavesExactly fused_calls fused_leaves (leaves_now fused_calls fused_leaves self.old) self.old self.new }
-        ensures never_falls { fused_faults self.old ≤ fused_faults self.new }
-        ensures steady { OnOk result (fused_faults self.new ≡ fused_faults self.old) }
-        ensures cause { OnErr result (Rose (fused_faults self.old) (fused_faults self.new)) }
+        ensures fault { CountsFault result (fused_faults self.old) (fused_faults self.new) }
     {
         let passes = self.may_pass();
         self.medium.size(passes)
@@ -91,9 +93,7 @@ impl Disk for FusedDisk {
         ensures read { OnOk result (IfSome (fused_sees self.old) (λ bytes. buf.new ≡ slice_range bytes at (at + length buf.old))) }
         ensures same_bytes { fused_sees self.new ≡ fused_sees self.old }
         ensures images { LeavesExactly fused_calls fused_leaves (leaves_now fused_calls fused_leaves self.old) self.old self.new }
-        ensures never_falls { fused_faults self.old ≤ fused_faults self.new }
-        ensures steady { OnOk result (fused_faults self.new ≡ fused_faults self.old) }
-        ensures cause { OnErr result (Rose (fused_faults self.old) (fused_faults self.new)) }
+        ensures fault { CountsFault result (fused_faults self.old) (fused_faults self.new) }
     {
         let passes = self.may_pass();
         self.medium.read(at, buf, passes)
@@ -110,9 +110,7 @@ impl Disk for FusedDisk {
         ensures torn { OnErr result (SeenTorn at (length bytes.now) (fused_sees self.old) (fused_sees self.new)) }
         ensures images { LeavesAtMost fused_calls fused_leaves (torn_from at (length bytes.now) (leaves_now fused_calls fused_leaves self.old)) self.old self.new }
         ensures any_bytes { OnOk result (LeavesExactly fused_calls fused_leaves (torn_from at (length bytes.now) (leaves_now fused_calls fused_leaves self.old)) self.old self.new) }
-        ensures never_falls { fused_faults self.old ≤ fused_faults self.new }
-        ensures steady { OnOk result (fused_faults self.new ≡ fused_faults self.old) }
-        ensures cause { OnErr result (Rose (fused_faults self.old) (fused_faults self.new)) }
+        ensures fault { CountsFault result (fused_faults self.old) (fused_faults self.new) }
     {
         let passes = self.may_pass();
         self.medium.write_at(at, bytes, passes)
@@ -128,9 +126,7 @@ impl Disk for FusedDisk {
         ensures inside { MayLeaveInside fused_calls fused_leaves (leaves_now fused_calls fused_leaves self.old) self.old self.new }
         ensures settled { OnOk result (IsSettled fused_sees fused_calls fused_leaves self.new) }
         ensures unsettled { OnErr result (LeavesExactly fused_calls fused_leaves (leaves_now fused_calls fused_leaves self.old) self.old self.new) }
-        ensures never_falls { fused_faults self.old ≤ fused_faults self.new }
-        ensures steady { OnOk result (fused_faults self.new ≡ fused_faults self.old) }
-        ensures cause { OnErr result (Rose (fused_faults self.old) (fused_faults self.new)) }
+        ensures fault { CountsFault result (fused_faults self.old) (fused_faults self.new) }
     {
         let passes = self.may_pass();
         self.medium.sync(passes)

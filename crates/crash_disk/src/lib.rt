@@ -5,7 +5,7 @@ mod disk;
 mod entry;
 mod file;
 mod fused;
-mod laws;
+pub mod laws;
 mod medium;
 mod memory;
 
@@ -13,7 +13,6 @@ pub use disk::Disk;
 pub use entry::{DiskCall, Room};
 pub use file::FileDisk;
 pub use fused::FusedDisk;
-pub use laws::{only_image, three_images_and_one, two_writes_and_a_sync, untold_is_settled};
 pub use memory::MemoryDisk;
 
 #[cfg(test)]

@@ -2,6 +2,7 @@
 
 ghost use Rattle.std.specs.Prelude.{◌≡◌, ℕ, ◌+◌, ◌≤◌, ◌<◌, min, length, IsTrue, vec_capacity, vec_len, [], ◌∷◌, ◌++◌};
 ghost use Rattle.store_spec.specs.Disk.{overwritten};
+ghost use Rattle.store_spec.specs.Fault.{last_count};
 ghost use Rattle.crash_disk.specs.Entries.{events_of, lines_in, AreStored, ChangesNothing, with_one_more};
 ghost use Rattle.crash_disk.specs.History.{settled_state, seen_after, begin_within};
 
@@ -19,6 +20,8 @@ pub(crate) struct Medium {
     pub(crate) calls: u64,
     pub(crate) faults: u64,
     pub(crate) room: Room,
+    ghost counted_calls: { calls ≤ last_count },
+    ghost counted_faults: { faults ≤ last_count },
     ghost recorded: { length entries.items ≡ min calls room.calls },
     ghost stored: { AreStored written.items entries.items },
     ghost replayed: { bytes.items ≡ seen_after first.items (events_of (lines_in written.items entries.items)) },

@@ -3,7 +3,7 @@
 ghost use Rattle.std.specs.Prelude.{◌<◌, ◌↔◌, min, slice_get, Some, IsSome, ◌≡◌, ◌≤◌, ◌+◌, ◌==◌, ◌&&◌, ℕ, true, false, not, [], length, slice_range, option_map, is_some, IfSome, is_ok, IfOk, OnOk, OnErr, refl};
 ghost use Rattle.std.specs.List.{list_any};
 ghost use Rattle.std.specs.Option.{ForSome};
-ghost use Rattle.crash_disk.specs.Members.{medium-image};
+ghost use Rattle.crash_disk.specs.SeenIsImage.{medium-image};
 
 use crate::disk::Disk;
 use crate::entry::{DiskCall, Room};
@@ -79,7 +79,7 @@ impl MemoryDisk {
 }
 
 impl Disk for MemoryDisk {
-    ghost use Rattle.store_spec.specs.Fault.{Rose};
+    ghost use Rattle.store_spec.specs.Fault.{CountsFault};
     ghost use Rattle.store_spec.specs.Disk.{leaves_now, overwritten, torn_from, SeenTorn, LeavesAtMost, LeavesExactly, MayLeaveInside, IsSettled};
     ghost use Rattle.crash_disk.specs.declared.entry.DiskCall.TheVariants.{Size, Read, Write, Sync};
     ghost use Rattle.crash_disk.specs.Memory.{memory_sees, memory_leaves, memory_calls, memory_faults, memory_passes, memory_fits, Records};
@@ -92,6 +92,10 @@ impl Disk for MemoryDisk {
 
     ghost faults = { memory_faults };
 
+    ghost counted_calls = { λ disk. disk.medium.counted_calls };
+
+    ghost counted_faults = { λ disk. disk.medium.counted_faults };
+
     ghost seen_is_image = { λ disk bytes is. medium-image disk.medium bytes is };
 
     ghost told_images = { λ disk m image left. refl };
@@ -102,9 +106,7 @@ impl Disk for MemoryDisk {
         ensures size { IfOk result (λ size. IfSome (memory_sees self.old) (λ bytes. size ≡ length bytes)) }
         ensures same_bytes { memory_sees self.new ≡ memory_sees self.old }
         ensures images { LeavesExactly memory_calls memory_leaves (leaves_now memory_calls memory_leaves self.old) self.old self.new }
-        ensures never_falls { memory_faults self.old ≤ memory_faults self.new }
-        ensures steady { OnOk result (memory_faults self.new ≡ memory_faults self.old) }
-        ensures cause { OnErr result (Rose (memory_faults self.old) (memory_faults self.new)) }
+        ensures fault { CountsFault result (memory_faults self.old) (memory_faults self.new) }
     {
         let passes = self.passes();
         self.medium.size(passes)
@@ -117,9 +119,7 @@ impl Disk for MemoryDisk {
         ensures read { OnOk result (IfSome (memory_sees self.old) (λ bytes. buf.new ≡ slice_range bytes at (at + length buf.old))) }
         ensures same_bytes { memory_sees self.new ≡ memory_sees self.old }
         ensures images { LeavesExactly memory_calls memory_leaves (leaves_now memory_calls memory_leaves self.old) self.old self.new }
-        ensures never_falls { memory_faults self.old ≤ memory_faults self.new }
-        ensures steady { OnOk result (memory_faults self.new ≡ memory_faults self.old) }
-        ensures cause { OnErr result (Rose (memory_faults self.old) (memory_faults self.new)) }
+        ensures fault { CountsFault result (memory_faults self.old) (memory_faults self.new) }
     {
         let passes = self.passes();
         self.medium.read(at, buf, passes)
@@ -136,9 +136,7 @@ impl Disk for MemoryDisk {
         ensures torn { OnErr result (SeenTorn at (length bytes.now) (memory_sees self.old) (memory_sees self.new)) }
         ensures images { LeavesAtMost memory_calls memory_leaves (torn_from at (length bytes.now) (leaves_now memory_calls memory_leaves self.old)) self.old self.new }
         ensures any_bytes { OnOk result (LeavesExactly memory_calls memory_leaves (torn_from at (length bytes.now) (leaves_now memory_calls memory_leaves self.old)) self.old self.new) }
-        ensures never_falls { memory_faults self.old ≤ memory_faults self.new }
-        ensures steady { OnOk result (memory_faults self.new ≡ memory_faults self.old) }
-        ensures cause { OnErr result (Rose (memory_faults self.old) (memory_faults self.new)) }
+        ensures fault { CountsFault result (memory_faults self.old) (memory_faults self.new) }
     {
         let passes = self.passes();
         self.medium.write_at(at, bytes, passes)
@@ -154,9 +152,7 @@ impl Disk for MemoryDisk {
         ensures inside { MayLeaveInside memory_calls memory_leaves (leaves_now memory_calls memory_leaves self.old) self.old self.new }
         ensures settled { OnOk result (IsSettled memory_sees memory_calls memory_leaves self.new) }
         ensures unsettled { OnErr result (LeavesExactly memory_calls memory_leaves (leaves_now memory_calls memory_leaves self.old) self.old self.new) }
-        ensures never_falls { memory_faults self.old ≤ memory_faults self.new }
-        ensures steady { OnOk result (memory_faults self.new ≡ memory_faults self.old) }
-        ensures cause { OnErr result (Rose (memory_faults self.old) (memory_faults self.new)) }
+        ensures fault { CountsFault result (memory_faults self.old) (memory_faults self.new) }
     {
         let passes = self.passes();
         self.medium.sync(passes)

@@ -1,14 +1,13 @@
 -- A loop over `next_line`: which lines were taken so far, and how the loop ends. A proof about such a loop has
 -- `ReadSoFar` in its invariant, and cites one lemma here at each answer.
-use Rattle.std.proofs.Common.{◌≡◌, ℕ, zero, suc, ◌+◌, ◌-◌, ◌<◌, ◌≤◌, ◌⊎◌, ⊎_elim, cond, List, [], ◌∷◌, ◌++◌, length, take, drop, Option, Some, None, Ok, Err, refl, ap, sym, subst, ◌∙◌, inl, inr, arith, le-leb, append_assoc, length-append, length-drop}
+use Rattle.std.proofs.Common.{◌≡◌, ℕ, ◌+◌, ◌<◌, ◌≤◌, ◌⊎◌, ⊎_elim, List, [], ◌∷◌, ◌++◌, length, take, drop, Option, Some, None, Ok, Err, refl, ap, sym, subst, ◌∙◌, inl, inr, arith, append_assoc, length-append, length-drop}
 use Rattle.std.proofs.Math.Seq.{take-append-add}
-use Rattle.std.proofs.lemmas.Bool.{cases_lt, lt-leb}
-use Rattle.std.proofs.lemmas.List.{append-nil, drop_all, drop_at, take_all, take_at, length-take-le, take-take, map-append, map_push, nil_from_length, take-append-drop, take-append-le}
-use Rattle.outside_io.proofs.Answered.{taken_line-wide, taken_line-narrow}
+use Rattle.std.proofs.lemmas.Bool.{cases_lt}
+use Rattle.std.proofs.lemmas.List.{append-nil, drop_all, drop_at, take_all, take_at, length-take-le, take-take, map-append, nil_from_length, take-append-drop}
 use Rattle.outside_io.proofs.EndedLines.{IsWhole, lines_of-append, ended_lines-append, lines_within-append}
 use Rattle.outside_io.proofs.FirstLine.{all_within, ended_lines-ended, ended_lines-none, first_width-le, first_width-more, first_width-take_none, first_width-take, lines_of-ended, lines_of-last, lines_within-first, lines_within-none}
 use Rattle.outside_io.proofs.Told.{told_still, told_as, told_with, told_on}
-use Rattle.outside_io.specs.Lines.{Answers, AnswersTold, HandsOut}
+use Rattle.outside_io.specs.Lines.{AnswersTold, HandsOut}
 use Rattle.outside_io.specs.Reading.{Ending, ReadLines, ReadToFault, ReadFirst, ReadsTo}
 use Rattle.outside_io.specs.Reading.Ending.{ReadOut, TooMuch, Faulted}
 use Rattle.outside_io.specs.Stream.{GivesAtMost, GivesFront}
@@ -18,7 +17,7 @@ use Rattle.outside_io.specs.declared.lines.LineEndFault.{LineEndFault}
 use Rattle.outside_io.specs.declared.lines.LineEndFault.TheVariants.{TooLong, ReadFault}
 use Rattle.outside_io.specs.declared.lines.NextLine.{NextLine}
 use Rattle.outside_io.specs.declared.lines.NextLine.TheVariants.{Whole, TooWide, End}
-use Rattle.store_spec.specs.Input.{line_limit, script_limit, first_width, lines_of, ended_lines, lines_within, taken_line, taken_lines, taken_within}
+use Rattle.store_spec.specs.Input.{script_limit, first_width, lines_of, ended_lines, lines_within, taken_line, taken_lines, taken_within}
 
 -- ---- what was taken of a text
 
@@ -139,8 +138,7 @@ taken_out lines room text now left h none nothing =
 taken_too_much : (lines : List (Option (List ℕ))) (room : ℕ) (text now left : List ℕ) → HasTaken lines room text now → taken_within room now ≡ [] → length now ≡ room + 1 + length left → GivesFront text left → ReadLines TooMuch text left lines
 taken_too_much lines room text now left h none size gives =
     let long : length text ≡ script_limit + 1 + length left = omega (arith, ap length h.cut, length-append h.front now, h.counted, size) in
-    let given : length gives.0 ≡ script_limit + 1 = omega (arith, ap length gives.1, length-append gives.0 left, long) in
-    (
+    let given : length gives.0 ≡ script_limit + 1 = omega (arith, ap length gives.1, length-append gives.0 left, long) in (
       omega arith,
       sym (ap (drop (script_limit + 1)) gives.1 ∙ drop_at gives.0 left (script_limit + 1) given),
       sym (taken_first lines room text now h ∙ ap (λ others. lines ++ others) none ∙ append-nil lines),

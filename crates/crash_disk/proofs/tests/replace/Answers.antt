@@ -1,5 +1,5 @@
 use Rattle.std.proofs.Common.{length, arith}
-use Rattle.store_spec.proofs.DiskMoments.{started, goes_on_write, goes_on_same, settled-torn}
+use Rattle.crash_disk.proofs.Moments.{started, goes_on_write, goes_on_same, settled-torn}
 use Rattle.store_spec.specs.Disk.{IsTorn}
 use Rattle.crash_disk.proofs.tests.replace.Goals as goal
 

@@ -1,6 +1,6 @@
 use Rattle.std.proofs.Common.{◌≡◌, ◌<◌, ◌++◌, length, arith, rules, sym, ◌∙◌, true}
 use Rattle.crash_disk.proofs.Record.{wrote-replayed, wrote-begins, wrote-stored, wrote-lines}
-use Rattle.store_spec.proofs.DiskMoments.{next_count-below}
+use Rattle.crash_disk.proofs.Moments.{next_count-below}
 use Rattle.crash_disk.specs.Entries.{with_one_more}
 use Rattle.crash_disk.specs.declared.entry.DiskCall.TheVariants.{Write}
 use Rattle.crash_disk.proofs.medium.Medium.put.Goals as goal
