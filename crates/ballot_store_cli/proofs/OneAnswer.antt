@@ -83,22 +83,33 @@ same_why Conflict b is = absurd cc
 same_why Full Full is = refl
 same_why Full b is = absurd cc
 
-same_bad_line : (l m : ℕ) (v w : LineWhy) → (let Bad : Result (List Ballot) (ℕ × Reason) → Type 0 = λ r. r ≡ Err (m, reason w) in Bad (Err (l, reason v))) → status.BadLine l v ≡ status.BadLine m w
-same_bad_line l m v w is =
-    let pair : (l, reason v) ≡ (m, reason w) = cc in
-    ap (λ n. status.BadLine n v) (ap (λ p. p.0) pair) ∙ ap (λ y. status.BadLine m y) (same_why v w (ap (λ p. p.1) pair))
+-- what lines build is no set and a bad line both
+ok_err : {A B : Type 0} (a : A) (b : B) → Ok a ≡ Err b → ⊥
+ok_err a b is = cc
+
+err_err : {A B : Type 0} (x y : Result A B) (a b : B) → x ≡ Err a → y ≡ Err b → x ≡ y → a ≡ b
+err_err x y a b one two is = cc
+
+-- a bad line and its reason as a pair
+abbrev Bad : Type 0
+Bad = ℕ × Reason
+
+same_bad_line : (l m : ℕ) (v w : LineWhy) (p q : Bad) → p.0 ≡ l → p.1 ≡ reason v → q.0 ≡ m → q.1 ≡ reason w → p ≡ q → status.BadLine l v ≡ status.BadLine m w
+same_bad_line l m v w p q pl pv qm qw is =
+    ap (λ n. status.BadLine n v) (sym pl ∙ ap (λ (r : Bad). r.0) is ∙ qm)
+    ∙ ap (λ y. status.BadLine m y) (same_why v w (sym pv ∙ ap (λ (r : Bad). r.1) is ∙ qw))
 
 -- lines that build a set have no first bad line
 no_bad_line : (e : Election) (text : List ℕ) (line : ℕ) (why : LineWhy) → ((set : List Ballot) × BuiltFrom e (lines_within script_limit text) (Ok set)) → BuiltFrom e (lines_within script_limit text) (Err (line, reason why)) → ⊥
 no_bad_line e text line why good bad =
-    let clash : Ok good.0 ≡ Err (line, reason why) = build_one_way e (lines_within script_limit text) (Ok good.0) (Err (line, reason why)) good.1 bad in cc
+    ok_err good.0 (line, reason why) (build_one_way e (lines_within script_limit text) (Ok good.0) (Err (line, reason why)) good.1 bad)
 
 decides_one : (e : Election) (text : List ℕ) (a b : Status) → Decides e text a → Decides e text b → a ≡ b
 decides_one e text status.Ok status.Ok x y = refl
 decides_one e text status.Ok (status.BadLine line why) x y = absurd (no_bad_line e text line why x.1 y)
 decides_one e text status.Ok (status.TooLong which.Script) x y = absurd (omega arith)
 decides_one e text (status.BadLine l v) status.Ok x y = absurd (no_bad_line e text l v y.1 x)
-decides_one e text (status.BadLine l v) (status.BadLine m w) x y = same_bad_line l m v w (build_one_way e (lines_within script_limit text) (Err (l, reason v)) (Err (m, reason w)) x y)
+decides_one e text (status.BadLine l v) (status.BadLine m w) x y = same_bad_line l m v w (l, reason v) (m, reason w) refl refl refl refl (err_err (Err (l, reason v)) (Err (m, reason w)) (l, reason v) (m, reason w) refl refl (build_one_way e (lines_within script_limit text) (Err (l, reason v)) (Err (m, reason w)) x y))
 decides_one e text (status.BadLine l v) (status.TooLong which.Script) x y = absurd (no_bad_line e text l v y.1 x)
 decides_one e text (status.TooLong which.Script) status.Ok x y = absurd (omega arith)
 decides_one e text (status.TooLong which.Script) (status.BadLine line why) x y = absurd (no_bad_line e text line why x.1 y)
@@ -195,7 +206,7 @@ ends_with words status.Memory old new before after ends = inr ends
 ends_with words (status.BadLine line why) old new before after ends = inr ends
 
 some_told : (a : Option (List ℕ)) → IsSome a → (x : List ℕ) × (a ≡ Some x)
-some_told None is = absurd is
+some_told None is = absurd cc
 some_told (Some x) is = (x, refl)
 
 pub one_answer : {E S K : Type 0} (words : List (List ℕ)) (a b : Status) (old a_new b_new : Input E) (before a_after b_after : Outside S K) → IsSome old.left → IsSome before.script.left

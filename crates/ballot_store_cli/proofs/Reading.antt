@@ -146,7 +146,7 @@ refused_whole e listing line why refused bytes is = subst (λ (l : List ℕ). Is
 -- a line that is too wide is none of the grammar
 pub refused_wide : (e : Election) (listing : List Ballot) (bytes : List ℕ) → taken_line bytes ≡ None → IsRefused e listing bytes Malformed
 refused_wide e listing bytes is line = elim (cases_lt line_limit (length bytes)) [
-  | inl wide ↦ omega (arith, short_lines e bytes line.0 line.1)
+  | inl wide ↦ omega (arith, short_lines e bytes line)
   | inr narrow ↦ absurd (let some : Some bytes ≡ None = sym (ap (λ t. cond t (Some bytes) None) (le-leb (length bytes) line_limit narrow)) ∙ is in cc)
 ]
 

@@ -41,10 +41,11 @@ pieces-preserved g c =
     }
 
 pub returns-in_err-count-clause-refused : goal.returns-in_err-count-clause-refused
-returns-in_err-count-clause-refused g c = if_err c.from_residual-in_err-count.result NoElection.ReadFault (λ cause. RefusesElection (no_election_status cause) (input g.E.Source.left g.E.Source.faults c.args.source.now) (input g.E.Source.left g.E.Source.faults c.read_piece.new.source)) c.from_residual-in_err-count.ensures.1
-    (subst (λ (left : Option (List ℕ)). IfTold (g.E.Source.left c.args.source.now) left (GivesAtMost election_limit)) (sym c.in_err-count.ensures.unmoved)
-    (told_few c.pieces.text.items election_limit (omega (arith, c.pieces-test.true, c.len.ensures)) c.pieces.invariant.text),
-    subst (λ n. Rose n (g.E.Source.faults c.read_piece.new.source)) c.pieces.invariant.faults c.in_err-count.ensures.fault.rose)
+returns-in_err-count-clause-refused g c = if_err c.from_residual-in_err-count.result NoElection.ReadFault (λ cause. RefusesElection (no_election_status cause) (input g.E.Source.left g.E.Source.faults c.args.source.now) (input g.E.Source.left g.E.Source.faults c.read_piece.new.source)) c.from_residual-in_err-count.ensures.1 (
+  subst (λ (left : Option (List ℕ)). IfTold (g.E.Source.left c.args.source.now) left (GivesAtMost election_limit)) (sym c.in_err-count.ensures.unmoved)
+      (told_few c.pieces.text.items election_limit (omega (arith, c.pieces-test.true, c.len.ensures)) c.pieces.invariant.text),
+  subst (λ n. Rose n (g.E.Source.faults c.read_piece.new.source)) c.pieces.invariant.faults c.in_err-count.ensures.fault.rose,
+)
 
 pub returns-then-count-eq0-clause-text : goal.returns-then-count-eq0-clause-text
 returns-then-count-eq0-clause-text g c =
@@ -58,10 +59,11 @@ pub returns-then-count-eq0-clause-no_fault : goal.returns-then-count-eq0-clause-
 returns-then-count-eq0-clause-no_fault g c = c.in_ok-count.ensures.fault.steady ∙ c.pieces.invariant.faults
 
 pub returns-in_err-append-clause-refused : goal.returns-in_err-append-clause-refused
-returns-in_err-append-clause-refused g c = if_err c.from_residual-in_err-append.result NoElection.Memory (λ cause. RefusesElection (no_election_status cause) (input g.E.Source.left g.E.Source.faults c.args.source.now) (input g.E.Source.left g.E.Source.faults c.read_piece.new.source)) c.from_residual-in_err-append.ensures.1
-    (told_few_more c.pieces.text.items c.read_piece.new.buffer c.in_ok-count.count (election_limit + 1)
-    (omega (arith, c.in_ok-count.ensures.within, c.min-asked.ensures, c.len-in-pieces.ensures, c.pieces.invariant.few)) c.pieces.invariant.text c.in_ok-count.ensures.gives,
-    c.in_ok-count.ensures.fault.steady ∙ c.pieces.invariant.faults)
+returns-in_err-append-clause-refused g c = if_err c.from_residual-in_err-append.result NoElection.Memory (λ cause. RefusesElection (no_election_status cause) (input g.E.Source.left g.E.Source.faults c.args.source.now) (input g.E.Source.left g.E.Source.faults c.read_piece.new.source)) c.from_residual-in_err-append.ensures.1 (
+  told_few_more c.pieces.text.items c.read_piece.new.buffer c.in_ok-count.count (election_limit + 1)
+      (omega (arith, c.in_ok-count.ensures.within, c.min-asked.ensures, c.len-in-pieces.ensures, c.pieces.invariant.few)) c.pieces.invariant.text c.in_ok-count.ensures.gives,
+  c.in_ok-count.ensures.fault.steady ∙ c.pieces.invariant.faults,
+)
 
 pub returns-clause-refused : goal.returns-clause-refused
 returns-clause-refused g c = (
