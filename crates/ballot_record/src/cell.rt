@@ -2,7 +2,7 @@ ghost use Rattle.std.specs.Prelude.{◌≡◌, ◌+◌, ◌-◌, ◌*◌, ◌≤
 ghost use Rattle.std.specs.Int.{from_be_bytes, w32};
 ghost use Rattle.store_spec.specs.Ballot.{Ballot};
 ghost use Rattle.store_spec.specs.Election.{cell_size};
-ghost use Rattle.ballot_record.specs.Cell.{IsEmptyCell, IsCellOf};
+ghost use Rattle.store_spec.specs.Image.{IsEmptyCell, IsCellOf};
 ghost use Rattle.ballot_record.specs.CellReading.{sets_at, ballot_at};
 ghost use Rattle.ballot_record.specs.Record.{ballot};
 ghost use Rattle.ballot_record.specs.declared.record.Record as declared;

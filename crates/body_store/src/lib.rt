@@ -11,7 +11,7 @@ ghost use Rattle.std.specs.Prelude.{◌≡◌, ◌++◌, List, [], IfOk, IsPermu
 ghost use Rattle.ballot_record.specs.Record.{ballot};
 ghost use Rattle.store_spec.specs.Ballot.{IsListing, IsWithinLimit, ballot_of, numbers_of};
 ghost use Rattle.store_spec.specs.Election.{cell_count};
-ghost use Rattle.store_spec.specs.Home.{home_of};
+ghost use Rattle.store_spec.specs.Home.{home_in};
 ghost use Rattle.store_spec.specs.Image.{cells_of};
 ghost use Rattle.store_spec.specs.Layout.{IsLayout};
 
@@ -102,7 +102,7 @@ impl Closed {
     /// Its cells, each with the number of a ballot, or 0 where it is empty.
     pub fn cells(&self) -> &[u64]
         ensures cells { result.now ≡ cells_of self.now.election self.now.ballots }
-        ensures layout { IsLayout (home_of self.now.election.bits self.now.election.salt)
+        ensures layout { IsLayout (home_in self.now.election)
             (cell_count self.now.election) (numbers_of self.now.ballots) result.now }
         ensures stored { IsStored self.now }
     {

@@ -6,7 +6,7 @@ ghost use Rattle.image_builder.specs.Reading.{IsRefusedBank};
 ghost use Rattle.std.specs.Prelude.{◌≡◌, ◌≢◌, ◌+◌, ◌*◌, ◌<◌, ◌≤◌, ◌↔◌, List, drop, length, take, IfOk, IfErr, IfSome, IsSome, MatchResult};
 ghost use Rattle.store_spec.specs.Ballot.{Ballot, IsListing, IsWithinLimit};
 ghost use Rattle.store_spec.specs.Election.{bank_size, cell_count, cell_size};
-ghost use Rattle.store_spec.specs.Home.{home_of};
+ghost use Rattle.store_spec.specs.Home.{home_in};
 ghost use Rattle.store_spec.specs.Image.{IsImageOf, header_of, image_of};
 ghost use Rattle.store_spec.specs.Layout.{MayStand};
 
@@ -147,7 +147,7 @@ fn cell_bytes<'a>(bank: &'a [u8], election: &Election, place: usize) -> &'a [u8]
 /// reaches over is passed at once, so that judging all cells of a bank takes each of them twice at most.
 fn reach_of(election: &Election, cells: &[u64], reaches: &[usize], number: u64) -> Option<usize>
     requires { AreReaches cells.now reaches.now }
-    ensures stands { IsSome result ↔ MayStand (home_of election.now.bits election.now.salt) cells.now number (length cells.now) }
+    ensures stands { IsSome result ↔ MayStand (home_in election.now) cells.now number (length cells.now) }
     ensures reach { IfSome result (IsReach cells.now number (length cells.now)) }
 {
     let order = Salted {
