@@ -63,7 +63,8 @@ impl Closed {
         requires listing { IsListing election.now (ballots_of ballots.items) }
         requires within_limit { IsWithinLimit election.now (ballots_of ballots.items) }
         ensures election { IfOk result (λ store. store.election ≡ election.now) }
-        ensures same { IfOk result (λ store. IsPermutation (ballots_of ballots.items) store.ballots) }
+        ensures same { IfOk result
+            (λ store. IsPermutation (ballots_of ballots.items) store.ballots) }
         ensures stored { IfOk result IsStored }
     {
         ballots.sort_unstable_by_key(|ballot| ballot.number);
@@ -126,8 +127,10 @@ impl Closed {
     ) -> Result<Closed, Memory>
         requires own { election.now ≡ self.now.election }
         requires listing { IsListing election.now (self.now.ballots ++ ballots_of ballots.now) }
-        requires within_limit { IsWithinLimit election.now (self.now.ballots ++ ballots_of ballots.now) }
-        requires layout { cells.items ≡ cells_of election.now (self.now.ballots ++ ballots_of ballots.now) }
+        requires within_limit { IsWithinLimit election.now
+            (self.now.ballots ++ ballots_of ballots.now) }
+        requires layout { cells.items
+            ≡ cells_of election.now (self.now.ballots ++ ballots_of ballots.now) }
         ensures election { IfOk result (λ store. store.election ≡ election.now) }
         ensures union { IfOk result
             (λ store. IsPermutation (self.now.ballots ++ ballots_of ballots.now) store.ballots) }
@@ -151,7 +154,8 @@ impl Closed {
         cells: Vec<u64>,
     ) -> Result<Closed, Memory>
         requires own { election.now ≡ self.now.election }
-        requires layout { cells.items ≡ cells_of election.now (ballots_without self.now.ballots numbers.now) }
+        requires layout { cells.items
+            ≡ cells_of election.now (ballots_without self.now.ballots numbers.now) }
         ensures { IfOk result
             (λ store. store ≡ record {
               election = election.now;

@@ -14,7 +14,9 @@ first_cells e count bank = take (count * cell_size e) (drop header_size bank)
 
 -- so many first cells of the bank are those of the image of some set
 abbrev pub BeginsAnImage : Election → ℕ → List ℕ → Type 0
-BeginsAnImage e count bank = (ballots : List Ballot) × IsBallotSet e ballots × IsWithinLimit e ballots × (first_cells e count bank ≡ first_cells e count (image_of e ballots))
+BeginsAnImage e count bank =
+    (ballots : List Ballot) × IsBallotSet e ballots × IsWithinLimit e ballots
+    × (first_cells e count bank ≡ first_cells e count (image_of e ballots))
 
 -- the least cell for which the cells up to it, and it, begin the image of no set
 pub record IsFirstWrong (e : Election) (bank : List ℕ) (cell : ℕ) : Type 0 where
@@ -36,8 +38,8 @@ number_at bytes = from_be_bytes w64 (take 8 bytes)
 abbrev pub first_numbers : Election → ℕ → List ℕ → List ℕ
 first_numbers e count bank = map (λ cell. number_at (cell_at e cell bank)) (range_with_len 0 count)
 
--- what a cell of an image never is: neither empty nor a valid ballot's, before the home of its number, at or behind
--- its home with no greater number between, or one that holds more ballots than may be
+-- What is wrong with a cell: its bytes are neither empty nor a valid ballot's; the home of its ballot is past it; a
+-- cell from the home up to it holds no greater number; or its ballot is one more than the store may hold.
 pub data Test : Type 0 where
   Bytes : Test
   Home : Test
@@ -45,10 +47,17 @@ pub data Test : Type 0 where
   Limit : Test
 
 abbrev pub Fails : Election → List ℕ → ℕ → Test → Type 0
-Fails e bank cell Bytes = ¬ IsEmptyCell e (cell_at e cell bank) × ((b : Ballot) → ¬ IsCellOf e (cell_at e cell bank) b)
-Fails e bank cell Home = (b : Ballot) × IsCellOf e (cell_at e cell bank) b × (cell < home_in e b.number)
-Fails e bank cell Order = (b : Ballot) × IsCellOf e (cell_at e cell bank) b × ((before : ℕ) × (home_in e b.number ≤ before) × (before < cell) × (number_at (cell_at e before bank) ≤ b.number))
-Fails e bank cell Limit = (b : Ballot) × IsCellOf e (cell_at e cell bank) b × (e.limit ≤ length (numbers_in (first_numbers e cell bank)))
+Fails e bank cell Bytes =
+    ¬ IsEmptyCell e (cell_at e cell bank) × ((b : Ballot) → ¬ IsCellOf e (cell_at e cell bank) b)
+Fails e bank cell Home =
+    (b : Ballot) × IsCellOf e (cell_at e cell bank) b × (cell < home_in e b.number)
+Fails e bank cell Order =
+    (b : Ballot) × IsCellOf e (cell_at e cell bank) b
+    × ((before : ℕ) × (home_in e b.number ≤ before) × (before < cell)
+    × (number_at (cell_at e before bank) ≤ b.number))
+Fails e bank cell Limit =
+    (b : Ballot) × IsCellOf e (cell_at e cell bank) b
+    × (e.limit ≤ length (numbers_in (first_numbers e cell bank)))
 
 abbrev pub IsWrongCell : Election → List ℕ → ℕ → Type 0
 IsWrongCell e bank cell = (test : Test) × Fails e bank cell test

@@ -9,14 +9,19 @@ use Rattle.store_spec.specs.Layout.{layout_of}
 
 -- the mark, the version, and what of the election lays out the store
 abbrev pub header_of : Election → List ℕ
-header_of e = codes "HIBSTORE" ++ to_be_bytes w16 (version e) ++ to_be_bytes w8 e.bits ++ to_be_bytes w8 (length e.contests) ++ to_be_bytes w32 e.limit ++ to_be_bytes w64 e.salt ++ replicate 8 0
+header_of e =
+    codes "HIBSTORE" ++ to_be_bytes w16 (version e) ++ to_be_bytes w8 e.bits
+    ++ to_be_bytes w8 (length e.contests) ++ to_be_bytes w32 e.limit ++ to_be_bytes w64 e.salt
+    ++ replicate 8 0
 
 abbrev pub set_bytes : Election → ℕ → List ℕ
 set_bytes e set = bytes_high_first (set_width e) set
 
 -- a ballot in a cell: its number, its style, and the mark set of each contest
 abbrev pub ballot_bytes : Election → Ballot → List ℕ
-ballot_bytes e b = to_be_bytes w64 b.number ++ to_be_bytes w8 b.style ++ flat_map (set_bytes e) (take (length e.contests) b.marks)
+ballot_bytes e b =
+    to_be_bytes w64 b.number ++ to_be_bytes w8 b.style
+    ++ flat_map (set_bytes e) (take (length e.contests) b.marks)
 
 abbrev pub IsEmptyCell : Election → List ℕ → Type 0
 IsEmptyCell e bytes = bytes ≡ replicate (cell_size e) 0
