@@ -3,6 +3,7 @@ pub mod BallotSets
 pub mod BuildLaws
 mod CellAnswers
 mod CellReading
+pub mod CellCases
 mod Cells
 mod Counts
 mod LineAnswers

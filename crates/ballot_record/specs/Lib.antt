@@ -1,4 +1,3 @@
-pub mod Cell
 pub mod CellReading
 pub mod Contest
 pub mod Kept

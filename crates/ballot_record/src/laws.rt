@@ -34,7 +34,8 @@ pub fn one_spelling()
 
 /// The line of a valid ballot of an election spells it.
 pub fn line_of_each_ballot()
-    ensures { (e : Election) (b : Ballot) → IsElection e → IsValid e b → Spells e (record_line e b) b }
+    ensures { (e : Election) (b : Ballot)
+        → IsElection e → IsValid e b → Spells e (record_line e b) b }
 {}
 
 /// A group and its mark set determine each other. The set fits a contest of so many choices exactly where each choice

@@ -7,5 +7,6 @@ ghost use Rattle.store_spec.specs.Image.{cells_of};
 
 /// The cells of ballots do not depend on the order in which they are listed.
 pub fn any_listing()
-    ensures { (e : Election) (xs ys : List Ballot) → IsPermutation xs ys → cells_of e xs ≡ cells_of e ys }
+    ensures { (e : Election) (xs ys : List Ballot)
+        → IsPermutation xs ys → cells_of e xs ≡ cells_of e ys }
 {}

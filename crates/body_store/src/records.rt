@@ -19,7 +19,8 @@ use std::alloc::Global;
 pub fn layout(alloc: Global, election: &Election, records: &[Record]) -> Result<Vec<u64>, Memory>
     requires listing { IsListing election.now (ballots_of records.now) }
     requires within_limit { IsWithinLimit election.now (ballots_of records.now) }
-    ensures cells { IfOk result (λ cells. cells.items ≡ cells_of election.now (ballots_of records.now)) }
+    ensures cells { IfOk result
+        (λ cells. cells.items ≡ cells_of election.now (ballots_of records.now)) }
     ensures election { IsElection election.now }
 {
     let order = Salted {

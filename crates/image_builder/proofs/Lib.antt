@@ -1,3 +1,4 @@
+pub mod FourTests
 pub mod Images
 pub mod Listings
 pub mod OneSet

@@ -67,7 +67,7 @@ same_cells e xs ys election set_x set_y same =
     (λ i lt. number_in_cell e ys (get_or (cells_of e ys) i 0) set_y.listing.valid (known_cell e ys i layout_y))
     same
 
-piece_at : (f : ℕ → List ℕ) (width : ℕ) (xs : List ℕ) (i : ℕ) → ((x : ℕ) → length (f x) ≡ width) → i < length xs → take width (drop (i * width) (flat_map f xs)) ≡ f (get_or xs i 0)
+pub piece_at : (f : ℕ → List ℕ) (width : ℕ) (xs : List ℕ) (i : ℕ) → ((x : ℕ) → length (f x) ≡ width) → i < length xs → take width (drop (i * width) (flat_map f xs)) ≡ f (get_or xs i 0)
 piece_at f width xs i each lt = ap (take width) (drop_pieces f width xs i each lt) ∙ take_at (f (get_or xs i 0)) (flat_map f (drop (suc i) xs)) width (each (get_or xs i 0))
 
 -- a ballot of one set is in the other

@@ -16,14 +16,11 @@ use Rattle.ballot_record.proofs.BallotNumbers.{ballot_with, pairs_of_ballots}
 use Rattle.layout_def.proofs.Fronts.{distinct_in, front_is_layout}
 use Rattle.layout_def.proofs.LaidOut.{layout_of_is}
 use Rattle.store_spec.specs.Ballot.{Ballot, IsValid, ballot_of, numbers_of}
-use Rattle.store_spec.specs.Damage.{BeginsAnImage, first_cells}
+use Rattle.store_spec.specs.Damage.{BeginsAnImage, cell_at, first_cells, number_at}
 use Rattle.store_spec.specs.Election.{Election, IsElection, cell_count, cell_size}
-use Rattle.store_spec.specs.Home.{home_of}
+use Rattle.store_spec.specs.Home.{home_in}
 use Rattle.store_spec.specs.Image.{ballot_bytes, cell_bytes, cells_of, header_of, image_of}
 use Rattle.store_spec.specs.Layout.{HasRoom, IsLayout, IsOrdered, layout_of, numbers_in}
-
-abbrev pub home_in : Election → ℕ → ℕ
-home_in e = home_of e.bits e.salt
 
 -- ---- lists of pieces
 
@@ -55,9 +52,6 @@ same_pieces f g (x ∷ xs) same =
     ∙ ap (λ bytes. g x ++ bytes) (same_pieces f g xs (λ i lt. same (suc i) (omega arith))) ∙ sym (flat_map-cons g x xs)
 
 -- ---- the number at the front of a cell
-
-abbrev pub number_at : List ℕ → ℕ
-number_at bytes = from_be_bytes w64 (take 8 bytes)
 
 pub number_of_bytes : (e : Election) (b : Ballot) → b.number < 2 ^ 64 → number_at (ballot_bytes e b) ≡ b.number
 number_of_bytes e b short =
@@ -101,10 +95,6 @@ same_numbers f g (x ∷ xs) (y ∷ ys) long wide first second same =
     ap (λ n. n ∷ xs) head ∙ ap (λ ns. y ∷ ns) rest
 
 -- ---- the first cells of a bank
-
--- the bytes of one cell
-abbrev pub cell_at : Election → ℕ → List ℕ → List ℕ
-cell_at e place bank = take (cell_size e) (drop (32 + place * cell_size e) bank)
 
 pub one_cell_more : (e : Election) (place : ℕ) (bank : List ℕ) → first_cells e (place + 1) bank ≡ first_cells e place bank ++ cell_at e place bank
 one_cell_more e place bank =

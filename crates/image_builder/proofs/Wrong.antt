@@ -7,7 +7,8 @@ use Rattle.std.specs.List.{flat_map}
 use Rattle.body_store.proofs.BallotSets.{MayHold, has_room, may_hold_set}
 use Rattle.image_builder.proofs.Images.{length_pieces, length-cell_bytes, cell_of_found, cell_of_none}
 use Rattle.ballot_record.proofs.Lookups.{option_cases, found_in}
-use Rattle.image_builder.proofs.Reading.{AreRead, IsKnown, begins_fewer, begins_read, cell_at, front_of_image, front_read, home_in, layout_read, number_at, number_in_cell, number_of_bytes, one_cell_more, piece_more, same_numbers, listing_read, split_same}
+use Rattle.image_builder.proofs.Reading.{AreRead, IsKnown, begins_fewer, begins_read, front_of_image, front_read, layout_read, number_in_cell, number_of_bytes, one_cell_more, piece_more, same_numbers, listing_read, split_same}
+use Rattle.store_spec.specs.Home.{home_in}
 use Rattle.image_builder.proofs.Steps.{known_read}
 use Rattle.layout_def.proofs.Ascending.{length-ascending}
 use Rattle.ballot_record.proofs.BallotNumbers.{length-numbers_of}
@@ -15,7 +16,7 @@ use Rattle.layout_def.proofs.LaidOut.{layout_of_laid_out}
 use Rattle.layout_def.proofs.OrderedCells.{contains_from_place, place_within}
 use Rattle.layout_def.proofs.Placing.{filled}
 use Rattle.store_spec.specs.Ballot.{Ballot, IsValid, ballot_of, numbers_of}
-use Rattle.store_spec.specs.Damage.{BeginsAnImage, IsFirstWrong}
+use Rattle.store_spec.specs.Damage.{BeginsAnImage, IsFirstWrong, cell_at, number_at}
 use Rattle.store_spec.specs.Election.{Election, IsElection, cell_count, cell_size}
 use Rattle.store_spec.specs.Image.{ballot_bytes, cell_bytes, cells_of, header_of, image_of}
 use Rattle.store_spec.specs.Layout.{IsLayout, MayStand, numbers_in}

@@ -55,7 +55,9 @@ group_text [] = dash ∷ []
 group_text (choice ∷ choices) = join_with_byte comma (map decimal (choice ∷ choices))
 
 abbrev pub line_text : RecordLine → List ℕ
-line_text line = decimal line.number ++ space ∷ decimal line.style ++ space ∷ join_with_byte slash (map group_text line.groups)
+line_text line =
+    decimal line.number ++ space ∷ decimal line.style ++ space
+    ∷ join_with_byte slash (map group_text line.groups)
 
 -- the bytes are in the grammar, and these are their parts
 pub record ReadsAs (e : Election) (bytes : List ℕ) (line : RecordLine) : Type 0 where

@@ -26,8 +26,11 @@ abbrev pub IsRefused : Election → List Ballot → List ℕ → Reason → Type
 IsRefused e before bytes Malformed = ¬ IsRecordLine e bytes
 IsRefused e before bytes Invalid = IsRecordLine e bytes × ¬ IsLineOf e bytes
 IsRefused e before bytes Duplicate = (b : Ballot) × Spells e bytes b × Contains before b
-IsRefused e before bytes Conflict = (b : Ballot) × Spells e bytes b × Any (λ other. (other.number ≡ b.number) × (other ≢ b)) before
-IsRefused e before bytes Full = (b : Ballot) × Spells e bytes b × ¬ Any (λ other. other.number ≡ b.number) before × (length before ≡ e.limit)
+IsRefused e before bytes Conflict =
+    (b : Ballot) × Spells e bytes b × Any (λ other. (other.number ≡ b.number) × (other ≢ b)) before
+IsRefused e before bytes Full =
+    (b : Ballot) × Spells e bytes b × ¬ Any (λ other. other.number ≡ b.number) before
+    × (length before ≡ e.limit)
 
 -- line number `at`, counted from 1, is the first bad one, for this reason: the lines before it build a set
 pub record IsFirstBad (e : Election) (lines : List (List ℕ)) (at : ℕ) (why : Reason) : Type 0 where

@@ -80,7 +80,10 @@ choices_of e k = if k == 0 then 0 else option_map_or (λ contest. contest.choice
 
 -- whether contest k is on style s: not where the election lacks one of them
 abbrev pub is_on_style : Election → ℕ → ℕ → Bool
-is_on_style e s k = if s == 0 then false else if k == 0 then false else bit_at (slice_index e.styles (s - 1)) (k - 1) == 1
+is_on_style e s k =
+    if s == 0 then false
+    else if k == 0 then false
+    else bit_at (slice_index e.styles (s - 1)) (k - 1) == 1
 
 -- how many choices a ballot of style s has in contest k: none where the contest is not on the style
 abbrev pub choices_on : Election → ℕ → ℕ → ℕ
@@ -101,6 +104,16 @@ header_size = 32
 -- a header and the cells
 abbrev pub bank_size : Election → ℕ
 bank_size e = header_size + cell_count e * cell_size e
+
+-- the most cells, and the most bytes of a cell and of a bank
+abbrev pub most_cells : ℕ
+most_cells = 2 ^ most_bits + most_ballots
+
+abbrev pub most_cell_size : Election → ℕ
+most_cell_size e = 9 + set_width e * most_contests e
+
+abbrev pub most_bank_size : Election → ℕ
+most_bank_size e = header_size + most_cells * most_cell_size e
 
 -- two banks, and a gate byte for each
 abbrev pub medium_size : Election → ℕ

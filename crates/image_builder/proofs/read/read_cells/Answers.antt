@@ -4,13 +4,15 @@ use Rattle.std.proofs.lemmas.List.{length-map, map_push}
 use Rattle.ballot_record.specs.Record.{ballot}
 use Rattle.ballot_record.specs.declared.record.Record.{Record}
 use Rattle.body_store.specs.Contents.{ballots_of}
-use Rattle.image_builder.proofs.Reading.{AreRead, cell_at, home_in, listing_read}
+use Rattle.image_builder.proofs.Reading.{AreRead, listing_read}
+use Rattle.store_spec.specs.Home.{home_in}
 use Rattle.image_builder.proofs.Reaches.{reach_as, reaches_as, reaches_empty, reaches_more, reaches_none}
 use Rattle.image_builder.proofs.Steps.{ballot_read, empty_read, nothing_read}
 use Rattle.image_builder.proofs.Wrong.{bad_bytes, first_wrong, misplaced, read_as, stands_at, stands_behind, too_many, whole_bank}
 use Rattle.image_builder.proofs.read.read_cells.Goals as goal
 use Rattle.image_builder.proofs.read.read_cells.Goals.{in-Empty+in_ok-push-in-Empty+in_ok-push-in-Empty-2, in-Held+else-len-limit+in-Some+in_ok-push-in-Held+in_ok-push-in-Held-2+in_ok-push-in-Held-3}
 use Rattle.store_spec.specs.Ballot.{Ballot, IsValid}
+use Rattle.store_spec.specs.Damage.{cell_at}
 use Rattle.store_spec.specs.Election.{Election, cell_count, cell_size}
 use Rattle.store_spec.specs.Image.{ballot_bytes}
 use Rattle.store_spec.specs.Layout.{MayStand}

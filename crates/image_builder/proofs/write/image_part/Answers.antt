@@ -17,9 +17,9 @@ loop-done-preserved c =
     let piece = c.put_piece-done in
     let long : length piece.new.out ≡ length l.out - l.done = piece.auto.out ∙ length-take-le (length l.out - l.done) (drop l.done l.out) (omega (arith, length-drop l.done l.out)) in
     record {
-      within = omega (arith, long, piece.ensures.few, length-append (take l.done l.out) (piece.new.out ++ post_of l.done (length l.out - l.done) l.out), length-append piece.new.out (post_of l.done (length l.out - l.done) l.out), length-take-le l.done l.out l.invariant.within);
+      within = omega (arith, long, piece.ensures.within_room, length-append (take l.done l.out) (piece.new.out ++ post_of l.done (length l.out - l.done) l.out), length-append piece.new.out (post_of l.done (length l.out - l.done) l.out), length-take-le l.done l.out l.invariant.within);
       written = written_more l.out piece.new.out (image_of c.args.election.now c.args.closed.now.ballots) c.args.from l.done piece.result (length l.out - l.done) l.invariant.within
-          (omega (arith, long, piece.ensures.few)) l.invariant.written piece.ensures.bytes;
+          (omega (arith, long, piece.ensures.within_room)) l.invariant.written piece.ensures.bytes;
     }
 
 pub returns-clause-whole : goal.returns-clause-whole

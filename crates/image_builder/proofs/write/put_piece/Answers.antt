@@ -13,7 +13,7 @@ returns-then-at-lt-HEADER_BYTES-clause-bytes c =
     let long : length c.header.result ≡ 32 = ap length c.header.ensures in
     c.put_from.ensures.bytes
     ∙ ap (λ bytes. take n (drop c.args.at bytes)) c.header.ensures
-    ∙ sym (part_of_header e c.args.closed.now.ballots c.args.at n (omega (arith, c.put_from.ensures.there)))
+    ∙ sym (part_of_header e c.args.closed.now.ballots c.args.at n (omega (arith, c.put_from.ensures.within_bytes)))
 
 place_of_byte : (at size count : ℕ) → 0 < size → at < 32 + count * size → 32 ≤ at → (at - 32) / size < count
 place_of_byte at size count some within past = (div-lt_iff_lt-mul some).1 (omega arith)
@@ -51,7 +51,7 @@ returns-clause-bytes c =
     let some : 0 < cell_size e = omega arith in
     let split : at ≡ 32 + (place * cell_size e + within) = omega (arith, c.if-at-lt-HEADER_BYTES.false) in
     let there : place < length cells = omega (arith, count, place_of_byte at (cell_size e) (cell_count e) some c.requires.within c.if-at-lt-HEADER_BYTES.false) in
-    let short : within + n ≤ cell_size e = subst (λ (w : ℕ). (at - 32) % w + n ≤ cell_size e) size c.put_cell_from.ensures.there in
+    let short : within + n ≤ cell_size e = subst (λ (w : ℕ). (at - 32) % w + n ≤ cell_size e) size c.put_cell_from.ensures.within_cell in
     c.put_cell_from.ensures.bytes
     ∙ ap (λ w. take n (drop ((at - 32) % w) (cell_bytes e store.ballots (get_or c.args.cells.now ((at - 32) / w) 0)))) size
     ∙ ap (λ ns. take n (drop within (cell_bytes e store.ballots (get_or ns place 0)))) c.requires.held
