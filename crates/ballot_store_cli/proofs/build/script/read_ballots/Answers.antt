@@ -5,7 +5,7 @@ use Rattle.ballot_store_cli.specs.Ballots.{ballots_so_far, Judges}
 use Rattle.ballot_store_cli.specs.Build.{HasBadLine, IsReadOut}
 use Rattle.ballot_store_cli.specs.declared.build.ballots.Refusal.{Refusal}
 use Rattle.ballot_store_cli.proofs.Reading.{AreSpelled, AreSpelledBut, spelled_more, told_all, told_bad, told_fault, told_too_much, refused_whole, refused_wide}
-use Rattle.outside_io.proofs.Reading.{few_so_far, read_nothing, read_whole, read_wide, read_first, read_out, read_too_much, read_fault}
+use Rattle.outside_io.proofs.Reading.{few_given, read_nothing, read_whole, read_wide, read_first, read_out, read_too_much, read_fault}
 use Rattle.outside_io.specs.Told.{AsTold}
 use Rattle.store_spec.specs.Ballot.{Ballot}
 use Rattle.store_spec.specs.BallotLine.{Spells}
@@ -17,7 +17,7 @@ use Rattle.ballot_store_cli.proofs.build.script.read_ballots.Goals as goal
 pub lines-init : goal.lines-init
 lines-init g c = record {
   read = read_nothing c.in_ok-lines.lines c.in_ok-lines.ensures.text c.in_ok-lines.ensures.room
-      (subst (λ (ballots : List Ballot). AreSpelled c.args.election.now ballots []) (sym c.new-ballots.ensures.none) tt);
+      (subst (λ (ballots : List Ballot). AreSpelled c.args.election.now ballots []) (sym c.new-ballots.ensures.none) ([], refl, tt));
   sound = c.new-ballots.ensures.sound c.args.election.now;
   counted = omega (arith, ap length c.new-ballots.ensures.none);
   no_fault = refl;
@@ -29,9 +29,8 @@ lines-preserved g c =
     let e = c.args.election.now in
     let j = c.in-Ok.ensures in
     let said = c.in-Ok-Whole.ensures in
-    let progress = said.progress (λ end. let clash = sym c.in-Ok-Whole.field-0-is ∙ end in cc) in
     record {
-      read = read_whole i.read c.in-Ok-Whole.field-0-is said.answers progress said.within_room (λ lines each.
+      read = read_whole i.read c.in-Ok-Whole.field-0-is said.answers said.progress said.within_room (λ lines each.
           subst (λ (ballots : List Ballot). AreSpelled e ballots (lines ++ Some c.next_line.new.self.line ∷ [])) (sym j.2)
           (spelled_more e (ballots_so_far c.lines.ballots) c.next_line.new.self.line j.0 (subst (λ line. Spells e line j.0) c.line.ensures j.1) lines each));
       sound = j.3;
@@ -47,11 +46,10 @@ returns-in-Err-Bad-clause-reads g c =
     let listing = ballots_so_far c.lines.ballots in
     let J : Refusal → Type 0 = λ refusal. Judges (Err refusal) e c.line.result.now c.lines.ballots c.judge.new.self in
     let bad = subst J c.in-Err-Bad.field-0-is c.in-Err-Bad.ensures in
-    let progress = said.progress (λ end. let clash = sym c.in-Ok-Whole.field-0-is ∙ end in cc) in
-    let all = read_whole {Q = AreSpelledBut e listing (Some c.next_line.new.self.line)} i.read c.in-Ok-Whole.field-0-is said.answers progress said.within_room (λ lines each. (lines, each, refl)) in
+    let all = read_whole {Q = AreSpelledBut e listing (Some c.next_line.new.self.line)} i.read c.in-Ok-Whole.field-0-is said.answers said.progress said.within_room (λ lines each. (lines, each, refl)) in
     subst (λ n. AsTold g.S.Source.left c.args.script.now c.next_line.new.source (HasBadLine e n (reason c.in-Err-Bad.why))) (ap (λ n. n + 1) (sym i.counted))
     (told_bad e (Some c.next_line.new.self.line) listing (reason c.in-Err-Bad.why) i.sound.listing i.sound.within_limit
-    (refused_whole e listing c.next_line.new.self.line (reason c.in-Err-Bad.why) (subst (λ line. IsRefused e listing line (reason c.in-Err-Bad.why)) c.line.ensures bad)) (read_first all) (few_so_far all))
+    (refused_whole e listing c.next_line.new.self.line (reason c.in-Err-Bad.why) (subst (λ line. IsRefused e listing line (reason c.in-Err-Bad.why)) c.line.ensures bad)) (read_first all) (few_given i.read said.answers said.within_room))
 
 pub returns-in-Ok-TooWide-clause-reads : goal.returns-in-Ok-TooWide-clause-reads
 returns-in-Ok-TooWide-clause-reads g c =
@@ -59,10 +57,9 @@ returns-in-Ok-TooWide-clause-reads g c =
     let e = c.args.election.now in
     let said = c.in-Ok-TooWide.ensures in
     let listing = ballots_so_far c.lines.ballots in
-    let progress = said.progress (λ end. let clash = sym c.in-Ok-TooWide.field-0-is ∙ end in cc) in
-    let all = read_wide {Q = AreSpelledBut e listing None} i.read c.in-Ok-TooWide.field-0-is said.answers progress said.within_room (λ lines each. (lines, each, refl)) in
+    let all = read_wide {Q = AreSpelledBut e listing None} i.read c.in-Ok-TooWide.field-0-is said.answers said.progress said.within_room (λ lines each. (lines, each, refl)) in
     subst (λ n. AsTold g.S.Source.left c.args.script.now c.next_line.new.source (HasBadLine e n Malformed)) (ap (λ n. n + 1) (sym i.counted))
-    (told_bad e None listing Malformed i.sound.listing i.sound.within_limit (refused_wide e listing) (read_first all) (few_so_far all))
+    (told_bad e None listing Malformed i.sound.listing i.sound.within_limit (refused_wide e listing) (read_first all) (few_given i.read said.answers said.within_room))
 
 pub returns-in-Ok-End-clause-reads : goal.returns-in-Ok-End-clause-reads
 returns-in-Ok-End-clause-reads g c =
@@ -84,7 +81,5 @@ returns-in-Err-ReadFault-clause-reads g c =
 
 pub returns-in-Err-Memory-clause-reads : goal.returns-in-Err-Memory-clause-reads
 returns-in-Err-Memory-clause-reads g c =
-    let i = c.lines.invariant in
     let said = c.in-Ok-Whole.ensures in
-    let progress = said.progress (λ end. let clash = sym c.in-Ok-Whole.field-0-is ∙ end in cc) in
-    few_so_far (read_whole {Q = AreSpelledBut c.args.election.now (ballots_so_far c.lines.ballots) (Some c.next_line.new.self.line)} i.read c.in-Ok-Whole.field-0-is said.answers progress said.within_room (λ lines each. (lines, each, refl)))
+    few_given c.lines.invariant.read said.answers said.within_room
