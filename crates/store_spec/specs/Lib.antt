@@ -10,4 +10,5 @@ pub mod Home
 pub mod Image
 pub mod Input
 pub mod Layout
+pub mod Medium
 pub mod Probe

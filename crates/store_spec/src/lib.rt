@@ -1,7 +1,7 @@
 //! The definitions that the whole store is proved against, and worked figures of them.
 #![tactic(auto)]
 
-ghost use Rattle.store_spec.specs.Figures.{ExampleHomes, ExampleSizes, ExampleLayout, ExampleImage, ExampleLines};
+ghost use Rattle.store_spec.specs.Figures.{ExampleHomes, ExampleSizes, ExamplePlaces, ExampleLayout, ExampleImage, ExampleLines};
 
 /// The homes of some numbers under the example election.
 pub fn example_homes()
@@ -11,6 +11,11 @@ pub fn example_homes()
 /// The sizes of the example election's store.
 pub fn example_sizes()
     ensures { ExampleSizes }
+{}
+
+/// Where the parts of the example election's medium stand.
+pub fn example_places()
+    ensures { ExamplePlaces }
 {}
 
 /// Where three numbers stand under the example election.
