@@ -2,7 +2,7 @@
 use Rattle.std.proofs.Common.{◌≡◌, ℕ, zero, suc, ◌+◌, ◌*◌, ◌≤◌, ◌<◌, min, true, List, [], ◌∷◌, ◌++◌, length, refl, sym, ◌∙◌, ap, arith, nat_le, cond, ⊎_elim, length-append}
 use Rattle.std.proofs.lemmas.Bool.{and_from, and_parts, lt-ltb, le-ltb, cases_lt}
 use Rattle.store_spec.specs.Fault.{next_count}
-use Rattle.crash_disk.specs.Entries.{with_one_more}
+use Rattle.crash_disk.specs.Calls.{with_one_more}
 use Rattle.crash_disk.proofs.Moments.{next_count-le}
 use Rattle.crash_disk.specs.SeenIsImage.{later, state_at-end}
 use Rattle.crash_disk.specs.History.{Event, State, state_after, state_inside, state_at, begin_within}

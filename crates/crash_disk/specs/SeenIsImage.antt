@@ -4,11 +4,11 @@ use Rattle.std.proofs.Common.{◌≡◌, ℕ, zero, suc, ◌+◌, ◌*◌, ◌�
 use Rattle.std.proofs.lemmas.Bool.{and_parts, leb-true}
 use Rattle.std.proofs.lemmas.List.{drop_at, length-map, length-take, take_at}
 use Rattle.store_spec.specs.Disk.{overwritten, IsTorn}
-use Rattle.crash_disk.specs.Entries.{event_of, line_of}
+use Rattle.crash_disk.specs.Calls.{event_of, made_call}
 use Rattle.crash_disk.specs.History.{Event, State, settled_state, state_after, state_at, left_in, left_at, seen_after, begin_within}
 use Rattle.crash_disk.specs.History.Event.{Wrote, Synced, Unchanged}
-use Rattle.crash_disk.specs.Notes.{lines_of, history_of, left_of}
-use Rattle.crash_disk.specs.declared.medium.Medium.{Medium}
+use Rattle.crash_disk.specs.Notes.{made_calls, history_of, left_of}
+use Rattle.crash_disk.specs.declared.recording.Recording.{Recording}
 
 pub length-overwritten : (at : ℕ) (bytes old : List ℕ) → at ≤ length old → length (overwritten at bytes old) ≡ max (length old) (at + length bytes)
 length-overwritten at bytes old le = omega (arith, length-append (take at old ++ bytes) (drop (at + length bytes) old), length-append (take at old) bytes, length-drop (at + length bytes) old, length-take at old)
@@ -54,11 +54,11 @@ seen-left_at first bytes es calls le ok is =
     subst P (sym (state_at-end s es (2 * calls) (omega arith))) (subst Q (sym is) (seen-left s es (2 * length es) ok refl))
 
 -- each call that is in the record is counted
-pub length-history : (medium : Medium) → length (history_of medium) ≡ min medium.calls medium.room.calls
-length-history medium = length-map (lines_of medium) event_of ∙ length-map medium.entries.items (line_of medium.written.items) ∙ medium.recorded
+pub length-history : (recording : Recording) → length (history_of recording) ≡ min recording.calls recording.room.calls
+length-history recording = length-map (made_calls recording) event_of ∙ length-map recording.entries.items (made_call recording.written.items) ∙ recording.recorded
 
-pub medium-image : (medium : Medium) (bytes : List ℕ) → Some medium.bytes.items ≡ Some bytes → left_of medium (2 * medium.calls) bytes
-medium-image medium bytes is =
-    let same : medium.bytes.items ≡ bytes = cc in
-    let P : List ℕ → Type 0 = λ xs. left_of medium (2 * medium.calls) xs in
-    subst P same (seen-left_at medium.first.items medium.bytes.items (history_of medium) medium.calls (omega (arith, length-history medium)) medium.begins medium.replayed)
+pub recording-image : (recording : Recording) (bytes : List ℕ) → Some recording.bytes.items ≡ Some bytes → left_of recording (2 * recording.calls) bytes
+recording-image recording bytes is =
+    let same : recording.bytes.items ≡ bytes = cc in
+    let P : List ℕ → Type 0 = λ xs. left_of recording (2 * recording.calls) xs in
+    subst P same (seen-left_at recording.first.items recording.bytes.items (history_of recording) recording.calls (omega (arith, length-history recording)) recording.begins recording.replayed)

@@ -167,9 +167,9 @@ impl<'a, F: Files> Disk for FileDisk<'a, F> {
 
     ghost counted_faults = { λ disk. disk.faults.within };
 
-    ghost seen_is_image = { λ disk bytes is. Prim.cc };
+    ghost seen_is_crash_image = { λ disk bytes is. Prim.cc };
 
-    ghost told_images = { λ disk m image left. absurd left };
+    ghost crash_images_told = { λ disk m image left. absurd left };
 
     fn size(&mut self) -> Result<u64, Failed> {
         let outcome = self.find_size();

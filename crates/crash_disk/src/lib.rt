@@ -3,17 +3,19 @@
 
 mod disk;
 mod entry;
+mod failing;
 mod file;
-mod fused;
 pub mod laws;
-mod medium;
-mod memory;
+mod recorded;
+mod recording;
+mod sure;
 
 pub use disk::Disk;
 pub use entry::{DiskCall, Room};
+pub use failing::{Failing, LaterCalls, ListedCalls};
 pub use file::FileDisk;
-pub use fused::FusedDisk;
-pub use memory::MemoryDisk;
+pub use recorded::{FusedDisk, MemoryDisk, RecordedDisk};
+pub use sure::SureDisk;
 
 #[cfg(test)]
 mod tests;
