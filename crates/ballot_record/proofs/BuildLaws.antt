@@ -8,7 +8,7 @@ use Rattle.std.proofs.lemmas.List.Sorted.{Contains-permutation, IsPermutation-ke
 use Rattle.std.proofs.lemmas.Slice.Zip.{AllZip-long}
 use Rattle.std.specs.List.Sorted.{IsPermutation}
 use Rattle.std.specs.Prelude.{◌↔◌, slice_get, Any, Contains, AllPairs, Result}
-use Rattle.store_spec.specs.Ballot.{Ballot, IsBallotSet, IsListing}
+use Rattle.store_spec.specs.Ballot.{Ballot, IsListing}
 use Rattle.store_spec.specs.BallotLine.{Spells, IsRecordLine, IsLineOf}
 use Rattle.store_spec.specs.Build.{Builds, BuiltFrom, IsFirstBad, IsRefused, Reason}
 use Rattle.store_spec.specs.Build.Reason.{Malformed, Invalid, Duplicate, Conflict, Full}

@@ -58,13 +58,13 @@ valid_or_not e b =
               | inl every ↦ elim (marks_or_not e b.style b.marks) [
                 | inr not ↦ inr (λ valid. not valid.marked)
                 | inl marked ↦ inl (record {
-                    some_number = omega arith;
-                    short_number = short_number;
-                    some_style = omega arith;
-                    known_style = known;
-                    every_set = every;
-                    marked = marked;
-                  })
+                  some_number = omega arith;
+                  short_number = short_number;
+                  some_style = omega arith;
+                  known_style = known;
+                  every_set = every;
+                  marked = marked;
+                })
               ]
             ]
           ]

@@ -13,7 +13,7 @@ use Rattle.store_spec.specs.BallotLine.{IsRecordLine, RecordLine, IsGroup, Reads
 use Rattle.store_spec.specs.Election.{Election, IsElection}
 use Rattle.ballot_record.proofs.LineGroups.{RisesFrom, choices_text, rises_from_IsGroup}
 use Rattle.ballot_record.specs.LineReading.{line_of}
-use Rattle.ballot_record.proofs.LineWhole.{groups_text, line_takes, line_again}
+use Rattle.ballot_record.proofs.LineWhole.{groups_text, line_again}
 use Rattle.ballot_record.proofs.ValidMarks.{small_set, marks_kept}
 use Rattle.ballot_record.proofs.MarkSets.{mark_set-cons, doubled, IsGroup-choices_in, mark_set-choices_in, choices_in-mark_set}
 

@@ -10,9 +10,9 @@ digits_at limit value [] = if value == 0 then None else Some (value, [])
 digits_at limit value (byte ∷ bytes) =
     if is_ascii_digit byte
     then (
-      if value * 10 + (byte - 48) == 0 then None
-      else if nat_lt limit (value * 10 + (byte - 48)) then None
-      else digits_at limit (value * 10 + (byte - 48)) bytes
+    if value * 10 + (byte - 48) == 0 then None
+    else if nat_lt limit (value * 10 + (byte - 48)) then None
+    else digits_at limit (value * 10 + (byte - 48)) bytes
     )
     else if value == 0 then None else Some (value, byte ∷ bytes)
 
@@ -31,8 +31,8 @@ choices_at (suc more) last bytes =
     option_and_then (λ (first : ℕ × List ℕ).
     if nat_le first.0 last then None
     else past_byte comma first.1
-        (λ rest. option_map (with_first first.0) (choices_at more first.0 rest))
-        (Some (first.0 ∷ [], first.1)))
+    (λ rest. option_map (with_first first.0) (choices_at more first.0 rest))
+    (Some (first.0 ∷ [], first.1)))
     (digits_at 32 0 bytes)
 
 -- a dash, or choices

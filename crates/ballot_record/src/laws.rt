@@ -5,6 +5,7 @@ ghost use Rattle.store_spec.specs.Ballot.{Ballot, IsBallotSet, IsListing, IsVali
 ghost use Rattle.store_spec.specs.BallotLine.{IsGroup, IsRecordLine, ReadsAs, RecordLine, Spells, choices_in, longest_line, mark_set, record_line};
 ghost use Rattle.store_spec.specs.Build.{BuiltFrom, Builds, Reason};
 ghost use Rattle.store_spec.specs.Election.{Election, IsElection, example, most_choices};
+ghost use Rattle.store_spec.specs.Figures.{example_ballot};
 ghost use Rattle.store_spec.specs.Input.{line_limit};
 
 /// No line has two readings.
@@ -74,12 +75,14 @@ pub fn any_order()
         → Builds e lines xs → Builds e others ys → xs ≡ ys }
 {}
 
-/// Some lines of the example election with their parts, and some that are no line.
+/// Some lines of the example election with their parts, the lines of some ballots, and some that are no line.
 pub fn example_record_lines()
     ensures one_mark { ReadsAs example (codes "9 1 1/-")
         (record { number = 9; style = 1; groups = (1 ∷ []) ∷ [] ∷ [] }) }
     ensures three_marks { ReadsAs example (codes "1 1 2/1,3")
         (record { number = 1; style = 1; groups = (2 ∷ []) ∷ (1 ∷ 3 ∷ []) ∷ [] }) }
+    ensures of_9 { record_line example (example_ballot 9 1 0) ≡ codes "9 1 1/-" }
+    ensures of_1 { record_line example (example_ballot 1 2 5) ≡ codes "1 1 2/1,3" }
     ensures leading_zero { ¬ IsRecordLine example (codes "07 1 1/-") }
     ensures descending { ¬ IsRecordLine example (codes "7 1 3,1/-") }
     ensures too_great { ¬ IsRecordLine example (codes "18446744073709551616 1 1/-") }

@@ -148,7 +148,10 @@ fn an_ordinary_precinct(rt: HostRuntime) -> Result<(), Fail> {
     assert!(rt; record.valid(&election));
     let mut cell = [0xff; 21];
     record.put_cell(&election, &mut cell);
-    assert_eq!(rt; cell, *b"\x99\x67\x22\xce\x2c\xa1\x5e\x15\x02\0\0\0\x01\0\0\x01\x12\0\0\0\0");
+    assert_eq!(rt;
+        cell,
+        *b"\x99\x67\x22\xce\x2c\xa1\x5e\x15\x02\0\0\0\x01\0\0\x01\x12\0\0\0\0"
+    );
     assert_eq!(rt; take_cell(&cell, &election), CellRead::Held(record));
     Ok(())
 }

@@ -7,8 +7,8 @@ use Rattle.std.specs.List.Sorted.{IsNonDecreasing, IsNonDecreasingBy}
 use Rattle.ballot_record.specs.declared.record.Record.{Record}
 use Rattle.ballot_record.specs.Record.{ballot}
 use Rattle.body_store.specs.Contents.{ballots_of}
-use Rattle.ballot_record.proofs.BallotNumbers.{no_ballot, pairs_of_numbers}
-use Rattle.store_spec.specs.Ballot.{Ballot, numbers_of}
+use Rattle.ballot_record.proofs.BallotNumbers.{no_ballot}
+use Rattle.store_spec.specs.Ballot.{numbers_of}
 
 pub numbers_of-ballots_of : (records : List Record) → numbers_of (ballots_of records) ≡ map (λ r. r.number) records
 numbers_of-ballots_of [] = refl
