@@ -1,5 +1,5 @@
 -- What `build` makes of a script that was read.
-use Rattle.std.proofs.Common.{◌≡◌, ℕ, List, Vec, Ok, Err, ap, arith, refl}
+use Rattle.std.proofs.Common.{◌≡◌, ℕ, List, Err, ap, arith, refl}
 use Rattle.std.specs.List.{AllZip}
 use Rattle.std.specs.Prelude.{IsPermutation}
 use Rattle.ballot_store_cli.specs.Build.{BuildEnds, IsReadOut, OfScript, WritesImage}
@@ -10,7 +10,6 @@ use Rattle.ballot_store_cli.specs.declared.build.script.ScriptFault.{ScriptFault
 use Rattle.ballot_store_cli.specs.declared.build.script.ScriptFault.TheVariants.{BadLine, TooLong, ReadFault, Memory}
 use Rattle.ballot_store_cli.specs.declared.status.Status.TheVariants as status
 use Rattle.outside_io.proofs.Told.{told_as}
-use Rattle.outside_io.specs.Told.{IfTold}
 use Rattle.store_spec.specs.Ballot.{Ballot, IsBallotSet, IsWithinLimit}
 use Rattle.store_spec.specs.BallotLine.{Spells}
 use Rattle.store_spec.specs.Election.{Election}

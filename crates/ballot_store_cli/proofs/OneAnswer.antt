@@ -1,13 +1,13 @@
 -- The words and what stands outside before a run decide how it ends, but for faults and want of memory.
-use Rattle.std.proofs.Common.{◌≡◌, ℕ, ◌+◌, ◌<◌, ◌≤◌, nat_le, cond, List, [], ◌∷◌, length, take, Option, Some, None, Result, Ok, Err, ◌⊎◌, inl, inr, ⊎_elim, refl, sym, ◌∙◌, ap, subst, arith, is_some}
+use Rattle.std.proofs.Common.{◌≡◌, ℕ, ◌<◌, ◌≤◌, cond, List, length, take, Option, Some, None, Result, Ok, Err, ◌⊎◌, inl, inr, ⊎_elim, refl, sym, ◌∙◌, ap, subst, arith, is_some}
 use Rattle.std.specs.Prelude.{IsSome}
-use Rattle.std.proofs.lemmas.Bool.{le-leb, lt-leb}
+use Rattle.std.proofs.lemmas.Bool.{le-leb}
 use Rattle.ballot_record.specs.LineWhy.{reason}
 use Rattle.ballot_record.specs.declared.fault.LineWhy.{LineWhy}
 use Rattle.ballot_record.specs.declared.fault.LineWhy.TheVariants.{Malformed, Invalid, Duplicate, Conflict, Full}
 use Rattle.ballot_store_cli.specs.Build.{BuildEnds}
-use Rattle.ballot_store_cli.specs.Command.{Forms, FormNone, Names}
-use Rattle.ballot_store_cli.specs.ElectionText.{election_limit, ForElection, IsElectionRead, RefusesElection}
+use Rattle.ballot_store_cli.specs.Command.{Forms, FormNone}
+use Rattle.ballot_store_cli.specs.ElectionText.{election_limit, RefusesElection}
 use Rattle.ballot_store_cli.specs.Outcome.{CommandEnds, Ends, RunEnds}
 use Rattle.ballot_store_cli.specs.Outside.{Input, Outside}
 use Rattle.ballot_store_cli.specs.Status.{IsDecided}
@@ -15,7 +15,6 @@ use Rattle.ballot_store_cli.specs.declared.command.Command.{Command}
 use Rattle.ballot_store_cli.specs.declared.command.Command.TheVariants.{Build}
 use Rattle.ballot_store_cli.specs.declared.status.Status.{Status}
 use Rattle.ballot_store_cli.specs.declared.status.Status.TheVariants as status
-use Rattle.ballot_store_cli.specs.declared.status.Which.{Which}
 use Rattle.ballot_store_cli.specs.declared.status.Which.TheVariants as which
 use Rattle.election_def.proofs.One.{one_election}
 use Rattle.election_def.specs.Text.{Describes, IsElectionText}
@@ -23,7 +22,7 @@ use Rattle.outside_io.specs.Told.{IfTold}
 use Rattle.ballot_record.proofs.BuildLaws.{build_one_way}
 use Rattle.store_spec.specs.Ballot.{Ballot}
 use Rattle.store_spec.specs.Build.{BuiltFrom, Reason}
-use Rattle.store_spec.specs.Election.{Election, IsElection}
+use Rattle.store_spec.specs.Election.{Election}
 use Rattle.store_spec.specs.Input.{script_limit, ended_lines, lines_of, lines_within}
 
 -- ---- what is told

@@ -22,7 +22,7 @@ use Rattle.store_spec.specs.BallotLine.{Spells}
 use Rattle.store_spec.specs.Build.{Builds, IsFirstBad, IsRefused, Reason}
 use Rattle.store_spec.specs.Build.Reason.{Malformed, Invalid, Duplicate, Conflict, Full}
 use Rattle.store_spec.specs.Election.{Election}
-use Rattle.store_spec.specs.Input.{line_limit, script_limit, lines_of, ended_lines, lines_within, taken_line, taken_lines}
+use Rattle.store_spec.specs.Input.{script_limit, lines_of, ended_lines, lines_within, taken_line, taken_lines}
 
 -- ---- lines and ballots
 

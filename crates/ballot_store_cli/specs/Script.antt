@@ -1,5 +1,5 @@
 -- What a script of record lines gives.
-use Rattle.std.specs.Prelude.{◌≡◌, ℕ, ◌+◌, List, Vec, Result, Ok, Err}
+use Rattle.std.specs.Prelude.{ℕ, ◌+◌, List, Vec, Result, Ok, Err}
 use Rattle.std.specs.List.{AllZip}
 use Rattle.std.specs.declared.alloc.Global.{Global}
 use Rattle.ballot_record.specs.LineWhy.{reason}

@@ -1,4 +1,5 @@
-ghost use Rattle.std.specs.Prelude.{◌≤◌, ℕ, vec_len, None, arith};
+ghost use Rattle.std.specs.Prelude.{◌≤◌, ℕ, vec_len, None};
+ghost use Rattle.std.proofs.Common.{arith};
 
 use crate::{Status, Which, run};
 use ballot_record::LineWhy;

@@ -1,16 +1,15 @@
-use Rattle.std.proofs.Common.{◌≡◌, ℕ, List, Err, ap, sym, subst, refl, ◌∙◌}
+use Rattle.std.proofs.Common.{◌≡◌, ℕ, List, Err, ap, subst, refl, ◌∙◌}
 use Rattle.body_store.specs.Contents.{ballots_of}
 use Rattle.ballot_store_cli.proofs.Building.{no_memory, script_refused, writes_image}
 use Rattle.ballot_store_cli.proofs.Causes.{ended_with}
 use Rattle.ballot_store_cli.specs.Build.{BuildEnds}
-use Rattle.ballot_store_cli.specs.Outside.{Outside, input, output, outside}
+use Rattle.ballot_store_cli.specs.Outside.{input, output, outside}
 use Rattle.ballot_store_cli.specs.Status.{build_fault, build_fault_status}
 use Rattle.ballot_store_cli.specs.declared.build.BuildFault.TheVariants.{Memory, WriteFault}
 use Rattle.ballot_store_cli.specs.declared.build.script.ScriptFault.TheVariants.{ReadFault}
 use Rattle.outside_io.specs.Stream.{TakesAll, TakesSome}
 use Rattle.store_spec.specs.Ballot.{IsBallotSet, IsWithinLimit}
 use Rattle.store_spec.specs.Election.{Election}
-use Rattle.store_spec.specs.Image.{image_of}
 use Rattle.ballot_store_cli.proofs.build.build.Goals as goal
 
 pub returns-in_err-records : goal.returns-in_err-records

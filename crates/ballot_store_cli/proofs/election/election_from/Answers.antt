@@ -13,7 +13,7 @@ returns-in_err-read_election-clause-refused g c =
     let new = input g.E.Source.left g.E.Source.faults c.read_text.new.source in
     let fault = c.in_err-read_election.field-0.0 in
     if_err c.from_residual-in_err-read_election.result (no_election fault) (λ cause. RefusesElection (no_election_status cause) old new) c.from_residual-in_err-read_election.ensures.1
-    (told_refused old new c.in_ok-text.text.items fault c.in_ok-text.ensures.text c.in_ok-text.ensures.no_fault (λ is. subst (λ (text : List ℕ). ¬ IsElectionText text) c.deref.ensures.value (c.in_err-read_election.ensures.none (ap Err is))))
+    (told_refused old new c.in_ok-text.text.items fault c.in_ok-text.ensures.text c.in_ok-text.ensures.no_fault (λ is. subst (λ (text : List ℕ). ¬ IsElectionText text) c.deref.ensures.value (c.in_err-read_election.ensures.refused (ap Err is))))
 
 pub returns-clause-election : goal.returns-clause-election
 returns-clause-election g c = told_election c.in_ok-text.text.items c.in_ok-read_election.field-0 c.in_ok-text.ensures.text

@@ -1,4 +1,4 @@
-use Rattle.std.proofs.Common.{◌≡◌, ◌+◌, Err, List, [], ◌∷◌, ◌++◌, length, Some, None, ap, subst, sym, refl, ◌∙◌, arith, length-append}
+use Rattle.std.proofs.Common.{◌+◌, Err, List, [], ◌∷◌, ◌++◌, length, Some, None, ap, subst, sym, refl, ◌∙◌, arith, length-append}
 use Rattle.std.specs.List.{AllZip}
 use Rattle.ballot_record.specs.LineWhy.{reason}
 use Rattle.ballot_store_cli.specs.Ballots.{ballots_so_far, Judges}
