@@ -13,7 +13,7 @@ pub record Table : Type 0 where
 
 -- The claim words of a number are tried from one of its own on, round the array.
 abbrev pub claim_place : ℕ → ℕ → ℕ → ℕ
-claim_place number tries length = (number % length + tries) % length
+claim_place number tries count = (number % count + tries) % count
 
 -- the shared word that is tried next
 abbrev pub claim_word : Table → ℕ → ℕ → ℕ

@@ -1,0 +1,10 @@
+//! The steps by which tabulators and withdrawers change shared words, as tables over states, and cores that make them
+//! one by one in any order.
+#![tactic(auto)]
+
+mod act;
+pub mod laws;
+mod shape;
+
+pub use act::{Act, Stepped};
+pub use shape::Shape;
