@@ -1,5 +1,5 @@
 -- Lists as sets of numbers: what is counted, and what becomes of it where one element is set.
-use Rattle.std.proofs.Common.{◌≡◌, ◌≢◌, ◌==◌, ℕ, zero, suc, ◌+◌, ◌<◌, ◌≤◌, ◌⊎◌, inl, inr, ⊎_elim, Some, List, [], ◌∷◌, ◌++◌, cond, length, get_or, set, refl, sym, ap, ◌∙◌, subst, arith}
+use Rattle.std.proofs.Common.{◌≡◌, ◌≢◌, ◌==◌, ℕ, zero, suc, ◌+◌, ◌<◌, ◌≤◌, ◌⊎◌, inl, inr, ⊎_elim, Some, List, [], ◌∷◌, ◌++◌, cond, length, get_or, map, set, refl, sym, ap, ◌∙◌, subst, arith}
 use Rattle.std.proofs.lemmas.Bool.{eq-eqb, ne_eqb, cases_eq, cond-true, cond-false}
 use Rattle.std.proofs.lemmas.List.{get_or_default, get_or-set_other, get_or-set_same, length-set}
 use Rattle.std.proofs.lemmas.List.Elements.{All-append, All-cons, All-get_or, All-head, All-nil, All-tail}
@@ -30,6 +30,13 @@ sum_by-flat_map weight f (x ∷ xs) =
     sum_by-append weight (f x) (flat_map f xs)
     ∙ ap (λ n. sum_by weight (f x) + n) (sum_by-flat_map weight f xs)
     ∙ sym (sum_by-cons (λ y. sum_by weight (f y)) x xs)
+
+pub sum_by-map : {X : Type 0} (weight : ℕ → ℕ) (f : X → ℕ) (xs : List X) → sum_by weight (map f xs) ≡ sum_by (λ x. weight (f x)) xs
+sum_by-map weight f [] = refl
+sum_by-map weight f (x ∷ xs) =
+    sum_by-cons weight (f x) (map f xs)
+    ∙ ap (λ n. weight (f x) + n) (sum_by-map weight f xs)
+    ∙ sym (sum_by-cons (λ y. weight (f y)) x xs)
 
 pub All-flat_map : {X : Type 0} (P : ℕ → Type 0) (f : X → List ℕ) (xs : List X) → All (λ x. All P (f x)) xs → All P (flat_map f xs)
 All-flat_map P f [] h = All-nil P

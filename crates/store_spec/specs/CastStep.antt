@@ -68,6 +68,15 @@ pub record CastView : Type 0 where
 abbrev pub fresh_view : CastView
 fresh_view = record { state = Rest; accepted = []; taken = []; full = [] }
 
+-- the view of a tabulator that takes in another, both at rest: its lists and then those of the other
+abbrev pub joined_view : CastView → CastView → CastView
+joined_view view other = record {
+  state = Rest;
+  accepted = view.accepted ++ other.accepted;
+  taken = view.taken ++ other.taken;
+  full = view.full ++ other.full;
+}
+
 -- the number that a state is about, and 0 at rest
 abbrev pub number_of : CastState → ℕ
 number_of Rest = 0
