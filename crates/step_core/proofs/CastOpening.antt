@@ -1,20 +1,20 @@
 -- The casting invariant at the opening, and where seats are made and taken in.
-use Rattle.std.proofs.Common.{◌≡◌, ◌≢◌, ℕ, zero, suc, ◌+◌, ◌<◌, ◌≤◌, ⊎_elim, inl, inr, Some, List, [], ◌∷◌, ◌++◌, length, get_or, set, take, drop, replicate, refl, sym, ap, ◌∙◌, subst, arith}
+use Rattle.std.proofs.Common.{◌≡◌, ◌≢◌, ℕ, ◌+◌, ◌<◌, ◌≤◌, ⊎_elim, inl, inr, Some, List, [], ◌∷◌, ◌++◌, length, set, take, drop, replicate, refl, sym, ap, ◌∙◌, subst, arith}
 use Rattle.std.proofs.lemmas.Bool.{cases_lt}
-use Rattle.std.proofs.lemmas.List.{append-nil, drop_at, map-append, get_or-set_other, length-set, length-append, length-replicate, take_at}
-use Rattle.std.proofs.lemmas.List.Elements.{All-append, All-get_or, All-nil, All-push, All-replicate, All-set, All-weaker}
+use Rattle.std.proofs.lemmas.List.{drop_at, map-append, get_or-set_other, length-set, length-append, length-replicate, take_at}
+use Rattle.std.proofs.lemmas.List.Elements.{All-append, All-nil, All-push, All-replicate, All-set}
 use Rattle.std.proofs.lemmas.List.Folds.{sum_by-replicate}
 use Rattle.std.proofs.lemmas.List.Sums.{sum_by-append, sum_by-cons, sum_by-le, sum_by-set, sum_by_push}
 use Rattle.std.proofs.lemmas.Option.{get_or_from_slice_get, slice_get-get_or}
-use Rattle.std.specs.List.{All, Contains, sum_by}
+use Rattle.std.specs.List.{All, sum_by}
 use Rattle.std.specs.Prelude.{slice_get}
 use Rattle.store_spec.proofs.LaidOut.{AreHomed, empty_cell, homed_ascending, laid_out_is, place_of_next}
 use Rattle.store_spec.proofs.Ascending.{IsRising, ascending_distinct, length-ascending, put_first, put_later}
 use Rattle.store_spec.proofs.Placing.{placed_at}
-use Rattle.store_spec.specs.CastInvariant.{AreClaimed, AreInOrder, ArePlaced, CastInvariant, EachOnce, HasMet, HasRoomFor, HasSeen, HoldSame, HoldsOther, IsClaimed, IsHand, IsProbing, accepted_of, hands_of, in_hand}
-use Rattle.store_spec.specs.CastStep.{CastState, CastView, Table, claim_place, fresh_view, joined_view}
-use Rattle.store_spec.specs.CastStep.CastState.{Rest, Probing, Carrying, Ready}
-use Rattle.store_spec.specs.Layout.{HasRoom, IsOrdered, ascending, laid_out, layout_of, placed, put_in_order}
+use Rattle.store_spec.specs.CastInvariant.{AreClaimed, ArePlaced, CastInvariant, EachOnce, HasMet, HasSeen, HoldSame, HoldsOther, IsClaimed, IsHand, IsProbing, hands_of, in_hand}
+use Rattle.store_spec.specs.CastStep.{CastView, Table, claim_place, fresh_view, joined_view}
+use Rattle.store_spec.specs.CastStep.CastState.{Rest}
+use Rattle.store_spec.specs.Layout.{HasRoom, IsOrdered, ascending, laid_out, layout_of, put_in_order}
 use Rattle.step_core.proofs.CastClaims.{accepted-set}
 use Rattle.step_core.proofs.CastHands.{hands-set}
 use Rattle.step_core.proofs.Sets.{at_place, stands_within, All-flat_map, All-from_flat_map, is_one, is_one-zero, sum_by-flat_map, sum_by-map}

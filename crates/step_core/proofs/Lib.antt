@@ -1,6 +1,10 @@
+pub mod CastAtRest
 pub mod CastClaims
 pub mod CastHands
+pub mod CastLeads
+pub mod CastMeasure
 pub mod CastOpening
 pub mod CastPlaces
 pub mod CastRows
+pub mod CastSteps
 pub mod Sets

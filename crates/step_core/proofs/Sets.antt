@@ -1,10 +1,10 @@
 -- Lists as sets of numbers: what is counted, and what becomes of it where one element is set.
-use Rattle.std.proofs.Common.{◌≡◌, ◌≢◌, ◌==◌, ℕ, zero, suc, ◌+◌, ◌<◌, ◌≤◌, ◌⊎◌, inl, inr, ⊎_elim, Some, List, [], ◌∷◌, ◌++◌, cond, length, get_or, map, set, refl, sym, ap, ◌∙◌, subst, arith}
+use Rattle.std.proofs.Common.{◌≡◌, ◌≢◌, ◌==◌, ℕ, zero, suc, ◌+◌, ◌<◌, ◌≤◌, ⊎_elim, Some, List, [], ◌∷◌, ◌++◌, cond, length, get_or, map, set, refl, sym, ap, ◌∙◌, subst, arith}
 use Rattle.std.proofs.lemmas.Bool.{eq-eqb, ne_eqb, cases_eq, cond-true, cond-false}
-use Rattle.std.proofs.lemmas.List.{get_or_default, get_or-set_other, get_or-set_same, length-set}
+use Rattle.std.proofs.lemmas.List.{get_or_default, get_or-set_other, length-set}
 use Rattle.std.proofs.lemmas.List.Elements.{All-append, All-cons, All-get_or, All-head, All-nil, All-tail}
 use Rattle.std.proofs.lemmas.List.Kept.{AllPairs-cons}
-use Rattle.std.proofs.lemmas.List.Sums.{sum_by-append, sum_by-cons}
+use Rattle.std.proofs.lemmas.List.Sums.{get_or-le-sum_by, sum_by-append, sum_by-cons}
 use Rattle.std.proofs.lemmas.Option.{get_or_from_slice_get, slice_get_cases}
 use Rattle.std.specs.List.{All, AllPairs, Contains, flat_map, sum_by}
 use Rattle.std.specs.Prelude.{slice_get}
@@ -93,6 +93,12 @@ none_counted v xs none = ⊎_elim
     (λ e. e)
     (λ (d : count_of v xs ≢ 0). absurd (none (stands_counted v xs (omega arith))))
     (cases_eq (count_of v xs) 0)
+
+pub contains-flat_map : {X : Type 0} (f : X → List ℕ) (xs : List X) (i : ℕ) (x : X) (v : ℕ) → slice_get xs i ≡ Some x → Contains (f x) v → Contains (flat_map f xs) v
+contains-flat_map {X} f xs i x v stands c =
+    let each : X → ℕ = λ y. count_of v (f y) in
+    let is : each (get_or xs i x) ≡ each x = ap each (get_or_from_slice_get xs i x x stands) in
+    stands_counted v (flat_map f xs) (omega (arith, counted v (f x) c, sum_by-flat_map (is_one v) f xs, get_or-le-sum_by each xs i x (stands_within xs i x stands)))
 
 pub distinct_once : (xs : List ℕ) → EachOnce xs → All (λ v. v ≢ 0) xs → AllPairs (λ a b. a ≢ b) xs
 distinct_once [] once some = λ i j d lt within. absurd (omega arith)

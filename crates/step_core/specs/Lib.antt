@@ -1,3 +1,4 @@
 pub mod Act
 pub mod CastKept
+pub mod CastTables
 pub mod Shape

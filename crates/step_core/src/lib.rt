@@ -3,8 +3,10 @@
 #![tactic(auto)]
 
 mod act;
+mod cast;
 pub mod laws;
 mod shape;
 
 pub use act::{Act, Stepped};
+pub use cast::{CastNote, CastState, cast_act, cast_after, cast_first};
 pub use shape::Shape;
