@@ -7,4 +7,6 @@ pub mod CastOpening
 pub mod CastPlaces
 pub mod CastRows
 pub mod CastSteps
+pub mod CastingAnswers
+pub mod CastingViews
 pub mod Sets

@@ -1,4 +1,5 @@
 pub mod Act
 pub mod CastKept
 pub mod CastTables
+pub mod Casting
 pub mod Shape
