@@ -8,7 +8,7 @@ use Rattle.step_core.proofs.CastHands.{cells_size, hand_fits, hand_nowhere}
 use Rattle.step_core.proofs.CastMeasure.{IsSteady, measure_falls}
 use Rattle.step_core.proofs.CastRows.{hand_is, keeps_row, met_is, probing_is, seen_is, whole_still}
 use Rattle.step_core.proofs.CastClaims.{met_same}
-use Rattle.step_core.proofs.Sets.{stands_within}
+use Rattle.step_core.proofs.Sets.{stands-set}
 use Rattle.step_core.specs.CastTables.{FitsIn, MayFind}
 use Rattle.store_spec.specs.Act.{word_of}
 use Rattle.store_spec.specs.CastInvariant.{CastInvariant, HasRoomFor, in_hand}
@@ -35,11 +35,6 @@ word_of_row t from word found left new note (lost_ready v i s f lost less) = ref
 -- the view as it is when its step begins
 abbrev pub begun : CastView → CastState → CastView
 begun view from = record view { state = from }
-
-pub begun_stands : (views : List CastView) (id : ℕ) (view now : CastView) → slice_get views id ≡ Some view → slice_get (set views id now) id ≡ Some now
-begun_stands views id view now stands =
-    let there = stands_within views id view stands in
-    slice_get-get_or (set views id now) id now (omega (arith, length-set views id now)) ∙ ap (λ (v : CastView). Some v) (get_or-set_same views id now now there)
 
 -- it goes on from its own state
 begun_same : (views : List CastView) (id : ℕ) (view : CastView) (from : CastState) → slice_get views id ≡ Some view → from ≡ view.state → set views id (begun view from) ≡ views
@@ -74,7 +69,7 @@ keeps_step t base words views id now views_now room h s =
     let begun_views = set views id (begun view from) in
     let before = begins t base words views id view view.state from h s.acts refl s.goes in
     let after = keeps_row t from s.word (get_or words s.word 0) s.left s.new s.note s.row base words begun_views id (begun view from) room before
-    (begun_stands views id view (begun view from) s.acts) refl refl in
+    (stands-set views id view (begun view from) s.acts) refl refl in
     let same : set begun_views id (view_after (begun view from) (number_of from) s.new s.note) ≡ views_now =
     set-set views id (begun view from) (view_after (begun view from) (number_of from) s.new s.note)
     ∙ ap (set views id) (after_begun view from (number_of from) s.new s.note)

@@ -8,7 +8,7 @@ use Rattle.step_core.proofs.CastHands.{claims_size}
 use Rattle.step_core.proofs.CastRows.{met_is, whole_still}
 use Rattle.step_core.proofs.CastingAnswers.{All-numbers, IsAtOnce, at_once, numbers-append, numbers-no, numbers-none, numbers-yes}
 use Rattle.step_core.proofs.CastingAnswers.IsAtOnce.{is_full_for, is_held}
-use Rattle.step_core.specs.Casting.{Tabulator, answers_at_once, is_full, is_taken, settled, told, view_of}
+use Rattle.step_core.specs.Casting.{Tabulator, answers_at_once, first_answered, is_full, is_taken, settled, told, view_of}
 use Rattle.store_spec.specs.CastInvariant.{CastInvariant, HasMet, HasSeen, HoldsOther, IsClaimed, IsHand, IsProbing}
 use Rattle.store_spec.specs.CastStep.{CastNote, CastState, CastView, Table, view_after}
 use Rattle.store_spec.specs.CastStep as notes
@@ -34,16 +34,39 @@ passed is_such answers x met fails =
     ∙ ap (λ xs. numbers_that is_such answers ++ xs) (numbers-no is_such (record { number = x; met = met }) [] fails)
     ∙ append-nil (numbers_that is_such answers)
 
--- the view of a tabulator that has answered its first number by a note
-pub view_told : (state : CastState) (answers : List Answer) (x : ℕ) (xs : List ℕ) (note : CastNote) → view_of (told note (record { state = state; answers = answers; left = x ∷ xs })) ≡ view_after (view_of (record { state = state; answers = answers; left = x ∷ xs })) x state note
-view_told state answers x xs notes.Quiet = refl
-view_told state answers x xs notes.Claimed =
-    same_view state _ _ _ _ _ _ (pushed is_accepted answers x Accepted refl) (passed is_taken answers x Accepted refl) (passed is_full answers x Accepted refl)
-view_told state answers x xs notes.Taken =
-    same_view state _ _ _ _ _ _ (passed is_accepted answers x Taken refl) (pushed is_taken answers x Taken refl) (passed is_full answers x Taken refl)
-view_told state answers x xs notes.Full =
-    same_view state _ _ _ _ _ _ (passed is_accepted answers x Full refl) (passed is_taken answers x Full refl) (pushed is_full answers x Full refl)
-view_told state answers x xs notes.Placed = refl
+-- a note that answers a number answers the first that is left
+abbrev pub AnswersFirst : CastNote → ℕ → List ℕ → Type 0
+AnswersFirst notes.Quiet x left = Unit {0}
+AnswersFirst notes.Claimed x left = (xs : List ℕ) × (left ≡ x ∷ xs)
+AnswersFirst notes.Taken x left = (xs : List ℕ) × (left ≡ x ∷ xs)
+AnswersFirst notes.Full x left = (xs : List ℕ) × (left ≡ x ∷ xs)
+AnswersFirst notes.Placed x left = Unit {0}
+
+first_is_answered : (met : Met) (answers : List Answer) (x : ℕ) (left xs : List ℕ) → left ≡ x ∷ xs → first_answered met answers left ≡ answers ++ record { number = x; met = met } ∷ []
+first_is_answered met answers x left xs e = ap (first_answered met answers) e
+
+-- the view of a tabulator that has answered by a note
+pub view_told : (state : CastState) (answers : List Answer) (x : ℕ) (left : List ℕ) (note : CastNote) → AnswersFirst note x left → view_of (told note (record { state = state; answers = answers; left = left })) ≡ view_after (view_of (record { state = state; answers = answers; left = left })) x state note
+view_told state answers x left notes.Quiet first = refl
+view_told state answers x left notes.Claimed first =
+    let is = first_is_answered Accepted answers x left first.0 first.1 in
+    same_view state _ _ _ _ _ _
+    (ap (numbers_that is_accepted) is ∙ pushed is_accepted answers x Accepted refl)
+    (ap (numbers_that is_taken) is ∙ passed is_taken answers x Accepted refl)
+    (ap (numbers_that is_full) is ∙ passed is_full answers x Accepted refl)
+view_told state answers x left notes.Taken first =
+    let is = first_is_answered Taken answers x left first.0 first.1 in
+    same_view state _ _ _ _ _ _
+    (ap (numbers_that is_accepted) is ∙ passed is_accepted answers x Taken refl)
+    (ap (numbers_that is_taken) is ∙ pushed is_taken answers x Taken refl)
+    (ap (numbers_that is_full) is ∙ passed is_full answers x Taken refl)
+view_told state answers x left notes.Full first =
+    let is = first_is_answered Full answers x left first.0 first.1 in
+    same_view state _ _ _ _ _ _
+    (ap (numbers_that is_accepted) is ∙ passed is_accepted answers x Full refl)
+    (ap (numbers_that is_taken) is ∙ passed is_taken answers x Full refl)
+    (ap (numbers_that is_full) is ∙ pushed is_full answers x Full refl)
+view_told state answers x left notes.Placed first = refl
 
 -- ---- the answers that need no step
 

@@ -8,5 +8,6 @@ pub mod CastPlaces
 pub mod CastRows
 pub mod CastSteps
 pub mod CastingAnswers
+pub mod CastingSteps
 pub mod CastingViews
 pub mod Sets

@@ -1,11 +1,12 @@
 -- Lists as sets of numbers: what is counted, and what becomes of it where one element is set.
 use Rattle.std.proofs.Common.{◌≡◌, ◌≢◌, ◌==◌, ℕ, zero, suc, ◌+◌, ◌<◌, ◌≤◌, ⊎_elim, Some, List, [], ◌∷◌, ◌++◌, cond, length, get_or, map, set, refl, sym, ap, ◌∙◌, subst, arith}
 use Rattle.std.proofs.lemmas.Bool.{eq-eqb, ne_eqb, cases_eq, cond-true, cond-false}
-use Rattle.std.proofs.lemmas.List.{get_or_default, get_or-set_other, length-set}
+use Rattle.std.proofs.lemmas.List.{append-nil, append_assoc, get_or-map, get_or-set_other, get_or-set_same, get_or_default, length-map, length-set}
 use Rattle.std.proofs.lemmas.List.Elements.{All-append, All-cons, All-get_or, All-head, All-nil, All-tail}
 use Rattle.std.proofs.lemmas.List.Kept.{AllPairs-cons}
+use Rattle.std.proofs.lemmas.List.Quantifiers.{all_pairs_push}
 use Rattle.std.proofs.lemmas.List.Sums.{get_or-le-sum_by, sum_by-append, sum_by-cons}
-use Rattle.std.proofs.lemmas.Option.{get_or_from_slice_get, slice_get_cases}
+use Rattle.std.proofs.lemmas.Option.{get_or_from_slice_get, slice_get-get_or, slice_get_cases}
 use Rattle.std.specs.List.{All, AllPairs, Contains, flat_map, sum_by}
 use Rattle.std.specs.Prelude.{slice_get}
 use Rattle.store_spec.specs.CastInvariant.{EachOnce, count_of}
@@ -17,6 +18,17 @@ stands_within xs i x stands = ⊎_elim
     (λ (h : (y : _) × (i < length xs) × (slice_get xs i ≡ Some y) × (get_or xs i y ≡ y)). h.1)
     (λ h. absurd (let none = h.1 in cc))
     (slice_get_cases xs i).1
+
+pub stands-map : {X Y : Type 0} (f : X → Y) (xs : List X) (i : ℕ) (x : X) → slice_get xs i ≡ Some x → slice_get (map f xs) i ≡ Some (f x)
+stands-map f xs i x stands =
+    let there = stands_within xs i x stands in
+    slice_get-get_or (map f xs) i (f x) (omega (arith, length-map xs f))
+    ∙ ap (λ y. Some y) (get_or-map f xs i x (f x) there ∙ ap f (get_or_from_slice_get xs i x x stands))
+
+pub stands-set : {X : Type 0} (xs : List X) (i : ℕ) (x y : X) → slice_get xs i ≡ Some x → slice_get (set xs i y) i ≡ Some y
+stands-set xs i x y stands =
+    let there = stands_within xs i x stands in
+    slice_get-get_or (set xs i y) i y (omega (arith, length-set xs i y)) ∙ ap (λ z. Some z) (get_or-set_same xs i y y there)
 
 -- what holds of each element holds of it
 pub at_place : {X : Type 0} (P : X → Type 0) (xs : List X) (i : ℕ) (x : X) → slice_get xs i ≡ Some x → All P xs → P x
@@ -55,6 +67,16 @@ All-from_flat_map {X} P f [] h = All-nil (λ (y : X). All P (f y))
 All-from_flat_map {X} P f (x ∷ xs) h =
     let both = All-front P (f x) (flat_map f xs) h in
     All-cons (λ (y : X). All P (f y)) x xs both.0 (All-from_flat_map P f xs both.1)
+
+-- ---- pairs
+
+-- elements that may stand behind any
+pub AllPairs-append : {X : Type 0} (R : X → X → Type 0) (xs ys : List X) → AllPairs R xs → All (λ y. (x : X) → R x y) ys → AllPairs R (xs ++ ys)
+AllPairs-append R xs [] h any = subst (AllPairs R) (sym (append-nil xs)) h
+AllPairs-append {X} R xs (y ∷ ys) h any =
+    let P : X → Type 0 = λ z. (x : X) → R x z in
+    let first : AllPairs R (xs ++ y ∷ []) = all_pairs_push R xs y h (λ k d within. All-head P y ys any (get_or xs k d)) in
+    subst (AllPairs R) (append_assoc xs (y ∷ []) ys) (AllPairs-append R (xs ++ y ∷ []) ys first (All-tail P y ys any))
 
 -- ---- how often a number stands
 
