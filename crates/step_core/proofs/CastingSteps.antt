@@ -44,7 +44,7 @@ tried_first t base (Carrying v i) left x k next e = absurd cc
 tried_first t base (Ready v i s) left x k next e = absurd cc
 
 -- from rest with no number left there is no step
-no_row : (t : Table) (word found left : ℕ) (new : CastState) (note : CastNote) → CastRow t Rest word found left new note → ⊥
+pub no_row : (t : Table) (word found left : ℕ) (new : CastState) (note : CastNote) → CastRow t Rest word found left new note → ⊥
 no_row t word found left new note row = elim row [ ]
 
 pub goes_from : (t : Table) (base : List ℕ) (state : CastState) (left : List ℕ) (word found put : ℕ) (new : CastState) (note : CastNote) → IsNext t base state left → CastRow t (next_from state left) word found put new note → GoesFrom t base state (next_from state left)
@@ -72,7 +72,7 @@ word_is t from word found put new note row x k e = word_of_row t from word found
 
 -- ---- the invariant
 
-told_state : (note : CastNote) (tab : Tabulator) → (told note tab).state ≡ tab.state
+pub told_state : (note : CastNote) (tab : Tabulator) → (told note tab).state ≡ tab.state
 told_state notes.Quiet tab = refl
 told_state notes.Claimed tab = refl
 told_state notes.Taken tab = refl
@@ -146,14 +146,10 @@ new_among base answers x h not_base new k d within =
 
 -- ---- a tabulator after a step
 
-pub record IsKeptTab (t : Table) (base : List ℕ) (tab : Tabulator) : Type 0 where
-  pub some : All (λ x. x ≢ 0) tab.left
-  pub answering : IsAnswering base tab.answers
-
-tabulator : (t : Table) (base : List ℕ) (tab : Tabulator) → All (λ x. x ≢ 0) tab.left → IsNext t base tab.state tab.left → IsAnswering base tab.answers → IsTabulator t base tab
+pub tabulator : (t : Table) (base : List ℕ) (tab : Tabulator) → All (λ x. x ≢ 0) tab.left → IsNext t base tab.state tab.left → IsAnswering base tab.answers → IsTabulator t base tab
 tabulator t base tab some next answering = record { some = some; next = next; tells_base = answering.tells_base; in_order = answering.in_order }
 
-tab_settled : (t : Table) (base : List ℕ) (answers : List Answer) (left : List ℕ) → All (λ x. x ≢ 0) left → IsAnswering base answers → IsTabulator t base (settled base t.claims (record { state = Rest; answers = answers; left = left }))
+pub tab_settled : (t : Table) (base : List ℕ) (answers : List Answer) (left : List ℕ) → All (λ x. x ≢ 0) left → IsAnswering base answers → IsTabulator t base (settled base t.claims (record { state = Rest; answers = answers; left = left }))
 tab_settled t base answers left some answering =
     let tab : Tabulator = record { state = Rest; answers = answers; left = left } in
     let now = settled base t.claims tab in

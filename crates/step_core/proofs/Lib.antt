@@ -8,6 +8,12 @@ pub mod CastPlaces
 pub mod CastRows
 pub mod CastSteps
 pub mod CastingAnswers
+pub mod CastingEnds
+pub mod CastingMeasure
 pub mod CastingSteps
 pub mod CastingViews
+pub mod CoreKept
+pub mod CoreSearch
+pub mod CoreSteps
+pub mod CoreTabs
 pub mod Sets

@@ -50,6 +50,10 @@ sum_by-map weight f (x ∷ xs) =
     ∙ ap (λ n. weight (f x) + n) (sum_by-map weight f xs)
     ∙ sym (sum_by-cons (λ y. weight (f y)) x xs)
 
+pub flat_map-map : {X Y : Type 0} (f : Y → List ℕ) (g : X → Y) (xs : List X) → flat_map f (map g xs) ≡ flat_map (λ x. f (g x)) xs
+flat_map-map f g [] = refl
+flat_map-map f g (x ∷ xs) = ap (λ ys. f (g x) ++ ys) (flat_map-map f g xs)
+
 pub All-flat_map : {X : Type 0} (P : ℕ → Type 0) (f : X → List ℕ) (xs : List X) → All (λ x. All P (f x)) xs → All P (flat_map f xs)
 All-flat_map P f [] h = All-nil P
 All-flat_map {X} P f (x ∷ xs) h =
@@ -131,6 +135,17 @@ distinct_once (x ∷ xs) once some =
     omega (arith, once x first, counted_on x x xs, is_one-same x) in
     AllPairs-cons (λ a b. a ≢ b) x xs apart
     (distinct_once xs (λ v n. omega (arith, once v n, counted_on v x xs)) (All-tail (λ v. v ≢ 0) x xs some))
+
+pub once_distinct : (xs : List ℕ) → AllPairs (λ a b. a ≢ b) xs → EachOnce xs
+once_distinct [] apart v some = omega arith
+once_distinct (x ∷ xs) apart v some =
+    let rest = once_distinct xs (λ i j d lt within. apart (suc i) (suc j) d (omega arith) (omega arith)) v some in
+    ⊎_elim
+    (λ (same : x ≡ v).
+    let none : ¬ Contains xs v = λ c. apart 0 (suc c.0) v (omega arith) (omega (arith, c.1)) (same ∙ sym c.2) in
+    omega (arith, counted_on v x xs, none_counted v xs none, ap (is_one v) same, is_one-same v))
+    (λ (d : x ≢ v). omega (arith, counted_on v x xs, is_one-other v x d))
+    (cases_eq x v)
 
 -- ---- one element is set
 

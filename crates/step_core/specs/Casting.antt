@@ -1,7 +1,7 @@
 -- A casting phase that is made step by step: tabulators, each with a list of numbers, on shared words.
 use Rattle.std.specs.Prelude.{◌≡◌, ◌≢◌, ℕ, ◌+◌, ◌-◌, ◌^◌, ◌<◌, ◌≤◌, ◌==◌, if◌then◌else◌, List, [], ◌∷◌, ◌++◌, length, take, drop, map, replicate, All, AllPairs, Contains, Bool, true, false, Some, slice_get, slice_index, slice_set}
 use Rattle.std.specs.List.{list_any}
-use Rattle.std.specs.Option.{IsSomeAnd}
+use Rattle.std.specs.Option.{IsSomeAnd, option_map_or}
 use Rattle.store_spec.specs.CastInvariant.{CastInvariant}
 use Rattle.store_spec.specs.CastStep.{CastNote, CastRow, CastState, CastView, MayBegin, Table, cast_measure}
 use Rattle.store_spec.specs.CastStep as notes
@@ -39,6 +39,14 @@ cells_in c = take (2 ^ c.bits + c.limit) c.words
 abbrev pub answers_in : Casting → List (List Answer)
 answers_in c = map (λ tab. tab.answers) c.tabs
 
+-- what the first numbers of a list met
+abbrev pub mets_at : Casting → ℕ → List Met
+mets_at c id = option_map_or (λ tab. map (λ a. a.met) tab.answers) (slice_get c.tabs id) []
+
+-- the base and what was accepted
+abbrev pub set_after : Casting → List ℕ
+set_after c = c.base ++ accepted_in (answers_in c)
+
 -- ---- numbers that need no step
 
 -- The answers to the numbers that stand first, as far as they need no step: a number of the base is held, and where there
@@ -58,6 +66,21 @@ settled base claims tab =
 
 -- ---- the opening
 
+-- what a phase may begin with: a set within the limit, and lists of numbers
+pub record MayOpen (bits limit : ℕ) (start : List ℕ) (lists : List (List ℕ)) : Type 0 where
+  pub few_bits : bits ≤ 16
+  pub distinct : AllPairs (λ a b. a ≢ b) start
+  pub some : All (λ v. v ≢ 0) start
+  pub few : length start ≤ limit
+  pub listed : All (All (λ x. x ≢ 0)) lists
+
+-- a tabulator for each list
+abbrev pub opened_tab : List ℕ → ℕ → List ℕ → Tabulator
+opened_tab base claims list = settled base claims (record { state = Rest; answers = []; left = list })
+
+abbrev pub opened_tabs : List ℕ → ℕ → List (List ℕ) → List Tabulator
+opened_tabs base claims lists = map (opened_tab base claims) lists
+
 abbrev pub opened : ℕ → ℕ → ℕ → List ℕ → List (List ℕ) → Casting
 opened bits salt limit start lists =
     let base = ascending start in
@@ -68,7 +91,7 @@ opened bits salt limit start lists =
       limit = limit;
       base = base;
       words = layout_of (home_of bits salt) (2 ^ bits + limit) start ++ replicate claims 0;
-      tabs = map (λ list. settled base claims (record { state = Rest; answers = []; left = list })) lists;
+      tabs = opened_tabs base claims lists;
     }
 
 -- ---- steps
@@ -207,7 +230,7 @@ pub record IsCasting (c : Casting) : Type 0 where
 
 -- ---- at the end
 
--- All tabulators are done: the phase has this outcome, and the cells are the layout of the set after it.
-pub record EndsWith (c : Casting) (after : List ℕ) : Type 0 where
-  pub outcome : CastOutcome c.limit c.base (answers_in c) after
-  pub layout : cells_in c ≡ layout_of (home_of c.bits c.salt) (2 ^ c.bits + c.limit) after
+-- Once all tabulators are done the phase has its outcome, and the cells are the layout of the set after it.
+pub record HasEnded (c : Casting) : Type 0 where
+  pub outcome : CastOutcome c.limit c.base (answers_in c) (set_after c)
+  pub layout : cells_in c ≡ layout_of (home_of c.bits c.salt) (2 ^ c.bits + c.limit) (set_after c)

@@ -1,4 +1,6 @@
 pub mod Act
+pub mod CastCore
+pub mod CastCoreKept
 pub mod CastKept
 pub mod CastTables
 pub mod Casting

@@ -4,9 +4,13 @@
 
 mod act;
 mod cast;
+mod cast_core;
 pub mod laws;
 mod shape;
+mod tabulator;
 
 pub use act::{Act, Stepped};
 pub use cast::{CastNote, CastState, cast_act, cast_after, cast_first};
+pub use cast_core::CastCore;
 pub use shape::Shape;
+pub use tabulator::CastMet;
