@@ -1,15 +1,15 @@
 -- Answers of a tabulator, and what they add to its view.
-use Rattle.std.proofs.Common.{◌≡◌, ◌≢◌, ◌==◌, if◌then◌else◌, Bool, true, false, ℕ, zero, suc, ◌+◌, ◌<◌, ◌≤◌, ◌⊎◌, inl, inr, ⊎_elim, List, [], ◌∷◌, ◌++◌, length, get_or, drop, map, refl, sym, ap, ◌∙◌, subst, arith}
+use Rattle.std.proofs.Common.{◌≡◌, ◌≢◌, ◌==◌, if◌then◌else◌, Bool, true, false, ℕ, suc, ⊎_elim, List, [], ◌∷◌, ◌++◌, length, get_or, drop, map, refl, sym, ap, ◌∙◌, subst, arith}
 use Rattle.std.proofs.lemmas.Bool.{both_ways, cases_Bool, cases_eq, cond-false, cond-true, eq-eqb, eqb-true, ne_eqb}
 use Rattle.std.proofs.lemmas.List.{get_or_default, map-append}
 use Rattle.std.proofs.lemmas.List.Elements.{All-cons, All-head, All-nil, All-tail, All-weaker, filter-append}
 use Rattle.std.proofs.lemmas.List.Folds.{Any-from_list_any, list_any_at}
-use Rattle.std.specs.List.{All, AllPairs, Contains, filter, list_any}
-use Rattle.step_core.specs.Casting.{IsNext, answers_at_once, is_full, is_taken}
-use Rattle.store_spec.specs.CastStep.{MayBegin, Table}
+use Rattle.std.specs.List.{All, Contains, filter, list_any}
+use Rattle.step_core.specs.Casting.{IsNext, answers_at_once}
+use Rattle.store_spec.specs.CastStep.{Table}
 use Rattle.store_spec.specs.CastStep.CastState.{Rest}
-use Rattle.store_spec.specs.Phase.{Answer, Met, is_accepted, numbers_that}
-use Rattle.store_spec.specs.Phase.Met.{Held, Accepted, Taken, Full}
+use Rattle.store_spec.specs.Phase.{Answer, Met, numbers_that}
+use Rattle.store_spec.specs.Phase.Met.{Held, Full}
 
 -- ---- whether a number is of the base
 

@@ -1,12 +1,11 @@
 -- A casting phase at its opening and at its end, and the measure of its tabulators.
-use Rattle.std.proofs.Common.{◌≡◌, ◌≢◌, Bool, true, false, ℕ, ◌+◌, ◌-◌, ◌^◌, ◌<◌, ◌≤◌, inl, inr, ⊎_elim, Some, List, [], ◌∷◌, ◌++◌, length, get_or, set, take, drop, map, replicate, refl, sym, ap, ◌∙◌, subst, arith}
+use Rattle.std.proofs.Common.{◌≡◌, ◌≢◌, true, ℕ, ◌+◌, ◌^◌, ⊎_elim, Some, List, [], ◌++◌, length, get_or, drop, map, replicate, refl, sym, ◌∙◌, subst, arith}
 use Rattle.probe_order.specs.Below.{home_of-lt}
-use Rattle.std.proofs.lemmas.Bool.{cases_lt}
-use Rattle.std.proofs.lemmas.List.{length-append, length-drop, length-replicate}
-use Rattle.std.proofs.lemmas.List.Elements.{All-append, All-contains, All-get_or, All-map, All-nil, All-weaker, Contains-append_cases, Contains-append_left, Contains-append_right, Contains-get_or}
+use Rattle.std.proofs.lemmas.List.{length-append, length-replicate}
+use Rattle.std.proofs.lemmas.List.Elements.{All-append, All-contains, All-map, All-nil, All-weaker, Contains-append_cases, Contains-append_right, Contains-get_or}
 use Rattle.std.proofs.lemmas.List.Sorted.{IsPermutation-refl}
 use Rattle.std.proofs.lemmas.Option.{slice_get-get_or}
-use Rattle.std.specs.List.{All, AllPairs, Contains, flat_map}
+use Rattle.std.specs.List.{All, AllPairs, Contains}
 use Rattle.std.specs.List.Sorted.{IsPermutation}
 use Rattle.std.specs.Prelude.{slice_get}
 use Rattle.step_core.proofs.CastAtRest.{accepted_once, full_for, rest_layout, same-back, same-contains}
@@ -14,13 +13,13 @@ use Rattle.step_core.proofs.CastOpening.{IsIdle, fresh_met, layout_holds, openin
 use Rattle.step_core.proofs.CastingAnswers.{numbers-contains}
 use Rattle.step_core.proofs.CastingSteps.{IsAnswering, has_room, tab_settled}
 use Rattle.step_core.proofs.CastingViews.{settled_accepted, settled_met}
-use Rattle.step_core.proofs.Sets.{at_place, contains-flat_map, distinct_once, flat_map-map, is_one, is_one-zero, once_distinct, stands-map}
+use Rattle.step_core.proofs.Sets.{at_place, contains-flat_map, distinct_once, flat_map-map, is_one, once_distinct, stands-map}
 use Rattle.step_core.specs.Casting.{Casting, HasEnded, IsCasting, IsDone, IsTabulator, MayOpen, Tabulator, TellsBase, answers_in, cells_in, is_full, is_taken, opened, settled, table_in, view_of}
 use Rattle.store_spec.proofs.Ascending.{contains_from_in, from_ascending, in_from_contains, length-ascending}
 use Rattle.store_spec.proofs.LaidOut.{layout_of_is}
-use Rattle.store_spec.specs.CastInvariant.{CastInvariant, EachOnce, HasMet, HoldSame, IsClaimed, accepted_of}
-use Rattle.store_spec.specs.CastStep.{CastState, CastView, Table}
-use Rattle.store_spec.specs.CastStep.CastState.{Rest, Probing, Carrying, Ready}
+use Rattle.store_spec.specs.CastInvariant.{EachOnce, HasMet, IsClaimed, accepted_of}
+use Rattle.store_spec.specs.CastStep.{CastView}
+use Rattle.store_spec.specs.CastStep.CastState.{Rest}
 use Rattle.store_spec.specs.Home.{home_of}
 use Rattle.store_spec.specs.Layout.{HasRoom, ascending, layout_of}
 use Rattle.store_spec.specs.Phase.{Answer, CastOutcome, IsRight, MayPrecede, Met, accepted_in, is_accepted, numbers_that}
@@ -108,8 +107,7 @@ module _ (c : Casting) (h : IsCasting c) where
       let t = table_in c in
       let views = map view_of c.tabs in
       let none = full_for t c.base c.words views id (view_of tab) x h.invariant (stands-map view_of c.tabs id tab stands) full in
-      let within = h.within_limit in
-      (
+      let within = h.within_limit in (
         λ a. ⊎_elim not_base none.0 (Contains-append_cases c.base (accepted_of views) x a),
         omega (arith, length-append c.base (accepted_of views), none.1),
       )

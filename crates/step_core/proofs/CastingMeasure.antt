@@ -1,16 +1,14 @@
 -- The measure of the acting tabulator falls at each step, and what holds at the opening holds after every schedule.
-use Rattle.std.proofs.Common.{◌≡◌, ◌≢◌, ℕ, ◌+◌, ◌-◌, ◌<◌, ◌≤◌, ◌⊎◌, inl, inr, ⊎_elim, Some, List, [], ◌∷◌, length, get_or, set, drop, map, refl, sym, ap, ◌∙◌, subst, arith}
+use Rattle.std.proofs.Common.{◌≡◌, ℕ, ◌<◌, ◌≤◌, inl, inr, ⊎_elim, Some, List, [], ◌∷◌, length, get_or, set, drop, map, refl, sym, subst, arith}
 use Rattle.std.proofs.lemmas.Bool.{cases_lt}
 use Rattle.std.proofs.lemmas.List.{length-drop}
-use Rattle.std.specs.List.{All}
 use Rattle.std.specs.Prelude.{slice_get}
 use Rattle.step_core.proofs.CastSteps.{begins, begun, falls_at}
-use Rattle.step_core.proofs.CastingEnds.{ends, opened_is}
 use Rattle.step_core.proofs.CastingSteps.{goes_from, has_room, no_row, steps_keep, told_state}
 use Rattle.step_core.proofs.Sets.{at_place, stands-map, stands-set}
-use Rattle.step_core.specs.Casting.{Casting, FallsAt, IsCasting, IsNext, IsTabulator, MayOpen, Runs, Steps, Tabulator, after_step, answers_at_once, next_from, not_begun, opened, settled, tab_measure, table_in, told, view_of}
+use Rattle.step_core.specs.Casting.{Casting, FallsAt, IsCasting, IsTabulator, Runs, Steps, Tabulator, after_step, answers_at_once, next_from, not_begun, table_in, view_of}
 use Rattle.step_core.specs.Casting.Runs.{ended, goes, rests}
-use Rattle.store_spec.specs.CastStep.{CastNote, CastRow, CastState, CastView, Table, cast_measure}
+use Rattle.store_spec.specs.CastStep.{CastNote, CastRow, CastState, Table, cast_measure}
 use Rattle.store_spec.specs.CastStep.CastRow.{claim_won, claim_met, claim_passed, claims_full, look_passes, look_ready, takes_empty, displaces, lost_passes, lost_ready}
 use Rattle.store_spec.specs.CastStep.CastState.{Rest, Probing, Carrying, Ready}
 use Rattle.store_spec.specs.Measure.{Falls}

@@ -1,8 +1,8 @@
 -- Each step of a casting phase keeps what holds of it at every moment.
-use Rattle.std.proofs.Common.{◌≡◌, ◌≢◌, Bool, true, false, ℕ, ◌+◌, ◌-◌, ◌^◌, ◌<◌, ◌≤◌, ⊎_elim, Some, List, [], ◌∷◌, ◌++◌, length, get_or, set, take, drop, map, refl, sym, ap, ◌∙◌, subst, arith}
+use Rattle.std.proofs.Common.{◌≡◌, ◌≢◌, true, ℕ, ◌+◌, ◌^◌, Some, List, [], ◌∷◌, ◌++◌, length, get_or, set, drop, map, refl, sym, ap, ◌∙◌, subst, arith}
 use Rattle.probe_order.specs.Below.{home_of-lt}
 use Rattle.std.proofs.lemmas.List.{map-set, set-set}
-use Rattle.std.proofs.lemmas.List.Elements.{All-append, All-contains, All-drop, All-get_or, All-push, All-set, All-weaker}
+use Rattle.std.proofs.lemmas.List.Elements.{All-append, All-drop, All-push, All-set, All-weaker}
 use Rattle.std.proofs.lemmas.List.Quantifiers.{all_pairs_push}
 use Rattle.std.specs.List.{All, AllPairs, Contains}
 use Rattle.std.specs.Prelude.{slice_get}
@@ -13,9 +13,9 @@ use Rattle.step_core.proofs.CastingAnswers.{IsAtOnce, at_once, next_settled, num
 use Rattle.step_core.proofs.CastingAnswers.IsAtOnce.{is_full_for, is_held}
 use Rattle.step_core.proofs.CastingViews.{AnswersFirst, keeps_settled, view_told}
 use Rattle.step_core.proofs.Sets.{AllPairs-append, at_place, stands-map, stands-set}
-use Rattle.step_core.specs.Casting.{Casting, IsCasting, IsNext, IsTabulator, Steps, Tabulator, TellsBase, after_step, answered, answers_at_once, first_answered, is_full, is_taken, next_from, settled, table_in, told, view_of}
+use Rattle.step_core.specs.Casting.{Casting, IsCasting, IsNext, IsTabulator, Steps, Tabulator, TellsBase, after_step, answers_at_once, first_answered, is_full, is_taken, next_from, settled, table_in, told, view_of}
 use Rattle.store_spec.specs.Act.{word_of}
-use Rattle.store_spec.specs.CastInvariant.{CastInvariant, HasRoomFor, IsTried}
+use Rattle.store_spec.specs.CastInvariant.{CastInvariant, HasRoomFor}
 use Rattle.store_spec.specs.CastStep.{CastNote, CastRow, CastState, CastView, GoesFrom, MayBegin, Table, cast_act, claim_word, number_of, view_after}
 use Rattle.store_spec.specs.CastStep as notes
 use Rattle.store_spec.specs.CastStep.CastRow.{claim_won, claim_met, claim_passed, claims_full, look_passes, look_ready, takes_empty, displaces, lost_passes, lost_ready}
@@ -203,7 +203,17 @@ steps_keep c id now h s =
     let words = set c.words s.word s.left in
     let after = keeps_step t c.base c.words views id words (set views id (view_after view (number_of from) s.new s.note)) room h.invariant
     (record {
-      view = view; acts = stands; from = from; goes = goes; word = s.word; left = s.left; new = s.new; note = s.note; row = s.row; words_now = refl; view_now = refl;
+      view = view;
+      acts = stands;
+      from = from;
+      goes = goes;
+      word = s.word;
+      left = s.left;
+      new = s.new;
+      note = s.note;
+      row = s.row;
+      words_now = refl;
+      view_now = refl;
     }) in
     let told_view = view_told s.new tab.answers (number_of from) tab.left s.note (answers_first t from s.word found s.left s.new s.note tab.left s.row first) in
     let told_invariant : CastInvariant t c.base words (set views id (view_of (told s.note (record tab { state = s.new })))) =

@@ -1,8 +1,8 @@
 -- What the answers of a step and those that need none do to a tabulator's view.
-use Rattle.std.proofs.Common.{◌≡◌, ◌≢◌, Bool, true, false, ℕ, ◌+◌, ◌<◌, ◌≤◌, Some, List, [], ◌∷◌, ◌++◌, length, set, take, drop, refl, sym, ap, ◌∙◌, subst, arith}
-use Rattle.std.proofs.lemmas.List.{append-nil, length-drop}
+use Rattle.std.proofs.Common.{◌≡◌, Bool, true, false, ℕ, ◌<◌, Some, List, [], ◌∷◌, ◌++◌, length, set, take, drop, refl, sym, ap, ◌∙◌, subst, arith}
+use Rattle.std.proofs.lemmas.List.{append-nil}
 use Rattle.std.proofs.lemmas.List.Elements.{All-append, All-weaker}
-use Rattle.std.specs.List.{All, Contains}
+use Rattle.std.specs.List.{All}
 use Rattle.std.specs.Prelude.{slice_get}
 use Rattle.step_core.proofs.CastHands.{claims_size}
 use Rattle.step_core.proofs.CastRows.{met_is, whole_still}
@@ -14,7 +14,7 @@ use Rattle.store_spec.specs.CastStep.{CastNote, CastState, CastView, Table, view
 use Rattle.store_spec.specs.CastStep as notes
 use Rattle.store_spec.specs.CastStep.CastState.{Rest, Probing, Carrying, Ready}
 use Rattle.store_spec.specs.Phase.{Answer, Met, is_accepted, numbers_that}
-use Rattle.store_spec.specs.Phase.Met.{Held, Accepted, Taken, Full}
+use Rattle.store_spec.specs.Phase.Met.{Accepted, Taken, Full}
 
 -- ---- the answer of a step
 

@@ -1,18 +1,22 @@
 -- A core keeps what holds of it where one of its tabulators makes a step, or none.
-use Rattle.std.proofs.Common.{◌≡◌, ◌≢◌, ℕ, ◌+◌, ◌-◌, ◌^◌, ◌<◌, ◌≤◌, Some, List, length, get_or, set, map, refl, sym, ap, ◌∙◌, subst, arith}
+use Rattle.std.proofs.Common.{◌≡◌, ◌↔◌, Bool, true, [], ℕ, ◌+◌, ◌-◌, ◌^◌, ◌<◌, Some, List, length, get_or, set, map, refl, sym, ap, ◌∙◌, subst, arith}
 use Rattle.std.proofs.lemmas.List.{length-map, map-set, set-get_or}
-use Rattle.std.proofs.lemmas.List.Elements.{All-set}
-use Rattle.std.proofs.lemmas.Option.{slice_get-get_or, slice_get_read}
+use Rattle.std.proofs.lemmas.List.Elements.{All-map, All-set}
+use Rattle.std.proofs.lemmas.Option.{slice_get_read}
 use Rattle.std.specs.List.{All}
+use Rattle.std.specs.Option.{option_map_or}
 use Rattle.std.specs.Prelude.{Vec, slice_get}
 use Rattle.std.specs.declared.alloc.Global.{Global}
 use Rattle.step_core.proofs.CastingMeasure.{steps_fall}
 use Rattle.step_core.proofs.CastingSteps.{steps_keep}
 use Rattle.step_core.proofs.CoreSteps.{may_step}
-use Rattle.step_core.proofs.Sets.{stands-map}
-use Rattle.step_core.specs.CastCore.{HasReplyRoom, MayStep, TabSteps, tab_of}
+use Rattle.step_core.proofs.CoreTabs.{mets_are}
+use Rattle.step_core.proofs.Sets.{All-from_map, stands-map}
+use Rattle.step_core.specs.CastCore.{HasReplyRoom, MayStep, TabSteps, met_of, tab_of}
 use Rattle.step_core.specs.CastCoreKept.{IsCoreKept, casting_of}
-use Rattle.step_core.specs.Casting.{Casting, FallsAt, IsCasting, IsDone, IsDoneAt, Steps, table_in}
+use Rattle.step_core.specs.Casting.{Casting, FallsAt, IsCasting, IsDone, Steps, mets_at, table_in}
+use Rattle.step_core.specs.Casting as casting
+use Rattle.store_spec.specs.Phase.{Answer}
 use Rattle.step_core.specs.Shape.{table_of}
 use Rattle.step_core.specs.declared.act.Stepped.{Stepped}
 use Rattle.step_core.specs.declared.act.Stepped.TheVariants.{AtRest, Step}
@@ -116,3 +120,19 @@ module _ (a : Inside) (h : IsCoreKept a) (seen : Casting) (is_seen : casting_of 
       (λ e. let none = unchanged_now e in (words_are ∙ none.0, none.1))
       (λ e. subst (λ (ws : List ℕ). TabSteps (table_of a.shape) a.base.items a.words.items (tab_of tab) ws (tab_of now)) (sym words_are) (stepped_now e))
       room
+
+-- ---- what a caller reads
+
+pub mets_seen : (a : Inside) (h : IsCoreKept a) (seen : Casting) (is_seen : casting_of a ≡ seen) (id : ℕ) (inside : id < length seen.tabs) (tab : Tabulator) (is : tab ≡ get_or a.tabs.items id tab) → map met_of tab.replies.items ≡ mets_at seen id
+mets_seen a h seen is_seen id inside tab is =
+    let within : id < length a.tabs.items = omega (arith, ap (λ (c : Casting). length c.tabs) is_seen, length-map a.tabs.items tab_of) in
+    let room : HasReplyRoom tab = subst HasReplyRoom (sym is) (h.room id tab within) in
+    let few = room.no_more in
+    subst (λ (c : Casting). map met_of tab.replies.items ≡ mets_at c id) is_seen
+    (sym (mets_are tab.list.items tab.replies.items (omega (arith, tab.list.ok.0, tab.replies.ok.0)))
+    ∙ ap (λ o. option_map_or (λ (t : casting.Tabulator). map (λ (x : Answer). x.met) t.answers) o []) (sym (stands a h id within tab is)))
+
+pub done_seen : (a : Inside) (seen : Casting) (result : Bool) → casting_of a ≡ seen → (result ≡ true) ↔ All (λ tab. IsDone (tab_of tab)) a.tabs.items → (result ≡ true) ↔ All IsDone seen.tabs
+done_seen a seen result is_seen h =
+    subst (λ (c : Casting). (result ≡ true) ↔ All IsDone c.tabs) is_seen
+    (λ e. All-map IsDone tab_of a.tabs.items (h.0 e), λ all. h.1 (All-from_map IsDone tab_of a.tabs.items all))

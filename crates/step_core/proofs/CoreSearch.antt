@@ -1,5 +1,5 @@
 -- What a binary search in numbers that are in order tells.
-use Rattle.std.proofs.Common.{◌≡◌, ◌≢◌, ◌↔◌, true, false, ℕ, ◌<◌, ◌≤◌, ⊎_elim, List, length, get_or, Result, Ok, Err, MatchResult, refl, ◌∙◌, arith}
+use Rattle.std.proofs.Common.{◌≡◌, ◌↔◌, true, ℕ, ◌<◌, ◌≤◌, ⊎_elim, List, length, get_or, Result, Ok, Err, MatchResult, refl, ◌∙◌, arith}
 use Rattle.std.proofs.lemmas.Bool.{cases_lt, false≢true}
 use Rattle.std.proofs.lemmas.List.{get_or_default}
 use Rattle.std.specs.List.{Contains}

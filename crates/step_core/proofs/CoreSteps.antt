@@ -1,17 +1,16 @@
 -- What a step of the code asks is known of a casting phase, and what it leaves is a step of the phase.
-use Rattle.std.proofs.Common.{◌≡◌, ◌≢◌, ℕ, ◌+◌, ◌-◌, ◌^◌, ◌<◌, ◌≤◌, Some, List, [], ◌∷◌, length, get_or, set, map, refl, sym, ap, ◌∙◌, subst, arith}
+use Rattle.std.proofs.Common.{◌≡◌, ◌≢◌, ℕ, ◌+◌, ◌<◌, Some, List, [], ◌∷◌, length, get_or, set, map, refl, arith}
 use Rattle.probe_order.proofs.ClaimOrder.{within}
 use Rattle.std.proofs.lemmas.Nat.{pow_pos}
-use Rattle.std.specs.List.{All}
 use Rattle.std.specs.Prelude.{slice_get}
 use Rattle.step_core.proofs.CastSteps.{begins, begun, finds_at, fits_at}
-use Rattle.step_core.proofs.CastingSteps.{has_room, tried_first}
+use Rattle.step_core.proofs.CastingSteps.{has_room}
 use Rattle.step_core.proofs.Sets.{at_place, stands-map, stands-set}
-use Rattle.step_core.specs.CastCore.{HasTried, MayStep, MayTell, TabSteps}
+use Rattle.step_core.specs.CastCore.{HasTried, MayStep, MayTell}
 use Rattle.step_core.specs.CastTables.{FitsIn, MayFind}
-use Rattle.step_core.specs.Casting.{Casting, IsCasting, IsNext, IsTabulator, Steps, Tabulator, next_from, table_in, view_of}
+use Rattle.step_core.specs.Casting.{Casting, IsCasting, IsNext, IsTabulator, Tabulator, next_from, table_in, view_of}
 use Rattle.store_spec.specs.Act.{word_of}
-use Rattle.store_spec.specs.CastStep.{CastNote, CastRow, CastState, CastView, GoesFrom, Table, cast_act}
+use Rattle.store_spec.specs.CastStep.{CastNote, CastRow, CastState, GoesFrom, Table, cast_act}
 use Rattle.store_spec.specs.CastStep.CastRow.{claim_won, claim_met, claim_passed, claims_full, look_passes, look_ready, takes_empty, displaces, lost_passes, lost_ready}
 use Rattle.store_spec.specs.CastStep.CastState.{Rest, Probing, Carrying, Ready}
 
@@ -66,9 +65,10 @@ module _ (c : Casting) (h : IsCasting c) (id : ℕ) (tab : Tabulator) (stands : 
       let now = begun view from in
       let before = begins t c.base c.words views id view view.state from h.invariant view_stands refl goes in
       let begun_stands = stands-set views id view now view_stands in
-      let room = has_room c h in
-      (fits_at t c.base c.words (set views id now) id now room before begun_stands from refl,
-      finds_at t c.base c.words (set views id now) id now room before begun_stands from refl moving)
+      let room = has_room c h in (
+        fits_at t c.base c.words (set views id now) id now room before begun_stands from refl,
+        finds_at t c.base c.words (set views id now) id now room before begun_stands from refl moving,
+      )
 
   fits_any : (from : CastState) → (from ≢ Rest → FitsIn (table_in c) from) → FitsIn (table_in c) from
   fits_any Rest fits = tt

@@ -1,12 +1,11 @@
 -- A tabulator of the code, as the definitions see it, where it answers numbers.
-use Rattle.std.proofs.Common.{◌≡◌, ◌≢◌, Some, None, ℕ, suc, ◌+◌, ◌<◌, ◌≤◌, List, [], ◌∷◌, ◌++◌, length, drop, refl, sym, ap, ◌∙◌, subst, arith}
+use Rattle.std.proofs.Common.{◌≡◌, ◌≢◌, Some, None, ℕ, ◌<◌, ◌≤◌, List, [], ◌∷◌, ◌++◌, length, drop, map, refl, sym, ap, ◌∙◌, subst, arith}
 use Rattle.std.proofs.lemmas.List.{append-nil, append_assoc, drop-drop, length_push}
 use Rattle.std.specs.List.{Contains}
 use Rattle.std.specs.Prelude.{slice_get}
 use Rattle.step_core.proofs.CastingAnswers.{FirstIs, first_is}
 use Rattle.step_core.proofs.CastingAnswers.FirstIs.{first_held, first_full, first_steps}
 use Rattle.step_core.specs.CastCore.{AnswersAtOnce, NeedsStep, answers_of, met_of}
-use Rattle.step_core.specs.CastTables.{state_of}
 use Rattle.step_core.specs.Casting.{Tabulator, answered, answers_at_once, first_answered, settled}
 use Rattle.step_core.specs.declared.tabulator.CastMet.{CastMet}
 use Rattle.store_spec.specs.CastStep.{CastState}
@@ -96,3 +95,10 @@ settled_stops base claims state answers [] x first needs = absurd cc
 settled_stops base claims state answers (y ∷ ys) x first needs =
     let same : x ≡ y = cc in
     settled_steps base claims state answers (y ∷ ys) (subst (λ (n : ℕ). answers_at_once base claims (n ∷ ys) ≡ []) same (needs ys))
+
+-- ---- replies
+
+pub mets_are : (numbers : List ℕ) (replies : List CastMet) → length replies ≤ length numbers → map (λ (a : Answer). a.met) (answers_of numbers replies) ≡ map met_of replies
+mets_are numbers [] few = refl
+mets_are [] (r ∷ replies) few = absurd (omega arith)
+mets_are (x ∷ numbers) (r ∷ replies) few = ap (λ mets. met_of r ∷ mets) (mets_are numbers replies (omega arith))

@@ -13,6 +13,7 @@ pub mod CastingMeasure
 pub mod CastingSteps
 pub mod CastingViews
 pub mod CoreKept
+pub mod CoreOpened
 pub mod CoreSearch
 pub mod CoreSteps
 pub mod CoreTabs

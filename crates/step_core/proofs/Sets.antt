@@ -34,6 +34,9 @@ stands-set xs i x y stands =
 pub at_place : {X : Type 0} (P : X → Type 0) (xs : List X) (i : ℕ) (x : X) → slice_get xs i ≡ Some x → All P xs → P x
 at_place P xs i x stands all = subst P (get_or_from_slice_get xs i x x stands) (All-get_or P xs i x (stands_within xs i x stands) all)
 
+pub All-from_map : {X Y : Type 0} (P : Y → Type 0) (f : X → Y) (xs : List X) → All P (map f xs) → All (λ x. P (f x)) xs
+All-from_map P f xs all k d within = subst P (get_or-map f xs k d (f d) within) (all k (f d) (omega (arith, length-map xs f)))
+
 -- ---- lists joined end to end
 
 pub sum_by-flat_map : {X : Type 0} (weight : ℕ → ℕ) (f : X → List ℕ) (xs : List X) → sum_by weight (flat_map f xs) ≡ sum_by (λ x. sum_by weight (f x)) xs

@@ -1,5 +1,5 @@
 -- How a core is kept.
-use Rattle.std.specs.Prelude.{◌≡◌, ℕ, ◌+◌, ◌^◌, ◌<◌, length, map, All}
+use Rattle.std.specs.Prelude.{◌≡◌, ◌+◌, ◌^◌, ◌<◌, length, map, All}
 use Rattle.std.specs.List.Sorted.{IsNonDecreasing}
 use Rattle.step_core.specs.CastCore.{HasReplyRoom, tab_of}
 use Rattle.step_core.specs.Casting.{Casting, IsCasting}

@@ -116,7 +116,7 @@ impl CastCore {
         ensures outcome { IsTrue result → HasEnded self.now }
         ensures invariant { IsCasting self.now }
     {
-        self.tabs.iter().all(|tab| tab.is_done())
+        all_done(&self.tabs)
     }
 }
 
@@ -137,4 +137,10 @@ fn tabulators(
         tabs.push(Tabulator::new(alloc, list, base, claims)?)?;
     }
     Ok(tabs)
+}
+
+fn all_done(tabs: &[Tabulator]) -> bool
+    ensures { IsTrue result ↔ All (λ tab. IsDone (tab_of tab)) tabs.now }
+{
+    tabs.iter().all(|tab| tab.is_done())
 }

@@ -181,12 +181,7 @@ fn perform(words: &mut [u64], act: Act) -> u64
 }
 
 /// One step of a tabulator on the shared words.
-pub fn make_step(
-    shape: &Shape,
-    base: &[u64],
-    words: &mut [u64],
-    tab: &mut Tabulator,
-) -> Stepped
+pub fn make_step(shape: &Shape, base: &[u64], words: &mut [u64], tab: &mut Tabulator) -> Stepped
     requires small { shape.now.cells + shape.now.claims < 2 ^ 32 }
     requires in_order { IsNonDecreasing base.now }
     requires room { HasReplyRoom tab.old }
