@@ -1,3 +1,8 @@
 mod Answered
+pub mod EndedLines
+pub mod FirstLine
 mod Pieces
+pub mod Reading
+pub mod Readings
+pub mod Told
 mod Windows

@@ -6,7 +6,7 @@ use Rattle.std.proofs.lemmas.List.Elements.{All-append, All-contains, All-head}
 use Rattle.std.proofs.lemmas.List.Sums.{sum_by-append}
 use Rattle.std.specs.List.{All, Contains}
 use Rattle.std.specs.Prelude.{slice_get}
-use Rattle.store_spec.proofs.LaidOut.{ordered_is_layout_of}
+use Rattle.layout_def.proofs.LaidOut.{ordered_is_layout_of}
 use Rattle.store_spec.specs.CastInvariant.{AreInOrder, CastInvariant, EachOnce, HasMet, HasRoomFor, HoldSame, HoldsOther, IsClaimed, IsTried, accepted_of, count_of, hands_of}
 use Rattle.store_spec.specs.CastStep.{CastView, Table, claim_place, claim_word}
 use Rattle.store_spec.specs.CastStep.CastState.{Rest, Probing}

@@ -8,9 +8,9 @@ use Rattle.std.proofs.lemmas.List.Sums.{sum_by-append, sum_by-cons, sum_by-le, s
 use Rattle.std.proofs.lemmas.Option.{get_or_from_slice_get, slice_get-get_or}
 use Rattle.std.specs.List.{All, sum_by}
 use Rattle.std.specs.Prelude.{slice_get}
-use Rattle.store_spec.proofs.LaidOut.{AreHomed, empty_cell, homed_ascending, laid_out_is, place_of_next}
-use Rattle.store_spec.proofs.Ascending.{IsRising, ascending_distinct, length-ascending, put_first, put_later}
-use Rattle.store_spec.proofs.Placing.{placed_at}
+use Rattle.layout_def.proofs.LaidOut.{AreHomed, empty_cell, homed_ascending, laid_out_is, place_of_next}
+use Rattle.layout_def.proofs.Ascending.{IsRising, ascending_distinct, length-ascending, put_first, put_later}
+use Rattle.layout_def.proofs.Placing.{placed_at}
 use Rattle.store_spec.specs.CastInvariant.{AreClaimed, ArePlaced, CastInvariant, EachOnce, HasMet, HasSeen, HoldSame, HoldsOther, IsClaimed, IsHand, IsProbing, hands_of, in_hand}
 use Rattle.store_spec.specs.CastStep.{CastView, Table, claim_place, fresh_view, joined_view}
 use Rattle.store_spec.specs.CastStep.CastState.{Rest}

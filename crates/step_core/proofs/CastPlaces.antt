@@ -6,7 +6,7 @@ use Rattle.std.proofs.lemmas.Bool.{cases_eq}
 use Rattle.std.proofs.lemmas.List.{get_or-set_other, get_or-set_same}
 use Rattle.std.proofs.lemmas.List.Elements.{All-set, All-weaker}
 use Rattle.std.specs.List.{All}
-use Rattle.store_spec.proofs.Displaced.{displaced_ordered}
+use Rattle.layout_def.proofs.Displaced.{displaced_ordered}
 use Rattle.store_spec.specs.CastInvariant.{ArePlaced, HasSeen, IsHand}
 use Rattle.store_spec.specs.CastStep.{CastState, CastView}
 use Rattle.store_spec.specs.CastStep.CastState.{Rest, Probing, Carrying, Ready}

@@ -11,7 +11,7 @@ use Rattle.step_core.proofs.CastClaims.{claimed_still, claimed_won, met_claimed,
 use Rattle.step_core.proofs.CastHands.{cells_size, claims_size, hand_fits, hands-set}
 use Rattle.step_core.proofs.CastPlaces.{placed_over, placed_still}
 use Rattle.step_core.proofs.Sets.{at_place}
-use Rattle.store_spec.proofs.Displaced.{displaced_stands_on, passes_greater, stands_at_home}
+use Rattle.layout_def.proofs.Displaced.{displaced_stands_on, passes_greater, stands_at_home}
 use Rattle.store_spec.specs.CastInvariant.{AreClaimed, AreInOrder, ArePlaced, CastInvariant, HasMet, HasRoomFor, HasSeen, HoldsOther, IsHand, IsProbing, IsTried, hands_of, in_hand}
 use Rattle.store_spec.specs.CastStep.{CastNote, CastRow, CastState, CastView, Table, claim_place, claim_word, view_after}
 use Rattle.store_spec.specs.CastStep.CastNote.{Quiet, Claimed, Taken, Full, Placed}

@@ -15,8 +15,8 @@ use Rattle.step_core.proofs.CastingSteps.{IsAnswering, has_room, tab_settled}
 use Rattle.step_core.proofs.CastingViews.{settled_accepted, settled_met}
 use Rattle.step_core.proofs.Sets.{at_place, contains-flat_map, distinct_once, flat_map-map, is_one, once_distinct, stands-map}
 use Rattle.step_core.specs.Casting.{Casting, HasEnded, IsCasting, IsDone, IsTabulator, MayOpen, Tabulator, TellsBase, answers_in, cells_in, is_full, is_taken, opened, settled, table_in, view_of}
-use Rattle.store_spec.proofs.Ascending.{contains_from_in, from_ascending, in_from_contains, length-ascending}
-use Rattle.store_spec.proofs.LaidOut.{layout_of_is}
+use Rattle.layout_def.proofs.Ascending.{contains_from_in, from_ascending, in_from_contains, length-ascending}
+use Rattle.layout_def.proofs.LaidOut.{layout_of_is}
 use Rattle.store_spec.specs.CastInvariant.{EachOnce, HasMet, IsClaimed, accepted_of}
 use Rattle.store_spec.specs.CastStep.{CastView}
 use Rattle.store_spec.specs.CastStep.CastState.{Rest}

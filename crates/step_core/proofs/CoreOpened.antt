@@ -5,8 +5,8 @@ use Rattle.std.proofs.lemmas.List.{take_all}
 use Rattle.std.proofs.Math.Pow.{pow_mono}
 use Rattle.std.specs.List.Sorted.{IsNonDecreasing, IsPermutation}
 use Rattle.step_core.specs.Casting.{Casting, MayOpen, Tabulator, opened, opened_tabs}
-use Rattle.store_spec.proofs.Ascending.{ascending-IsPermutation, ascending_rising, length-ascending}
-use Rattle.store_spec.proofs.LaidOut.{layout_of_is}
+use Rattle.layout_def.proofs.Ascending.{ascending-IsPermutation, ascending_rising, length-ascending}
+use Rattle.layout_def.proofs.LaidOut.{layout_of_is}
 use Rattle.store_spec.specs.Home.{home_of}
 use Rattle.store_spec.specs.Layout.{HasRoom, ascending, layout_of}
 

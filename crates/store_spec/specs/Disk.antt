@@ -1,8 +1,8 @@
 -- A disk: the bytes that a read gives now, and what a crash may leave at each moment. What was not synced may be lost,
 -- torn or reordered. The words take the members of a disk: `calls`, how many calls were made, and `may_leave`, what
--- a crash at a moment may leave. Each list of bytes that it may leave is an image.
-use Rattle.std.specs.Prelude.{◌≡◌, ◌↔◌, ℕ, ◌+◌, ◌*◌, ◌<◌, ◌≤◌, max, nat_lt, if◌then◌else◌, List, ◌++◌, length, take, drop, Option, Some, None}
-use Rattle.store_spec.specs.Fault.{LAST_COUNT}
+-- a crash at a moment may leave. Each list of bytes that it may leave is a crash image.
+use Rattle.std.specs.Prelude.{◌≡◌, ◌↔◌, ℕ, ◌+◌, ◌*◌, ◌<◌, ◌≤◌, max, List, ◌++◌, length, take, drop, Option, Some, None}
+use Rattle.store_spec.specs.Fault.{last_count, next_count}
 
 -- ---- moments
 
@@ -12,10 +12,6 @@ after_calls n = 2 * n
 
 abbrev pub inside_next : ℕ → ℕ
 inside_next n = 2 * n + 1
-
--- a count of calls after one call more: it stays at its last value
-abbrev pub next_count : ℕ → ℕ
-next_count n = if nat_lt n LAST_COUNT then n + 1 else n
 
 -- what a crash now may leave
 abbrev pub leaves_now : {D : Type 0} → (D → ℕ) → (D → ℕ → List ℕ → Type 0) → D → List ℕ → Type 0
@@ -51,13 +47,13 @@ SeenTorn at n old new = ⊥
 -- is among these images.
 pub record LeavesAtMost {D : Type 0} (calls : D → ℕ) (may_leave : D → ℕ → List ℕ → Type 0) (images : List ℕ → Type 0) (old new : D) : Type 0 where
   pub counted : calls new ≡ next_count (calls old)
-  pub past : calls old < LAST_COUNT → (m : ℕ) → m ≤ after_calls (calls old) → (c : List ℕ) → may_leave new m c ↔ may_leave old m c
-  pub inside : calls old < LAST_COUNT → (c : List ℕ) → may_leave new (inside_next (calls old)) c → images c
+  pub past : calls old < last_count → (m : ℕ) → m ≤ after_calls (calls old) → (c : List ℕ) → may_leave new m c ↔ may_leave old m c
+  pub inside : calls old < last_count → (c : List ℕ) → may_leave new (inside_next (calls old)) c → images c
   pub after : (c : List ℕ) → leaves_now calls may_leave new c → images c
 
 -- a crash inside the call may leave each of these images
 abbrev pub MayLeaveInside : {D : Type 0} → (D → ℕ) → (D → ℕ → List ℕ → Type 0) → (List ℕ → Type 0) → D → D → Type 0
-MayLeaveInside calls may_leave images old new = calls old < LAST_COUNT → (c : List ℕ) → images c → may_leave new (inside_next (calls old)) c
+MayLeaveInside calls may_leave images old new = calls old < last_count → (c : List ℕ) → images c → may_leave new (inside_next (calls old)) c
 
 -- what a crash inside the call or after it may leave is exactly these images
 pub record LeavesExactly {D : Type 0} (calls : D → ℕ) (may_leave : D → ℕ → List ℕ → Type 0) (images : List ℕ → Type 0) (old new : D) : Type 0 where
@@ -79,8 +75,8 @@ EachImage may_leave from to P = (m : ℕ) → from ≤ m → m ≤ to → (c : L
 -- each image of each moment has P. It speaks of moments where the count has not come to its last value.
 pub record LeavesOnly {D : Type 0} (calls : D → ℕ) (may_leave : D → ℕ → List ℕ → Type 0) (old new : D) (P : List ℕ → Type 0) : Type 0 where
   pub later : calls old ≤ calls new
-  pub past : calls new < LAST_COUNT → (m : ℕ) → m ≤ after_calls (calls old) → (c : List ℕ) → may_leave new m c ↔ may_leave old m c
-  pub each : calls new < LAST_COUNT → EachImage (may_leave new) (after_calls (calls old)) (after_calls (calls new)) P
+  pub past : calls new < last_count → (m : ℕ) → m ≤ after_calls (calls old) → (c : List ℕ) → may_leave new m c ↔ may_leave old m c
+  pub each : calls new < last_count → EachImage (may_leave new) (after_calls (calls old)) (after_calls (calls new)) P
 
 -- a crash now leaves these bytes, but for a range of n bytes from `at` on
 abbrev pub LeavesTorn : {D : Type 0} → (D → ℕ) → (D → ℕ → List ℕ → Type 0) → ℕ → ℕ → List ℕ → D → Type 0

@@ -27,7 +27,8 @@ pub record ExampleSizes : Type 0 where
 
 -- cells 4 = 9, 5 = 14 and 6 = 1, and all others empty
 pub record ExampleLayout : Type 0 where
-  pub is : layout_of (home_of 3 0) 16 (1 ∷ 9 ∷ 14 ∷ []) ≡ 0 ∷ 0 ∷ 0 ∷ 0 ∷ 9 ∷ 14 ∷ 1 ∷ 0 ∷ 0 ∷ 0 ∷ 0 ∷ 0 ∷ 0 ∷ 0 ∷ 0 ∷ 0 ∷ []
+  pub is : layout_of (home_of 3 0) 16 (1 ∷ 9 ∷ 14 ∷ [])
+      ≡ 0 ∷ 0 ∷ 0 ∷ 0 ∷ 9 ∷ 14 ∷ 1 ∷ 0 ∷ 0 ∷ 0 ∷ 0 ∷ 0 ∷ 0 ∷ 0 ∷ 0 ∷ 0 ∷ []
 
 -- a ballot of style 1, with these marks in the two contests of the example
 abbrev pub example_ballot : ℕ → ℕ → ℕ → Ballot

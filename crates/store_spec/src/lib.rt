@@ -1,16 +1,10 @@
-//! The definitions that the whole store is proved against, and laws about them.
+//! The definitions that the whole store is proved against, and worked figures of them.
 #![tactic(auto)]
 
-pub mod build;
-mod disk;
-pub mod image;
-pub mod layout;
-pub mod line_laws;
 mod step_figures;
 
 ghost use Rattle.store_spec.specs.Figures.{ExampleHomes, ExampleSizes, ExampleLayout, ExampleImage, ExampleLines};
 
-pub use disk::{torn_again, torn_range, written_range};
 pub use step_figures::{example_claims, example_outcome, example_race};
 
 /// The homes of some numbers under the example election.

@@ -8,7 +8,7 @@ use Rattle.step_core.proofs.CoreOpened.{few_words, opened_by, resized_is, sorted
 use Rattle.step_core.proofs.cast_core.CastCore.new.Goals as goal
 use Rattle.step_core.proofs.cast_core.CastCore.new.Goals.{After-deref, In_ok-tabs}
 use Rattle.step_core.specs.Casting.{IsCasting, MayOpen, opened_tabs}
-use Rattle.store_spec.proofs.Ascending.{length-ascending}
+use Rattle.layout_def.proofs.Ascending.{length-ascending}
 use Rattle.store_spec.specs.Layout.{ascending}
 
 in_order : (c : After-deref) → IsNonDecreasing c.sort_unstable.new.self.items
