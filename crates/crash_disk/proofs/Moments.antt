@@ -3,9 +3,9 @@ use Rattle.std.proofs.Common.{◌≡◌, ℕ, ◌+◌, ◌≤◌, ◌<◌, List,
 use Rattle.std.proofs.lemmas.Bool.{cases_lt, cond-true, lt-ltb}
 use Rattle.std.proofs.lemmas.Bool.Decides.{nat_tests}
 use Rattle.std.specs.Prelude.{Option, Some, nat_lt}
-use Rattle.store_spec.specs.Fault.{LAST_COUNT}
-use Rattle.store_spec.specs.Disk.{after_calls, inside_next, next_count, leaves_now, torn_from, IsTorn, LeavesAtMost, LeavesTorn, IsSettled, EachImage, LeavesOnly}
-use Rattle.store_spec.proofs.TornBytes.{torn-same, torn-again}
+use Rattle.store_spec.specs.Fault.{last_count, next_count}
+use Rattle.store_spec.specs.Disk.{after_calls, inside_next, leaves_now, torn_from, IsTorn, LeavesAtMost, AddsNoCrashImage, TearsAtMost, LeavesTorn, IsSettled, EachCrashImage, LeavesOnly}
+use Rattle.crash_disk.proofs.TornBytes.{torn-same, torn-again}
 
 -- a count never falls
 pub le-next_count : (n : ℕ) → n ≤ next_count n
@@ -16,8 +16,8 @@ pub next_count-le : (n : ℕ) → next_count n ≤ n + 1
 next_count-le n = grind (arith, nat_tests)
 
 -- below its last value it rises by one
-pub next_count-below : (n : ℕ) → n < LAST_COUNT → next_count n ≡ n + 1
-next_count-below n lt = cond-true (nat_lt n LAST_COUNT) (n + 1) n (lt-ltb n LAST_COUNT lt)
+pub next_count-below : (n : ℕ) → n < last_count → next_count n ≡ n + 1
+next_count-below n lt = cond-true (nat_lt n last_count) (n + 1) n (lt-ltb n last_count lt)
 
 module _ {D : Type 0} (calls : D → ℕ) (may_leave : D → ℕ → List ℕ → Type 0) where
   -- ---- runs
@@ -33,7 +33,7 @@ module _ {D : Type 0} (calls : D → ℕ) (may_leave : D → ℕ → List ℕ �
   }
 
   -- one call more, where each image that it may leave has P
-  pub goes_on : (old mid new : D) (P images : List ℕ → Type 0) → LeavesOnly calls may_leave old mid P → LeavesAtMost calls may_leave images mid new → (calls mid < LAST_COUNT → (c : List ℕ) → images c → P c) → LeavesOnly calls may_leave old new P
+  pub goes_on : (old mid new : D) (P images : List ℕ → Type 0) → LeavesOnly calls may_leave old mid P → LeavesAtMost calls may_leave images mid new → (calls mid < last_count → (c : List ℕ) → images c → P c) → LeavesOnly calls may_leave old new P
   goes_on old mid new P images so_far call here =
       let more : calls mid ≤ calls new = omega (arith, call.counted, le-next_count (calls mid)) in
       record {
@@ -43,7 +43,7 @@ module _ {D : Type 0} (calls : D → ℕ) (may_leave : D → ℕ → List ℕ �
             let step = call.past (omega arith) m (omega (arith, so_far.later)) c in
             (λ left. so.0 (step.0 left), λ left. step.1 (so.1 left));
         each = λ lt m from to c left.
-            let early : calls mid < LAST_COUNT = omega arith in
+            let early : calls mid < last_count = omega arith in
             let next : calls new ≡ calls mid + 1 = call.counted ∙ next_count-below (calls mid) early in
             ⊎_elim
             (λ (before : m < after_calls (calls mid) + 1). so_far.each early m from (omega arith) c ((call.past early m (omega arith) c).0 left))
@@ -60,7 +60,7 @@ module _ {D : Type 0} (calls : D → ℕ) (may_leave : D → ℕ → List ℕ �
       }
 
   -- one call more that leaves the images as they are: a `size`, a `read` or a `sync`, whatever it answers
-  pub goes_on_same : (old mid new : D) (P : List ℕ → Type 0) → LeavesOnly calls may_leave old mid P → LeavesAtMost calls may_leave (leaves_now calls may_leave mid) mid new → LeavesOnly calls may_leave old new P
+  pub goes_on_same : (old mid new : D) (P : List ℕ → Type 0) → LeavesOnly calls may_leave old mid P → AddsNoCrashImage calls may_leave mid new → LeavesOnly calls may_leave old new P
   goes_on_same old mid new P so_far call =
       goes_on old mid new P (leaves_now calls may_leave mid) so_far call
       (λ lt c left. so_far.each lt (after_calls (calls mid)) (omega (arith, so_far.later)) (omega arith) c left)
@@ -91,11 +91,11 @@ module _ {D : Type 0} (calls : D → ℕ) (may_leave : D → ℕ → List ℕ �
   -- ---- ranges of moments, for marks that were made on the way
 
   -- a range that ended before a run stays as it was
-  pub range-kept : (old new : D) (P Q : List ℕ → Type 0) (from to : ℕ) → to ≤ after_calls (calls old) → LeavesOnly calls may_leave old new Q → calls new < LAST_COUNT → EachImage (may_leave old) from to P → EachImage (may_leave new) from to P
+  pub range-kept : (old new : D) (P Q : List ℕ → Type 0) (from to : ℕ) → to ≤ after_calls (calls old) → LeavesOnly calls may_leave old new Q → calls new < last_count → EachCrashImage (may_leave old) from to P → EachCrashImage (may_leave new) from to P
   range-kept old new P Q from to ends run lt range m begins le c left = range m begins le c ((run.past lt m (omega arith) c).0 left)
 
   -- a range that goes on with a run
-  pub range-more : (old new : D) (P : List ℕ → Type 0) (from : ℕ) → LeavesOnly calls may_leave old new P → calls new < LAST_COUNT → EachImage (may_leave old) from (after_calls (calls old)) P → EachImage (may_leave new) from (after_calls (calls new)) P
+  pub range-more : (old new : D) (P : List ℕ → Type 0) (from : ℕ) → LeavesOnly calls may_leave old new P → calls new < last_count → EachCrashImage (may_leave old) from (after_calls (calls old)) P → EachCrashImage (may_leave new) from (after_calls (calls new)) P
   range-more old new P from run lt range m begins le c left =
       ⊎_elim
       (λ (before : m < after_calls (calls old)). range m begins (omega arith) c ((run.past lt m (omega arith) c).0 left))
@@ -109,17 +109,17 @@ module _ {D : Type 0} (calls : D → ℕ) (may_leave : D → ℕ → List ℕ �
   torn-write at n from k bytes mid c begins ends torn left = torn-again at n from k bytes left.0 c begins ends (torn left.0 left.1) left.2
 
   -- one write more into a range
-  pub goes_on_write : (at n from k : ℕ) (bytes : List ℕ) (old mid new : D) (P : List ℕ → Type 0) → LeavesOnly calls may_leave old mid P → LeavesTorn calls may_leave at n bytes mid → at ≤ from → from + k ≤ at + n → LeavesAtMost calls may_leave (torn_from from k (leaves_now calls may_leave mid)) mid new → ((c : List ℕ) → IsTorn at n bytes c → P c) → LeavesOnly calls may_leave old new P
+  pub goes_on_write : (at n from k : ℕ) (bytes : List ℕ) (old mid new : D) (P : List ℕ → Type 0) → LeavesOnly calls may_leave old mid P → LeavesTorn calls may_leave at n bytes mid → at ≤ from → from + k ≤ at + n → TearsAtMost calls may_leave from k mid new → ((c : List ℕ) → IsTorn at n bytes c → P c) → LeavesOnly calls may_leave old new P
   goes_on_write at n from k bytes old mid new P so_far torn begins ends call here =
       goes_on old mid new P (torn_from from k (leaves_now calls may_leave mid)) so_far call
       (λ _ c left. here c (torn-write at n from k bytes mid c begins ends torn left))
 
   -- and what it leaves now
-  pub torn-after_write : (at n from k : ℕ) (bytes : List ℕ) (mid new : D) → LeavesTorn calls may_leave at n bytes mid → at ≤ from → from + k ≤ at + n → LeavesAtMost calls may_leave (torn_from from k (leaves_now calls may_leave mid)) mid new → LeavesTorn calls may_leave at n bytes new
+  pub torn-after_write : (at n from k : ℕ) (bytes : List ℕ) (mid new : D) → LeavesTorn calls may_leave at n bytes mid → at ≤ from → from + k ≤ at + n → TearsAtMost calls may_leave from k mid new → LeavesTorn calls may_leave at n bytes new
   torn-after_write at n from k bytes mid new torn begins ends call c left = torn-write at n from k bytes mid c begins ends torn (call.after c left)
 
   -- a `size`, a `read` or a `sync` tears no more
-  pub torn-after_same : (at n : ℕ) (bytes : List ℕ) (mid new : D) → LeavesTorn calls may_leave at n bytes mid → LeavesAtMost calls may_leave (leaves_now calls may_leave mid) mid new → LeavesTorn calls may_leave at n bytes new
+  pub torn-after_same : (at n : ℕ) (bytes : List ℕ) (mid new : D) → LeavesTorn calls may_leave at n bytes mid → AddsNoCrashImage calls may_leave mid new → LeavesTorn calls may_leave at n bytes new
   torn-after_same at n bytes mid new torn call c left = torn c (call.after c left)
 
   -- ---- settled disks

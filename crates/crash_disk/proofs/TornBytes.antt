@@ -1,5 +1,5 @@
 -- What a torn range, and a write that succeeds, leave of the bytes.
-use Rattle.std.proofs.Common.{◌≡◌, ℕ, ◌+◌, ◌-◌, ◌≤◌, max, List, ◌++◌, length, take, drop, refl, sym, ◌∙◌, ap, arith, length-append, length-drop, append_assoc}
+use Rattle.std.proofs.Common.{◌≡◌, ℕ, ◌+◌, ◌-◌, ◌≤◌, List, ◌++◌, length, take, drop, refl, sym, ◌∙◌, ap, arith, length-append}
 use Rattle.std.proofs.lemmas.List.{length-take, take-take, drop-drop, take_at, drop_at}
 use Rattle.std.proofs.lemmas.Slice.{between_is}
 use Rattle.std.specs.Prelude.{slice_range}
@@ -14,18 +14,6 @@ drop-same : (a b : ℕ) (xs ys : List ℕ) → a ≤ b → drop a xs ≡ drop a 
 drop-same a b xs ys le same =
     let far : a + (b - a) ≡ b = omega arith in
     ap (λ n. drop n xs) (sym far) ∙ sym (drop-drop (b - a) a xs) ∙ ap (λ (zs : List ℕ). drop (b - a) zs) same ∙ drop-drop (b - a) a ys ∙ ap (λ n. drop n ys) far
-
-pub length-overwritten : (at : ℕ) (bytes old : List ℕ) → at ≤ length old → length (overwritten at bytes old) ≡ max (length old) (at + length bytes)
-length-overwritten at bytes old le = omega (arith, length-append (take at old ++ bytes) (drop (at + length bytes) old), length-append (take at old) bytes, length-drop (at + length bytes) old, length-take at old)
-
--- a write within the size tears what it writes to
-pub overwritten-torn : (at : ℕ) (bytes old : List ℕ) → at ≤ length old → IsTorn at (length bytes) old (overwritten at bytes old)
-overwritten-torn at bytes old le = record {
-  before = ap (λ (xs : List ℕ). take at xs) (append_assoc (take at old) bytes (drop (at + length bytes) old)) ∙ take_at (take at old) (bytes ++ drop (at + length bytes) old) at (omega (arith, length-take at old));
-  behind = drop_at (take at old ++ bytes) (drop (at + length bytes) old) (at + length bytes) (omega (arith, length-append (take at old) bytes, length-take at old));
-  no_shorter = omega (arith, length-overwritten at bytes old le);
-  no_longer = omega (arith, length-overwritten at bytes old le);
-}
 
 -- what a write has put there is read back
 pub overwritten-range : (at : ℕ) (bytes old : List ℕ) → at ≤ length old → slice_range (overwritten at bytes old) at (at + length bytes) ≡ bytes

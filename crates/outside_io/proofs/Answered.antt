@@ -1,10 +1,9 @@
 -- What a call of `next_line` answers, from what its parts do.
-use Rattle.std.proofs.Common.{◌≡◌, ℕ, ◌+◌, ◌<◌, ◌≤◌, cond, List, [], ◌∷◌, ◌++◌, length, take, drop, map, Option, Some, None, Ok, Err, refl, ap, sym, ◌∙◌, subst, inl, inr, arith, append_assoc, length-append, length-drop, length-take}
+use Rattle.std.proofs.Common.{◌≡◌, ℕ, ◌+◌, ◌<◌, ◌≤◌, List, [], ◌∷◌, ◌++◌, length, take, drop, map, Option, Some, None, Ok, Err, refl, ap, sym, ◌∙◌, subst, inl, inr, arith, append_assoc, length-append, length-drop, length-take}
 use Rattle.std.proofs.lemmas.List.{take-append-le, drop-append-le, drop_all, drop_at, drop-drop, nil_from_length, append-nil, take_all}
 use Rattle.std.specs.Option.{IfSome}
 use Rattle.std.specs.Prelude.{Result, IsErrAnd}
-use Rattle.std.proofs.Common.{le-leb}
-use Rattle.std.proofs.lemmas.Bool.{cases_lt, lt-leb}
+use Rattle.std.proofs.lemmas.Bool.{cases_lt}
 use Rattle.outside_io.specs.declared.lines.LineEndFault.TheVariants.{TooLong, ReadFault}
 use Rattle.outside_io.specs.declared.lines.LineEndFault.{LineEndFault}
 use Rattle.outside_io.specs.Lines.{HandsOut, LooksLike, Answers, AnswersTold, CutsOff, StaysSame, TakesLast}
@@ -13,17 +12,10 @@ use Rattle.outside_io.specs.declared.lines.NextLine.TheVariants.{Whole, TooWide,
 use Rattle.outside_io.specs.Stream.{Gives}
 use Rattle.outside_io.specs.Told.{IfTold}
 use Rattle.outside_io.specs.Window.{Kept}
+use Rattle.outside_io.proofs.TakenLines.{taken_line-narrow, taken_line-wide}
 use Rattle.outside_io.proofs.Told.{told_still, told_as, told_on, told_given, told_holds}
 use Rattle.outside_io.proofs.FirstLine.{first_width-le, first_width-append, first_width-more, first_width-same, lines_within-first, lines_within-none, lines_within-too_long}
 use Rattle.store_spec.specs.Input.{line_limit, first_width, taken_line, taken_within, IsTooLong}
-
--- ---- lines as they are taken
-
-pub taken_line-narrow : (line : List ℕ) → length line ≤ line_limit → taken_line line ≡ Some line
-taken_line-narrow line narrow = ap (λ test. cond test (Some line) None) (le-leb (length line) line_limit narrow)
-
-pub taken_line-wide : (line : List ℕ) → line_limit < length line → taken_line line ≡ None
-taken_line-wide line wide = ap (λ test. cond test (Some line) None) (lt-leb (length line) line_limit wide)
 
 -- ---- texts that look alike
 
@@ -39,8 +31,8 @@ looks_on a b c ab bc = record {
 }
 
 -- the first line with a wide front is too wide
-wide_line : (front rest : List ℕ) (n : ℕ) → line_limit < length front → n ≡ length front + first_width rest → taken_line (take n (front ++ rest)) ≡ None
-wide_line front rest n wide is =
+wide_first : (front rest : List ℕ) (n : ℕ) → line_limit < length front → n ≡ length front + first_width rest → taken_line (take n (front ++ rest)) ≡ None
+wide_first front rest n wide is =
     taken_line-wide (take n (front ++ rest)) (omega (arith, length-take n (front ++ rest), length-append front rest, first_width-le rest))
 
 behind_front : (front rest : List ℕ) (n : ℕ) → n ≡ length front + first_width rest → drop n (front ++ rest) ≡ drop (first_width rest) rest
@@ -55,7 +47,7 @@ looks_forgotten a b rest none_a none_b same narrow = elim (cases_lt line_limit (
       let width_b = first_width-append b rest none_b in
       record {
         width = omega arith;
-        line = wide_line b rest (first_width (a ++ rest)) (omega arith) (omega arith) ∙ sym (wide_line a rest (first_width (a ++ rest)) wide width_a);
+        line = wide_first b rest (first_width (a ++ rest)) (omega arith) (omega arith) ∙ sym (wide_first a rest (first_width (a ++ rest)) wide width_a);
         behind = behind_front b rest (first_width (a ++ rest)) (omega arith) ∙ sym (behind_front a rest (first_width (a ++ rest)) width_a);
         size = omega (arith, length-append a rest, length-append b rest);
       }

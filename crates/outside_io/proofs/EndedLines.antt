@@ -1,5 +1,5 @@
 -- A front of a text whose lines all have an end, and what comes behind it.
-use Rattle.std.proofs.Common.{◌≡◌, ℕ, zero, suc, ◌+◌, ◌-◌, ◌<◌, ◌≤◌, Bool, true, false, cond, eqb, List, [], ◌∷◌, ◌++◌, length, take, drop, refl, ap, sym, ◌∙◌, inl, inr, ⊎_elim, subst, arith, length-append}
+use Rattle.std.proofs.Common.{◌≡◌, ℕ, zero, suc, ◌+◌, ◌<◌, ◌≤◌, Bool, true, false, cond, eqb, List, [], ◌∷◌, ◌++◌, length, take, refl, ap, sym, ◌∙◌, inl, inr, ⊎_elim, subst, arith, length-append}
 use Rattle.std.proofs.Math.Seq.{take-append-add}
 use Rattle.std.proofs.lemmas.Bool.{cases_lt}
 use Rattle.std.proofs.lemmas.List.{take-take}
@@ -46,7 +46,7 @@ lines_of-append (byte ∷ front) rest whole =
     let ended = ended_lines front in
     let all = lines_of (front ++ rest) in
     let both : (ends : Bool) → cond ends ([] ∷ ended) (continued byte ended) ≡ cond ends ([] ∷ lines) (begun_with byte lines)
-        → cond ends ([] ∷ all) (begun_with byte all) ≡ cond ends ([] ∷ lines) (begun_with byte lines) ++ lines_of rest = elim [
+    → cond ends ([] ∷ all) (begun_with byte all) ≡ cond ends ([] ∷ lines) (begun_with byte lines) ++ lines_of rest = elim [
       | true ↦ λ h. let same : ended ≡ lines = cc in ap (λ others. [] ∷ others) (lines_of-append front rest same)
       | false ↦ λ h.
           let c = carried byte ended lines (λ none. ap ended_lines (no_lines front none)) h in
@@ -62,7 +62,7 @@ ended_lines-append (byte ∷ front) rest whole =
     let ended = ended_lines front in
     let all = ended_lines (front ++ rest) in
     let both : (ends : Bool) → cond ends ([] ∷ ended) (continued byte ended) ≡ cond ends ([] ∷ lines) (begun_with byte lines)
-        → cond ends ([] ∷ all) (continued byte all) ≡ cond ends ([] ∷ lines) (begun_with byte lines) ++ ended_lines rest = elim [
+    → cond ends ([] ∷ all) (continued byte all) ≡ cond ends ([] ∷ lines) (begun_with byte lines) ++ ended_lines rest = elim [
       | true ↦ λ h. let same : ended ≡ lines = cc in ap (λ others. [] ∷ others) (ended_lines-append front rest same)
       | false ↦ λ h.
           let c = carried byte ended lines (λ none. ap ended_lines (no_lines front none)) h in

@@ -4,5 +4,6 @@ pub mod FirstLine
 mod Pieces
 pub mod Reading
 pub mod Readings
+pub mod TakenLines
 pub mod Told
 mod Windows

@@ -1,16 +1,15 @@
 -- A loop over `next_line`: which lines were taken so far, and how the loop ends. A proof about such a loop has
 -- `ReadSoFar` in its invariant, and cites one lemma here at each answer.
-use Rattle.std.proofs.Common.{◌≡◌, ℕ, zero, suc, ◌+◌, ◌-◌, ◌<◌, ◌≤◌, ◌⊎◌, ⊎_elim, cond, List, [], ◌∷◌, ◌++◌, length, take, drop, Option, Some, None, Ok, Err, refl, ap, sym, subst, ◌∙◌, inl, inr, arith, le-leb, append_assoc, length-append, length-drop}
+use Rattle.std.proofs.Common.{◌≡◌, ◌≢◌, ℕ, ◌+◌, ◌<◌, ◌≤◌, ◌⊎◌, ⊎_elim, List, [], ◌∷◌, ◌++◌, length, take, drop, Option, Some, None, Result, Ok, Err, refl, ap, sym, subst, ◌∙◌, inl, inr, arith, append_assoc, length-append, length-drop}
 use Rattle.std.proofs.Math.Seq.{take-append-add}
-use Rattle.std.proofs.lemmas.Bool.{cases_lt, lt-leb}
-use Rattle.std.proofs.lemmas.List.{append-nil, drop_all, drop_at, take_all, take_at, length-take-le, take-take, map-append, map_push, nil_from_length, take-append-drop, take-append-le}
-use Rattle.outside_io.proofs.Answered.{taken_line-wide, taken_line-narrow}
+use Rattle.std.proofs.lemmas.Bool.{cases_lt}
+use Rattle.std.proofs.lemmas.List.{append-nil, drop_all, drop_at, take_all, take_at, length-take-le, take-take, map-append, nil_from_length, take-append-drop}
 use Rattle.outside_io.proofs.EndedLines.{IsWhole, lines_of-append, ended_lines-append, lines_within-append}
 use Rattle.outside_io.proofs.FirstLine.{all_within, ended_lines-ended, ended_lines-none, first_width-le, first_width-more, first_width-take_none, first_width-take, lines_of-ended, lines_of-last, lines_within-first, lines_within-none}
 use Rattle.outside_io.proofs.Told.{told_still, told_as, told_with, told_on}
 use Rattle.outside_io.specs.Lines.{Answers, AnswersTold, HandsOut}
-use Rattle.outside_io.specs.Reading.{Ending, ReadLines, ReadToFault, ReadFirst, ReadsTo}
-use Rattle.outside_io.specs.Reading.Ending.{ReadOut, TooMuch, Faulted}
+use Rattle.outside_io.specs.Reading.{ReadLines, ReadToFault, ReadFirst, ReadsTo}
+use Rattle.outside_io.specs.Reading.Ending.{ReadOut, TooMuch}
 use Rattle.outside_io.specs.Stream.{GivesAtMost, GivesFront}
 use Rattle.outside_io.specs.Told.{IfTold}
 use Rattle.outside_io.specs.Window.{Kept}
@@ -18,7 +17,7 @@ use Rattle.outside_io.specs.declared.lines.LineEndFault.{LineEndFault}
 use Rattle.outside_io.specs.declared.lines.LineEndFault.TheVariants.{TooLong, ReadFault}
 use Rattle.outside_io.specs.declared.lines.NextLine.{NextLine}
 use Rattle.outside_io.specs.declared.lines.NextLine.TheVariants.{Whole, TooWide, End}
-use Rattle.store_spec.specs.Input.{line_limit, script_limit, first_width, lines_of, ended_lines, lines_within, taken_line, taken_lines, taken_within}
+use Rattle.store_spec.specs.Input.{script_limit, first_width, lines_of, ended_lines, lines_within, taken_line, taken_lines, taken_within}
 
 -- ---- what was taken of a text
 
@@ -139,8 +138,7 @@ taken_out lines room text now left h none nothing =
 taken_too_much : (lines : List (Option (List ℕ))) (room : ℕ) (text now left : List ℕ) → HasTaken lines room text now → taken_within room now ≡ [] → length now ≡ room + 1 + length left → GivesFront text left → ReadLines TooMuch text left lines
 taken_too_much lines room text now left h none size gives =
     let long : length text ≡ script_limit + 1 + length left = omega (arith, ap length h.cut, length-append h.front now, h.counted, size) in
-    let given : length gives.0 ≡ script_limit + 1 = omega (arith, ap length gives.1, length-append gives.0 left, long) in
-    (
+    let given : length gives.0 ≡ script_limit + 1 = omega (arith, ap length gives.1, length-append gives.0 left, long) in (
       omega arith,
       sym (ap (drop (script_limit + 1)) gives.1 ∙ drop_at gives.0 left (script_limit + 1) given),
       sym (taken_first lines room text now h ∙ ap (λ others. lines ++ others) none ∙ append-nil lines),
@@ -201,18 +199,18 @@ read_one {kept} {next} line so_far hands progress within step = record {
 }
 
 -- a whole line came
-pub read_whole : {P Q : List (Option (List ℕ)) → Type 0} {kept next : Kept} {a b c : Option (List ℕ)} {answer : NextLine} → ReadSoFar P kept a b → answer ≡ Whole → AnswersTold (Ok answer) kept b next c → next.room < kept.room → length next.text ≤ next.room + 1
+pub read_whole : {P Q : List (Option (List ℕ)) → Type 0} {kept next : Kept} {a b c : Option (List ℕ)} {answer : NextLine} → ReadSoFar P kept a b → answer ≡ Whole → AnswersTold (Ok answer) kept b next c → (answer ≢ End → next.room < kept.room) → length next.text ≤ next.room + 1
     → ((lines : List (Option (List ℕ))) → P lines → Q (lines ++ Some next.line ∷ [])) → ReadSoFar Q next a c
 read_whole {kept} {next} {b} {c} so_far is answers progress within step =
     let A : NextLine → Type 0 = λ answer. AnswersTold (Ok answer) kept b next c in
-    read_one (Some next.line) so_far (subst A is answers).told progress within step
+    read_one (Some next.line) so_far (subst A is answers).told (progress (λ end. let clash : Whole ≡ End = sym is ∙ end in cc)) within step
 
 -- a line came that is too wide
-pub read_wide : {P Q : List (Option (List ℕ)) → Type 0} {kept next : Kept} {a b c : Option (List ℕ)} {answer : NextLine} → ReadSoFar P kept a b → answer ≡ TooWide → AnswersTold (Ok answer) kept b next c → next.room < kept.room → length next.text ≤ next.room + 1
+pub read_wide : {P Q : List (Option (List ℕ)) → Type 0} {kept next : Kept} {a b c : Option (List ℕ)} {answer : NextLine} → ReadSoFar P kept a b → answer ≡ TooWide → AnswersTold (Ok answer) kept b next c → (answer ≢ End → next.room < kept.room) → length next.text ≤ next.room + 1
     → ((lines : List (Option (List ℕ))) → P lines → Q (lines ++ None ∷ [])) → ReadSoFar Q next a c
 read_wide {kept} {next} {b} {c} so_far is answers progress within step =
     let A : NextLine → Type 0 = λ answer. AnswersTold (Ok answer) kept b next c in
-    read_one None so_far (subst A is answers).told progress within step
+    read_one None so_far (subst A is answers).told (progress (λ end. let clash : TooWide ≡ End = sym is ∙ end in cc)) within step
 
 -- the loop stops here
 pub read_first : {P : List (Option (List ℕ)) → Type 0} {kept : Kept} {a b : Option (List ℕ)} → ReadSoFar P kept a b → ReadsTo ReadFirst P a b
@@ -262,21 +260,16 @@ read_fault {kept} {next} {b} {c} so_far is answers gives none =
 
 -- ---- how much was given
 
--- of what is taken so far
-pub few_so_far : {P : List (Option (List ℕ)) → Type 0} {kept : Kept} {a b : Option (List ℕ)} → ReadSoFar P kept a b → IfTold a b (GivesAtMost (script_limit + 1))
-few_so_far {kept} so_far =
-    told_as so_far.told (λ x y h. omega (arith, ap length h.cut, length-append h.front (kept.text ++ y), length-append kept.text y, h.counted, so_far.within_room))
+-- what an answer took off the room it took off the bytes
+counted : (answer : Result NextLine LineEndFault) (text rest : List ℕ) (room : ℕ) (next : Kept) → Answers answer text room next rest → room + length rest ≡ next.room + length text
+counted (Ok Whole) text rest room next hands = hands.counted
+counted (Ok TooWide) text rest room next hands = hands.counted
+counted (Ok End) text rest room next done = omega (arith, ap length done.0.empty, ap length done.1, done.2)
+counted (Err TooLong) text rest room next much = omega (arith, much.1.size, much.3)
+counted (Err ReadFault) text rest room next failed = omega (arith, failed.0.size, failed.1)
 
-few_read : (ending : Ending) (text left : List ℕ) (lines : List (Option (List ℕ))) → ReadLines ending text left lines → GivesAtMost (script_limit + 1) text left
-few_read ReadOut text left lines read = omega (arith, read.0)
-few_read TooMuch text left lines read = omega (arith, read.0, ap length read.1, length-drop (script_limit + 1) text)
-few_read Faulted text left lines read = omega (arith, ap length read.1, length-append read.0 left, read.2)
-
-pub few_out : {P : List (Option (List ℕ)) → Type 0} {a b : Option (List ℕ)} → ReadsTo (ReadLines ReadOut) P a b → IfTold a b (GivesAtMost (script_limit + 1))
-few_out reads = told_as reads.told (λ x y. few_read ReadOut x y reads.lines)
-
-pub few_too_much : {P : List (Option (List ℕ)) → Type 0} {a b : Option (List ℕ)} → ReadsTo (ReadLines TooMuch) P a b → IfTold a b (GivesAtMost (script_limit + 1))
-few_too_much reads = told_as reads.told (λ x y. few_read TooMuch x y reads.lines)
-
-pub few_fault : {P : List (Option (List ℕ)) → Type 0} {a b : Option (List ℕ)} → ReadsTo ReadToFault P a b → IfTold a b (GivesAtMost (script_limit + 1))
-few_fault reads = told_as reads.told (λ x y. ⊎_elim (few_read Faulted x y reads.lines) (few_read ReadOut x y reads.lines))
+-- whatever the answer, no more was given than the limit and one byte
+pub few_given : {P : List (Option (List ℕ)) → Type 0} {kept next : Kept} {a b c : Option (List ℕ)} {answer : Result NextLine LineEndFault} → ReadSoFar P kept a b → AnswersTold answer kept b next c → length next.text ≤ next.room + 1 → IfTold a c (GivesAtMost (script_limit + 1))
+few_given {kept} {next} {answer} so_far answers within =
+    told_on so_far.told answers.told (λ x y z h now.
+    omega (arith, ap length h.cut, length-append h.front (kept.text ++ y), h.counted, counted answer (kept.text ++ y) (next.text ++ z) kept.room next now, length-append next.text z))

@@ -1,5 +1,5 @@
 -- How the readings of one text agree.
-use Rattle.std.proofs.Common.{◌≡◌, ◌≢◌, ℕ, ◌+◌, ◌≤◌, List, [], ◌++◌, length, take, drop, Option, refl, ap, sym, ◌∙◌, arith, length-append}
+use Rattle.std.proofs.Common.{◌≡◌, ◌≢◌, ℕ, ◌≤◌, List, [], ◌++◌, length, take, drop, Option, refl, ap, sym, ◌∙◌, arith}
 use Rattle.std.proofs.lemmas.List.{append-nil, append_cancel_right, map-append, take_at, take-append-drop}
 use Rattle.outside_io.proofs.EndedLines.{front_of_within}
 use Rattle.outside_io.proofs.FirstLine.{all_within}

@@ -1,5 +1,5 @@
 -- Relations of the bytes that are told before and after.
-use Rattle.std.proofs.Common.{◌≡◌, ℕ, List, ◌++◌, Bool, Option, Some, None, refl, sym, ◌∙◌, ap, subst, append_assoc}
+use Rattle.std.proofs.Common.{◌≡◌, ℕ, List, ◌++◌, Option, Some, None, refl, sym, ◌∙◌, ap, subst, append_assoc}
 use Rattle.std.specs.Option.{IfSome, is_some, option_map}
 use Rattle.outside_io.specs.Stream.{Gives, GivesFront}
 use Rattle.outside_io.specs.Told.{IfTold}

@@ -1,5 +1,5 @@
-use Rattle.store_spec.proofs.TornBytes.{torn-again, torn-same}
-use Rattle.store_spec.proofs.disk.torn_again.Goals as goal
+use Rattle.crash_disk.proofs.TornBytes.{torn-again, torn-same}
+use Rattle.crash_disk.proofs.laws.torn_again.Goals as goal
 
 pub returns-clause-part : goal.returns-clause-part
 returns-clause-part c = torn-again

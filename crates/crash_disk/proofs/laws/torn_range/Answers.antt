@@ -1,5 +1,5 @@
-use Rattle.store_spec.proofs.TornBytes.{torn-before, torn-behind, torn-size}
-use Rattle.store_spec.proofs.disk.torn_range.Goals as goal
+use Rattle.crash_disk.proofs.TornBytes.{torn-before, torn-behind, torn-size}
+use Rattle.crash_disk.proofs.laws.torn_range.Goals as goal
 
 pub returns-clause-before : goal.returns-clause-before
 returns-clause-before c at n i j old new = torn-before at n old new i j

@@ -1,5 +1,6 @@
-use Rattle.store_spec.proofs.TornBytes.{overwritten-range, length-overwritten, overwritten-torn}
-use Rattle.store_spec.proofs.disk.written_range.Goals as goal
+use Rattle.crash_disk.specs.SeenIsImage.{length-overwritten, overwritten-torn}
+use Rattle.crash_disk.proofs.TornBytes.{overwritten-range}
+use Rattle.crash_disk.proofs.laws.written_range.Goals as goal
 
 pub returns-clause-read_back : goal.returns-clause-read_back
 returns-clause-read_back c = overwritten-range

@@ -2,7 +2,8 @@
 
 ghost use Rattle.std.specs.Prelude.{◌≡◌, ℕ, ◌+◌, ◌≤◌, ◌<◌, min, length, IsTrue, vec_capacity, vec_len, [], ◌∷◌, ◌++◌};
 ghost use Rattle.store_spec.specs.Disk.{overwritten};
-ghost use Rattle.crash_disk.specs.Entries.{events_of, lines_in, AreStored, ChangesNothing, with_one_more};
+ghost use Rattle.store_spec.specs.Fault.{last_count};
+ghost use Rattle.crash_disk.specs.Calls.{events_in, AreStored, ChangesNothing, with_one_more};
 ghost use Rattle.crash_disk.specs.History.{settled_state, seen_after, begin_within};
 
 use crate::entry::{DiskCall, Entry, Room};
@@ -11,7 +12,7 @@ use std::alloc::Global;
 
 /// The bytes of a disk in memory, as it had them at first and as it has them now, and the record of its calls.
 #[derive(Drop)]
-pub(crate) struct Medium {
+pub(crate) struct Recording {
     pub(crate) first: Vec<u8>,
     pub(crate) bytes: Vec<u8>,
     pub(crate) entries: Vec<Entry>,
@@ -19,10 +20,12 @@ pub(crate) struct Medium {
     pub(crate) calls: u64,
     pub(crate) faults: u64,
     pub(crate) room: Room,
+    ghost counted_calls: { calls ≤ last_count },
+    ghost counted_faults: { faults ≤ last_count },
     ghost recorded: { length entries.items ≡ min calls room.calls },
     ghost stored: { AreStored written.items entries.items },
-    ghost replayed: { bytes.items ≡ seen_after first.items (events_of (lines_in written.items entries.items)) },
-    ghost begins: { IsTrue (begin_within (settled_state first.items) (events_of (lines_in written.items entries.items))) },
+    ghost replayed: { bytes.items ≡ seen_after first.items (events_in written.items entries.items) },
+    ghost begins: { IsTrue (begin_within (settled_state first.items) (events_in written.items entries.items)) },
     ghost size: { length bytes.items ≤ room.size },
     ghost put: { length written.items ≤ room.written },
     ghost room_for_bytes: { room.size ≤ vec_capacity bytes },
@@ -53,27 +56,28 @@ fn overwrite(file: &mut Vec<u8>, at: usize, bytes: &[u8])
     file.extend_from_slice(&bytes[within..]).unwrap();
 }
 
-impl Medium {
+impl Recording {
     ghost use Rattle.std.specs.Prelude.{true, false, IsSome, option_map, slice_get, is_ok, IfOk, OnOk, OnErr, nat_lt, nat_le, ◌&&◌, slice_range, ◌↔◌};
     ghost use Rattle.crash_disk.specs.declared.entry.DiskCall.TheVariants.{Size, Read, Write, Sync};
     ghost use Rattle.std.specs.Option.{option_map_or};
-    ghost use Rattle.crash_disk.specs.Notes.{Notes, lines_of};
+    ghost use Rattle.crash_disk.specs.Notes.{Notes, has_room, made_calls};
+    ghost use Rattle.crash_disk.specs.Calls.{plain_call, write_call};
 
-    /// A medium with these bytes, and no calls. All its memory is taken here.
-    pub(crate) fn new(alloc: Global, first: Vec<u8>, room: Room) -> Result<Medium, Memory>
+    /// A recording of these bytes, and of no calls. All its memory is taken here.
+    pub(crate) fn new(alloc: Global, first: Vec<u8>, room: Room) -> Result<Recording, Memory>
         requires { length first.items ≤ room.size }
-        ensures bytes { IfOk result (λ medium. medium.bytes.items ≡ first.items) }
-        ensures first { IfOk result (λ medium. medium.first.items ≡ first.items) }
-        ensures lines { IfOk result (λ medium. lines_of medium ≡ []) }
-        ensures calls { IfOk result (λ medium. medium.calls ≡ 0) }
-        ensures faults { IfOk result (λ medium. medium.faults ≡ 0) }
-        ensures room { IfOk result (λ medium. medium.room ≡ room) }
+        ensures bytes { IfOk result (λ recording. recording.bytes.items ≡ first.items) }
+        ensures first { IfOk result (λ recording. recording.first.items ≡ first.items) }
+        ensures made { IfOk result (λ recording. made_calls recording ≡ []) }
+        ensures calls { IfOk result (λ recording. recording.calls ≡ 0) }
+        ensures faults { IfOk result (λ recording. recording.faults ≡ 0) }
+        ensures room { IfOk result (λ recording. recording.room ≡ room) }
     {
         let mut bytes = Vec::with_capacity(alloc, room.size as usize)?;
         bytes.extend_from_slice(&first)?;
         let entries = Vec::with_capacity(alloc, room.calls as usize)?;
         let written = Vec::with_capacity(alloc, room.written as usize)?;
-        Ok(Medium {
+        Ok(Recording {
             first,
             bytes,
             entries,
@@ -84,9 +88,9 @@ impl Medium {
         })
     }
 
-    /// The call of this line of the record.
+    /// The call with this index in the record.
     pub(crate) fn call_made(&self, index: u64) -> Option<DiskCall>
-        ensures call { result ≡ option_map (λ line. line.call) (slice_get (lines_of self.now) index) }
+        ensures call { result ≡ option_map (λ made. made.call) (slice_get (made_calls self.now) index) }
         ensures made { IsSome result ↔ (index < min self.now.calls self.now.room.calls) }
     {
         self.entries.get(index as usize).map(|entry| entry.call)
@@ -94,7 +98,7 @@ impl Medium {
 
     /// What that call put.
     pub(crate) fn put_at(&self, index: u64) -> &[u8]
-        ensures { result.now ≡ option_map_or (λ line. line.put) (slice_get (lines_of self.now) index) [] }
+        ensures { result.now ≡ option_map_or (λ made. made.put) (slice_get (made_calls self.now) index) [] }
     {
         match self.entries.get(index as usize) {
             Some(entry) => &self.written[entry.start..entry.start + entry.count],
@@ -105,7 +109,7 @@ impl Medium {
     /// Notes a call that puts no bytes.
     fn note(&mut self, call: DiskCall, passed: bool)
         requires { IsTrue passed → ChangesNothing call }
-        ensures noted { Notes (record { call = call; passed = passed; put = [] }) self.old self.new }
+        ensures noted { Notes (plain_call call passed) self.old self.new }
         ensures bytes { self.new.bytes.items ≡ self.old.bytes.items }
     {
         let entry = Entry {
@@ -122,7 +126,7 @@ impl Medium {
     /// Whether one write more has room.
     fn may_write(&self, at: u64, count: usize) -> bool
         requires { at ≤ length self.now.bytes.items }
-        ensures { result ≡ (nat_le (at + count) self.now.room.size && nat_le (length self.now.written.items + count) self.now.room.written) }
+        ensures { result ≡ has_room self.now at count }
     {
         count as u64 <= self.room.size - at
             && count as u64 <= self.room.written - self.written.len() as u64
@@ -132,7 +136,7 @@ impl Medium {
     pub(crate) fn size(&mut self, passes: bool) -> Result<u64, Failed>
         requires { IsTrue passes → self.old.calls < self.old.room.calls }
         ensures passes { is_ok result ≡ passes }
-        ensures noted { Notes (record { call = Size; passed = passes; put = [] }) self.old self.new }
+        ensures noted { Notes (plain_call Size passes) self.old self.new }
         ensures bytes { self.new.bytes.items ≡ self.old.bytes.items }
         ensures size { IfOk result (λ size. size ≡ length self.old.bytes.items) }
     {
@@ -149,7 +153,7 @@ impl Medium {
         requires within { at + length buf.old ≤ length self.old.bytes.items }
         requires room { IsTrue passes → self.old.calls < self.old.room.calls }
         ensures passes { is_ok result ≡ passes }
-        ensures noted { Notes (record { call = Read at (length buf.old); passed = passes; put = [] }) self.old self.new }
+        ensures noted { Notes (plain_call (Read at (length buf.old)) passes) self.old self.new }
         ensures bytes { self.new.bytes.items ≡ self.old.bytes.items }
         ensures read { OnOk result (buf.new ≡ slice_range self.old.bytes.items at (at + length buf.old)) }
     {
@@ -170,7 +174,7 @@ impl Medium {
     pub(crate) fn sync(&mut self, passes: bool) -> Result<(), Failed>
         requires { IsTrue passes → self.old.calls < self.old.room.calls }
         ensures passes { is_ok result ≡ passes }
-        ensures noted { Notes (record { call = Sync; passed = passes; put = [] }) self.old self.new }
+        ensures noted { Notes (plain_call Sync passes) self.old self.new }
         ensures bytes { self.new.bytes.items ≡ self.old.bytes.items }
     {
         self.note(DiskCall::Sync, passes);
@@ -181,9 +185,9 @@ impl Medium {
     pub(crate) fn write_at(&mut self, at: u64, bytes: &[u8], passes: bool) -> Result<(), Failed>
         requires at { at ≤ length self.old.bytes.items }
         requires room { IsTrue passes → self.old.calls < self.old.room.calls }
-        ensures passes { is_ok result ≡ (passes && (nat_le (at + length bytes.now) self.old.room.size && nat_le (length self.old.written.items + length bytes.now) self.old.room.written)) }
-        ensures noted { OnOk result (Notes (record { call = Write at (length bytes.now); passed = true; put = bytes.now }) self.old self.new) }
-        ensures noted_failed { OnErr result (Notes (record { call = Write at (length bytes.now); passed = false; put = [] }) self.old self.new) }
+        ensures passes { is_ok result ≡ (passes && has_room self.old at (length bytes.now)) }
+        ensures noted { OnOk result (Notes (write_call at bytes.now) self.old self.new) }
+        ensures noted_failed { OnErr result (Notes (plain_call (Write at (length bytes.now)) false) self.old self.new) }
         ensures written { OnOk result (self.new.bytes.items ≡ overwritten at bytes.now self.old.bytes.items) }
         ensures unwritten { OnErr result (self.new.bytes.items ≡ self.old.bytes.items) }
     {
@@ -205,7 +209,7 @@ impl Medium {
         requires may_call { self.old.calls < self.old.room.calls }
         requires size { at + length bytes.now ≤ self.old.room.size }
         requires put { length self.old.written.items + length bytes.now ≤ self.old.room.written }
-        ensures noted { Notes (record { call = Write at (length bytes.now); passed = true; put = bytes.now }) self.old self.new }
+        ensures noted { Notes (write_call at bytes.now) self.old self.new }
         ensures written { self.new.bytes.items ≡ overwritten at bytes.now self.old.bytes.items }
     {
         let count = bytes.len();

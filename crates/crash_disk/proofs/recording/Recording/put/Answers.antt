@@ -1,9 +1,9 @@
 use Rattle.std.proofs.Common.{◌≡◌, ◌<◌, ◌++◌, length, arith, rules, sym, ◌∙◌, true}
-use Rattle.crash_disk.proofs.Record.{wrote-replayed, wrote-begins, wrote-stored, wrote-lines}
-use Rattle.store_spec.proofs.DiskMoments.{next_count-below}
-use Rattle.crash_disk.specs.Entries.{with_one_more}
+use Rattle.crash_disk.proofs.Record.{wrote-replayed, wrote-begins, wrote-stored, wrote-made}
+use Rattle.crash_disk.proofs.Moments.{next_count-below}
+use Rattle.crash_disk.specs.Calls.{with_one_more}
 use Rattle.crash_disk.specs.declared.entry.DiskCall.TheVariants.{Write}
-use Rattle.crash_disk.proofs.medium.Medium.put.Goals as goal
+use Rattle.crash_disk.proofs.recording.Recording.put.Goals as goal
 
 pub invariant_of-self-clause-replayed : goal.invariant_of-self-clause-replayed
 invariant_of-self-clause-replayed c =
@@ -45,5 +45,5 @@ returns-clause-noted c =
       calls = sym (next_count-below c.args.self.now.calls (omega arith));
       faults = search rules;
       never_falls = search rules;
-      lines = wrote-lines c.args.self.now.room.calls c.args.at c.args.self.now.first.items written c.extend_from_slice.new.self.items c.args.bytes.now c.args.self.now.bytes.items entries c.add.new.entries.items stores fits added c.args.self.now.stored;
+      recorded = wrote-made c.args.self.now.room.calls c.args.at c.args.self.now.first.items written c.extend_from_slice.new.self.items c.args.bytes.now c.args.self.now.bytes.items entries c.add.new.entries.items stores fits added c.args.self.now.stored;
     }

@@ -1,6 +1,6 @@
 use Rattle.std.proofs.Common.{arith}
 use Rattle.crash_disk.proofs.Record.{noted-replayed, noted-begins, noted-stored}
-use Rattle.crash_disk.proofs.medium.Medium.note.Goals as goal
+use Rattle.crash_disk.proofs.recording.Recording.note.Goals as goal
 
 pub invariant_of-self-clause-replayed : goal.invariant_of-self-clause-replayed
 invariant_of-self-clause-replayed c =

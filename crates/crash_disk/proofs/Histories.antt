@@ -1,16 +1,12 @@
 -- Laws of the history of a disk in memory.
-use Rattle.std.proofs.Common.{◌≡◌, ℕ, zero, suc, ◌+◌, ◌*◌, ◌≤◌, ◌<◌, min, true, List, [], ◌∷◌, ◌++◌, length, refl, sym, ◌∙◌, ap, subst, arith, nat_le, cond, ⊎_elim, length-append}
-use Rattle.std.proofs.lemmas.Bool.{and_from, and_parts, leb-true, lt-ltb, le-ltb, cases_lt}
-use Rattle.store_spec.specs.Disk.{next_count}
-use Rattle.crash_disk.specs.Entries.{with_one_more}
-use Rattle.store_spec.proofs.DiskMoments.{next_count-le}
-use Rattle.store_spec.proofs.TornBytes.{overwritten-torn}
-use Rattle.crash_disk.specs.History.{Event, State, settled_state, state_after, state_inside, state_at, left_in, left_at, seen_after, begin_within}
+use Rattle.std.proofs.Common.{◌≡◌, ℕ, zero, suc, ◌+◌, ◌*◌, ◌≤◌, ◌<◌, min, true, List, [], ◌∷◌, ◌++◌, length, refl, sym, ◌∙◌, ap, arith, nat_le, cond, ⊎_elim, length-append}
+use Rattle.std.proofs.lemmas.Bool.{and_from, and_parts, lt-ltb, le-ltb, cases_lt}
+use Rattle.store_spec.specs.Fault.{next_count}
+use Rattle.crash_disk.specs.Calls.{with_one_more}
+use Rattle.crash_disk.proofs.Moments.{next_count-le}
+use Rattle.crash_disk.specs.SeenIsImage.{later, state_at-end}
+use Rattle.crash_disk.specs.History.{Event, State, state_after, state_inside, state_at, begin_within}
 use Rattle.crash_disk.specs.History.Event.{Wrote, Synced, Unchanged}
-
--- two moments on, one call less is left
-later : (s : State) (x : Event) (es : List Event) (m n : ℕ) → m ≡ suc (suc n) → state_at s (x ∷ es) m ≡ state_at (state_after s x) es n
-later s x es m n e = ap (state_at s (x ∷ es)) e
 
 -- a call more leaves the moments before it
 pub state_at-append : (s : State) (es : List Event) (e : Event) (m : ℕ) → m ≤ 2 * length es → state_at s (es ++ e ∷ []) m ≡ state_at s es m
@@ -34,13 +30,6 @@ state_at-after s (x ∷ es) e =
     later s x (es ++ e ∷ []) _ (2 * length es + 2) (omega arith) ∙ state_at-after (state_after s x) es e
     ∙ ap (λ t. state_after t e) (sym (later s x es _ (2 * length es) (omega arith)))
 
--- where no call is left the state stays
-pub state_at-end : (s : State) (es : List Event) (m : ℕ) → 2 * length es ≤ m → state_at s es m ≡ state_at s es (2 * length es)
-state_at-end s [] m le = refl
-state_at-end s (x ∷ es) zero le = absurd (omega arith)
-state_at-end s (x ∷ es) (suc zero) le = absurd (omega arith)
-state_at-end s (x ∷ es) (suc (suc m)) le = state_at-end (state_after s x) es m (omega arith) ∙ sym (later s x es _ (2 * length es) (omega arith))
-
 -- each write of a run begins within the size, where those before the last do, and the last
 pub begin_within-append : (s : State) (es : List Event) (e : Event) → begin_within s es ≡ true → begin_within (state_at s es (2 * length es)) (e ∷ []) ≡ true → begin_within s (es ++ e ∷ []) ≡ true
 begin_within-append s [] e ok last = last
@@ -51,26 +40,6 @@ begin_within-append s (Synced ∷ es) e ok last =
     begin_within-append (state_after s Synced) es e ok (ap (λ t. begin_within t (e ∷ [])) (sym (later s Synced es _ (2 * length es) (omega arith))) ∙ last)
 begin_within-append s (Unchanged ∷ es) e ok last =
     begin_within-append s es e ok (ap (λ t. begin_within t (e ∷ [])) (sym (later s Unchanged es _ (2 * length es) (omega arith))) ∙ last)
-
--- what a read gives may be left, whatever the moment
-pub seen-left : (s : State) (es : List Event) (m : ℕ) → begin_within s es ≡ true → left_in s s.seen → left_in (state_at s es m) (state_at s es m).seen
-seen-left s [] m ok now = now
-seen-left s (e ∷ es) zero ok now = now
-seen-left s (Wrote at bytes ∷ es) (suc zero) ok now = (s.seen, now, overwritten-torn at bytes s.seen (leb-true _ _ (and_parts (nat_le at (length s.seen)) _ ok).0))
-seen-left s (Synced ∷ es) (suc zero) ok now = now
-seen-left s (Unchanged ∷ es) (suc zero) ok now = now
-seen-left s (Wrote at bytes ∷ es) (suc (suc m)) ok now =
-    seen-left (state_after s (Wrote at bytes)) es m (and_parts (nat_le at (length s.seen)) _ ok).1 (s.seen, now, overwritten-torn at bytes s.seen (leb-true _ _ (and_parts (nat_le at (length s.seen)) _ ok).0))
-seen-left s (Synced ∷ es) (suc (suc m)) ok now = seen-left (state_after s Synced) es m ok refl
-seen-left s (Unchanged ∷ es) (suc (suc m)) ok now = seen-left s es m ok now
-
--- what a read gives is one of the images of the last moment
-pub seen-left_at : (first bytes : List ℕ) (es : List Event) (calls : ℕ) → length es ≤ calls → begin_within (settled_state first) es ≡ true → bytes ≡ seen_after first es → left_at first es (2 * calls) bytes
-seen-left_at first bytes es calls le ok is =
-    let s = settled_state first in
-    let P : State → Type 0 = λ t. left_in t bytes in
-    let Q : List ℕ → Type 0 = λ xs. left_in (state_at s es (2 * length es)) xs in
-    subst P (sym (state_at-end s es (2 * calls) (omega arith))) (subst Q (sym is) (seen-left s es (2 * length es) ok refl))
 
 -- The states around a call. Its event is added to the record, or the record is full and the call did nothing.
 module _ (s : State) (es more : List Event) (e : Event) (calls next room : ℕ) (grows : more ≡ with_one_more room es e) (long : length es ≡ min calls room) (long_next : length more ≡ min next room) (counted : next ≡ next_count calls) (full : room ≤ calls → e ≡ Unchanged) where
