@@ -6,3 +6,5 @@ pub mod OrderedCells
 pub mod Placing
 pub mod Skips
 pub mod Taken
+pub mod OwnLayout
+pub mod StandsStill

@@ -1,6 +1,9 @@
+pub mod Act
 pub mod Ballot
 pub mod BallotLine
 pub mod Build
+pub mod CastInvariant
+pub mod CastStep
 pub mod Damage
 pub mod Disk
 pub mod Election
@@ -11,4 +14,7 @@ pub mod Image
 pub mod Input
 pub mod Layout
 pub mod Medium
+pub mod Measure
+pub mod Phase
 pub mod Probe
+pub mod StepFigures

@@ -1,7 +1,11 @@
 //! The definitions that the whole store is proved against, and worked figures of them.
 #![tactic(auto)]
 
+mod step_figures;
+
 ghost use Rattle.store_spec.specs.Figures.{ExampleHomes, ExampleSizes, ExamplePlaces, ExampleLayout, ExampleImage, ExampleLines};
+
+pub use step_figures::{example_claims, example_outcome, example_race};
 
 /// The homes of some numbers under the example election.
 pub fn example_homes()

@@ -1,0 +1,16 @@
+//! The steps by which tabulators and withdrawers change shared words, as tables over states, and cores that make them
+//! one by one in any order.
+#![tactic(auto)]
+
+mod act;
+mod cast;
+mod cast_core;
+pub mod laws;
+mod shape;
+mod tabulator;
+
+pub use act::{Act, Stepped};
+pub use cast::{CastNote, CastState, cast_act, cast_after, cast_first};
+pub use cast_core::CastCore;
+pub use shape::Shape;
+pub use tabulator::CastMet;
