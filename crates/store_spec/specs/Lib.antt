@@ -14,3 +14,5 @@ pub mod Input
 pub mod Layout
 pub mod LineLaws
 pub mod Probe
+pub mod WithdrawInvariant
+pub mod WithdrawStep

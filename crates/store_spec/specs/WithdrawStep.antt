@@ -1,0 +1,97 @@
+-- The atomic steps of a withdrawer, a row of their table each. A step finds a value in one word, leaves that word or
+-- writes it, and changes the state of the withdrawer that makes it. The words of a withdrawing phase are its cells
+-- and, behind them, a flag for each cell.
+use Rattle.std.specs.Prelude.{◌≡◌, ◌≢◌, ℕ, ◌+◌, ◌-◌, ◌*◌, ◌<◌, ◌≤◌, ◌⊎◌, ⊤, List, [], ◌∷◌, ◌++◌}
+
+-- A withdrawer is at rest, or has a number. It has chosen a number, and walks up to where the number may stand; it
+-- owes one removal of a number, from the cell `bound` or one below; it looks for another number to fill the hole at
+-- `bound`, upwards and then down again, with a candidate that it saw in the cell `source`.
+pub data WithdrawState : Type 0 where
+  Rest : WithdrawState
+  Chosen : (number place : ℕ) → WithdrawState
+  Owing : (number bound : ℕ) → WithdrawState
+  Up : (number bound place : ℕ) → WithdrawState
+  Down : (number bound place candidate source : ℕ) → WithdrawState
+
+pub data WithdrawNote : Type 0 where
+  Quiet : WithdrawNote
+  Gone : WithdrawNote
+  Begun : WithdrawNote
+  Done : WithdrawNote
+
+-- A cell's word fits a hole that a number leaves: it is 0, or a lower number whose home is not past the hole.
+abbrev pub Fits : (ℕ → ℕ) → ℕ → ℕ → ℕ → Type 0
+Fits home x hole word = (word ≡ 0) ⊎ ((home word ≤ hole) × (word < x))
+
+-- The first step for a number is a swap of its flag to 1. What it finds there, the new state, and the note:
+pub data FirstRow (home : ℕ → ℕ) (x : ℕ) : ℕ → WithdrawState → WithdrawNote → Type 0 where
+  found_gone : FirstRow home x 1 Rest Gone
+  chose : FirstRow home x 0 (Chosen x (home x)) Quiet
+
+-- Each later step: the state, the cell, the words that the step finds there and leaves there, the new state, and
+-- the note.
+pub data WithdrawRow (home : ℕ → ℕ) : WithdrawState → ℕ → ℕ → ℕ → WithdrawState → WithdrawNote → Type 0 where
+  walked_on : {x place word : ℕ} → x < word → WithdrawRow home (Chosen x place) place word word (Chosen x (place + 1)) Quiet
+  began : {x place word : ℕ} → word ≤ x → WithdrawRow home (Chosen x place) place word word (Owing x place) Begun
+  found_owed : {x bound : ℕ} → WithdrawRow home (Owing x bound) bound x x (Up x bound (bound + 1)) Quiet
+  looked_lower : {x bound word : ℕ} → word ≢ x → WithdrawRow home (Owing x (bound + 1)) (bound + 1) word word (Owing x bound) Quiet
+  looked_higher : {x bound place word : ℕ} → ¬ Fits home x bound word → WithdrawRow home (Up x bound place) place word word (Up x bound (place + 1)) Quiet
+  found_candidate : {x bound place word : ℕ} → Fits home x bound word → WithdrawRow home (Up x bound (place + 1)) (place + 1) word word (Down x bound place word (place + 1)) Quiet
+  found_lower_candidate : {x bound place c source word : ℕ} → bound ≤ place → Fits home x bound word → WithdrawRow home (Down x bound (place + 1) c source) (place + 1) word word (Down x bound place word (place + 1)) Quiet
+  kept_candidate : {x bound place c source word : ℕ} → bound ≤ place → ¬ Fits home x bound word → WithdrawRow home (Down x bound (place + 1) c source) (place + 1) word word (Down x bound place c source) Quiet
+  emptied : {x bound source : ℕ} → WithdrawRow home (Down x bound bound 0 source) bound x 0 Rest Done
+  refilled : {x bound c source : ℕ} → c ≢ 0 → WithdrawRow home (Down x bound bound c source) bound x c (Owing c source) Quiet
+  lost : {x bound c source word : ℕ} → word ≢ x → WithdrawRow home (Down x (bound + 1) (bound + 1) c source) (bound + 1) word word (Owing x bound) Quiet
+
+-- ---- what a step needs of its state
+
+-- a number that is not 0, and places among so many cells
+abbrev pub IsWithin : ℕ → WithdrawState → Type 0
+IsWithin cells Rest = ⊤
+IsWithin cells (Chosen x place) = (x ≢ 0) × (place < cells)
+IsWithin cells (Owing x bound) = (x ≢ 0) × (bound < cells)
+IsWithin cells (Up x bound place) = (x ≢ 0) × (bound < place) × (place < cells)
+IsWithin cells (Down x bound place c source) = (x ≢ 0) × (bound ≤ place) × (place < cells) × (source < cells)
+
+-- where another word than the owed number is found at the bound, there is a cell below
+abbrev pub CanGoLower : WithdrawState → ℕ → Type 0
+CanGoLower (Owing x bound) word = word ≢ x → 0 < bound
+CanGoLower (Down x bound place c source) word = place ≡ bound → word ≢ x → 0 < bound
+CanGoLower state word = ⊤
+
+-- ---- how much is left to do
+
+-- The walk left, the owed number, its bound, and the cells left to read, of which an earlier one counts more.
+abbrev pub work_left : ℕ → WithdrawState → List ℕ
+work_left cells Rest = 0 ∷ 0 ∷ 0 ∷ 0 ∷ []
+work_left cells (Chosen x place) = (cells - place) ∷ 0 ∷ 0 ∷ 0 ∷ []
+work_left cells (Owing x bound) = 0 ∷ x ∷ bound ∷ 2 * cells ∷ []
+work_left cells (Up x bound place) = 0 ∷ x ∷ bound ∷ (2 * cells - place) ∷ []
+work_left cells (Down x bound place c source) = 0 ∷ x ∷ bound ∷ (place - bound) ∷ []
+
+-- ---- a withdrawer among others
+
+-- What the invariant knows of a withdrawer: its state, the numbers whose removal it has begun, and those that it
+-- found gone.
+pub record Withdrawer : Type 0 where
+  pub state : WithdrawState
+  pub begun : List ℕ
+  pub gone : List ℕ
+
+abbrev pub fresh : Withdrawer
+fresh = record { state = Rest; begun = []; gone = [] }
+
+-- the number that a state is about
+abbrev pub number_of : WithdrawState → ℕ
+number_of Rest = 0
+number_of (Chosen x place) = x
+number_of (Owing x bound) = x
+number_of (Up x bound place) = x
+number_of (Down x bound place c source) = x
+
+-- a withdrawer after a step for a number: the list that the note names has grown by the number
+abbrev pub noted : Withdrawer → ℕ → WithdrawState → WithdrawNote → Withdrawer
+noted w x state Quiet = record { state = state; begun = w.begun; gone = w.gone }
+noted w x state Done = record { state = state; begun = w.begun; gone = w.gone }
+noted w x state Gone = record { state = state; begun = w.begun; gone = w.gone ++ x ∷ [] }
+noted w x state Begun = record { state = state; begun = w.begun ++ x ∷ []; gone = w.gone }
