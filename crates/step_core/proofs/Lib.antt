@@ -5,3 +5,5 @@ pub mod WithdrawStates
 pub mod WithdrawFlags
 pub mod WithdrawQuiet
 pub mod WithdrawFirst
+pub mod WithdrawBegun
+pub mod WithdrawLowered

@@ -6,8 +6,8 @@ use Rattle.std.proofs.lemmas.List.Elements.{All-push}
 use Rattle.std.specs.List.{All, count_by}
 use Rattle.step_core.proofs.Copies.{hit, hit_yes, hit_no}
 use Rattle.step_core.proofs.Debts.{owed, chosen, debts_set, begun_set, chosen_set}
-use Rattle.step_core.proofs.WithdrawFlags.{flags_after, own_begun, own_gone, gone_on}
-use Rattle.step_core.proofs.WithdrawQuiet.{same_counts, same_but_flags}
+use Rattle.step_core.proofs.WithdrawFlags.{begun_stays, flags_after, own_begun, own_gone, gone_on}
+use Rattle.step_core.proofs.WithdrawQuiet.{same_but_flags}
 use Rattle.store_spec.specs.Layout.{IsOrdered}
 use Rattle.store_spec.specs.WithdrawInvariant.{copies, debts, times, times_begun, times_taken, walks_to, IsOf, IsLive, AreFlags, IsSound, Walks, cell_words, flag_words, WithdrawInvariant}
 use Rattle.store_spec.specs.WithdrawStep.{WithdrawState, Withdrawer}
@@ -57,9 +57,9 @@ module _ (home : ℕ → ℕ) (base words : List ℕ) (views : List Withdrawer) 
       let views' = set views id z in
       let flags = flag_words base words in
       let none : (y first : ℕ) → owed z.state y first ≡ owed w.state y first = λ y first. sym (rests_owe y first) in
-      let counts = same_counts home base words words views id w z lt at inv refl none in
+      let begun_same = begun_stays base views id w z lt at refl in
       let same : (y : ℕ) → times_taken views' y ≡ times_taken views y = λ y.
-      let begun = counts.begun y in let none_before = rests_choose y in omega (arith, chosen_set views id w z lt at y) in
+      let begun = begun_same y in let none_before = rests_choose y in omega (arith, chosen_set views id w z lt at y) in
       let once : (y : ℕ) → times_taken views' y ≤ 1 = λ y. let once = inv.flags.once y in let is = same y in omega arith in
       let grows : (y : ℕ) → times_taken views y ≤ times_taken views' y = λ y. let is = same y in omega arith in
       let unchanged : set words (length base + cell) 1 ≡ words = ap (λ v. set words (length base + cell) v) (sym was) ∙ set-get_or words (length base + cell) 0 in
@@ -79,9 +79,9 @@ module _ (home : ℕ → ℕ) (base words : List ℕ) (views : List Withdrawer) 
       let views' = set views id z in
       let flags = flag_words base words in
       let none : (y first : ℕ) → owed z.state y first ≡ owed w.state y first = λ y first. sym (rests_owe y first) in
-      let counts = same_counts home base words words views id w z lt at inv refl none in
+      let begun_same = begun_stays base views id w z lt at refl in
       let more : (y : ℕ) → times_taken views' y ≡ times_taken views y + hit y x = λ y.
-      let begun = counts.begun y in let none_before = rests_choose y in omega (arith, chosen_set views id w z lt at y) in
+      let begun = begun_same y in let none_before = rests_choose y in omega (arith, chosen_set views id w z lt at y) in
       let untaken : times_taken views x ≡ 0 = sym flag_is ∙ was in
       let other : (y : ℕ) → y ≢ x → times_taken views' y ≡ times_taken views y = λ y n. omega (arith, more y, hit_no y x (λ e. n (sym e))) in
       let now : times_taken views' x ≡ 1 = omega (arith, more x, hit_yes x x refl) in
