@@ -7,3 +7,4 @@ pub mod WithdrawQuiet
 pub mod WithdrawFirst
 pub mod WithdrawBegun
 pub mod WithdrawLowered
+pub mod WithdrawExchanged
