@@ -8,3 +8,4 @@ pub mod WithdrawFirst
 pub mod WithdrawBegun
 pub mod WithdrawLowered
 pub mod WithdrawExchanged
+pub mod WithdrawRows
