@@ -1,2 +1,4 @@
 pub mod Skips
 pub mod Taken
+pub mod OwnLayout
+pub mod StandsStill

@@ -10,6 +10,12 @@ pub fn ordered_cells_are_the_layout()
         → cells ≡ layout_of home count numbers }
 {}
 
+/// Ordered cells are the layout of the numbers in them, however many homes there are, and also where no cell is empty.
+pub fn ordered_cells_are_their_own_layout()
+    ensures { (home : ℕ → ℕ) (cells : List ℕ) → IsOrdered home cells
+        → cells ≡ layout_of home (length cells) (numbers_in cells) }
+{}
+
 /// The layout of a set is ordered, holds exactly the numbers of that set, and leaves its last cell empty.
 pub fn layout_is_ordered()
     ensures { (home : ℕ → ℕ) (homes count : ℕ) (numbers : List ℕ) → HasRoom home homes count numbers
@@ -57,6 +63,13 @@ pub fn greatest_number_is_at_home()
 pub fn a_number_passes_a_greater_one()
     ensures { (home : ℕ → ℕ) (cells : List ℕ) (v place : ℕ) → MayStand home cells v place
         → v < slice_index cells place → MayStand home cells v (place + 1) }
+{}
+
+/// A place at which a number may stand stays one where no cell falls.
+pub fn a_place_stays_where_no_cell_falls()
+    ensures { (home : ℕ → ℕ) (cells now : List ℕ) (v place : ℕ)
+        → ((k : ℕ) → slice_index cells k ≤ slice_index now k)
+        → MayStand home cells v place → MayStand home now v place }
 {}
 
 /// Ordered cells stay ordered where a number takes a place at which it may stand from a lower one, or from none.

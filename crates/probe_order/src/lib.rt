@@ -1,9 +1,14 @@
 //! Where the search for a ballot number begins.
 #![tactic(auto)]
 
+mod claim;
+pub mod laws;
+
 ghost use Rattle.std.specs.Prelude.{◌≡◌, ℕ, ◌^◌, ◌<◌, ◌≤◌};
 ghost use Rattle.store_spec.specs.Home.{home_of, MULTIPLIER};
 ghost use Rattle.probe_order.specs.Below.{home_of-lt};
+
+pub use claim::claim_place;
 
 /// 2 ^ 64 divided by the golden ratio, the multiplier of a Fibonacci hash.
 const MULTIPLIER: u64 = 0x9E37_79B9_7F4A_7C15;
@@ -59,7 +64,7 @@ impl Order for Salted {
 
 #[cfg(test)]
 mod tests {
-    use super::{Order, Salted};
+    use super::{Order, Salted, claim_place};
     use std::test::Fail;
 
     #[test]
@@ -79,6 +84,28 @@ mod tests {
         ];
         for (number, home) in rows {
             assert_eq!(rt; order.home(number), home, "the home of {number}");
+        }
+        Ok(())
+    }
+
+    #[test]
+    fn claim_words_of_the_example(rt: HostRuntime) -> Result<(), Fail> {
+        let rows = [
+            (1, 0, 8, 1),
+            (9, 0, 8, 1),
+            (9, 1, 8, 2),
+            (14, 1, 8, 7),
+            (14, 2, 8, 0),
+            (14, 7, 8, 5),
+            (u64::MAX, 0, 1, 0),
+            (u64::MAX, 5, 6, 2),
+        ];
+        for (number, tries, length, place) in rows {
+            assert_eq!(rt;
+                claim_place(number, tries, length),
+                place,
+                "try {tries} of {number}"
+            );
         }
         Ok(())
     }

@@ -1,7 +1,10 @@
+pub mod Act
 pub mod Ballot
 pub mod BallotLine
 pub mod Build
 pub mod BuildLaws
+pub mod CastInvariant
+pub mod CastStep
 pub mod Damage
 pub mod Disk
 pub mod Election
@@ -13,6 +16,9 @@ pub mod ImageLaws
 pub mod Input
 pub mod Layout
 pub mod LineLaws
+pub mod Measure
+pub mod Phase
 pub mod Probe
+pub mod StepFigures
 pub mod WithdrawInvariant
 pub mod WithdrawStep

@@ -6,10 +6,12 @@ mod disk;
 pub mod image;
 pub mod layout;
 pub mod line_laws;
+mod step_figures;
 
 ghost use Rattle.store_spec.specs.Figures.{ExampleHomes, ExampleSizes, ExampleLayout, ExampleImage, ExampleLines};
 
 pub use disk::{torn_again, torn_range, written_range};
+pub use step_figures::{example_claims, example_outcome, example_race};
 
 /// The homes of some numbers under the example election.
 pub fn example_homes()
