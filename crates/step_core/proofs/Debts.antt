@@ -8,7 +8,7 @@ use Rattle.std.specs.Prelude.{nat_lt}
 use Rattle.step_core.proofs.Copies.{hit, hit_yes, hit_no}
 use Rattle.step_core.proofs.WordSets.{two_within}
 use Rattle.store_spec.specs.WithdrawInvariant.{times, owes, debts, times_begun, walks_to, times_taken}
-use Rattle.store_spec.specs.WithdrawStep.{WithdrawState, Withdrawer, fresh}
+use Rattle.store_spec.specs.WithdrawStep.{WithdrawState, WithdrawView, fresh_view}
 use Rattle.store_spec.specs.WithdrawStep.WithdrawState.{Rest, Chosen, Owing, Up, Down}
 
 -- ---- one state
@@ -53,33 +53,33 @@ chosen state x = cond (walks_to state x) 1 0
 -- ---- all withdrawers
 
 -- from more cells more is owed
-pub debts_rise : (views : List Withdrawer) (x m n : ℕ) → m ≤ n → debts views x m ≤ debts views x n
+pub debts_rise : (views : List WithdrawView) (x m n : ℕ) → m ≤ n → debts views x m ≤ debts views x n
 debts_rise views x m n le = sum_by-le-sum_by (λ w. owed w.state x m) (λ w. owed w.state x n) views (λ w. owed_rises w.state x m n le)
 
-module _ (views : List Withdrawer) (id : ℕ) (w z : Withdrawer) (lt : id < length views) (at : get_or views id w ≡ w) where
+module _ (views : List WithdrawView) (id : ℕ) (w z : WithdrawView) (lt : id < length views) (at : get_or views id w ≡ w) where
   pub debts_set : (x first : ℕ) → debts (set views id z) x first + owed w.state x first ≡ debts views x first + owed z.state x first
-  debts_set x first = ap (λ (v : Withdrawer). debts (set views id z) x first + owed v.state x first) (sym at) ∙ sum_by-set (λ v. owed v.state x first) views id z w lt
+  debts_set x first = ap (λ (v : WithdrawView). debts (set views id z) x first + owed v.state x first) (sym at) ∙ sum_by-set (λ v. owed v.state x first) views id z w lt
 
   pub begun_set : (x : ℕ) → times_begun (set views id z) x + times w.begun x ≡ times_begun views x + times z.begun x
-  begun_set x = ap (λ (v : Withdrawer). times_begun (set views id z) x + times v.begun x) (sym at) ∙ sum_by-set (λ v. times v.begun x) views id z w lt
+  begun_set x = ap (λ (v : WithdrawView). times_begun (set views id z) x + times v.begun x) (sym at) ∙ sum_by-set (λ v. times v.begun x) views id z w lt
 
   pub chosen_set : (x : ℕ) → count_by (λ v. walks_to v.state x) (set views id z) + chosen w.state x ≡ count_by (λ v. walks_to v.state x) views + chosen z.state x
-  chosen_set x = ap (λ (v : Withdrawer). count_by (λ u. walks_to u.state x) (set views id z) + chosen v.state x) (sym at) ∙ sum_by-set (λ v. chosen v.state x) views id z w lt
+  chosen_set x = ap (λ (v : WithdrawView). count_by (λ u. walks_to u.state x) (set views id z) + chosen v.state x) (sym at) ∙ sum_by-set (λ v. chosen v.state x) views id z w lt
 
   -- what one owes is owed
   pub owed_within : (x first : ℕ) → owed w.state x first ≤ debts views x first
-  owed_within x first = subst (λ (v : Withdrawer). owed v.state x first ≤ debts views x first) at (get_or-le-sum_by (λ v. owed v.state x first) views id w lt)
+  owed_within x first = subst (λ (v : WithdrawView). owed v.state x first ≤ debts views x first) at (get_or-le-sum_by (λ v. owed v.state x first) views id w lt)
 
   pub begun_within : (x : ℕ) → times w.begun x ≤ times_begun views x
-  begun_within x = subst (λ (v : Withdrawer). times v.begun x ≤ times_begun views x) at (get_or-le-sum_by (λ v. times v.begun x) views id w lt)
+  begun_within x = subst (λ (v : WithdrawView). times v.begun x ≤ times_begun views x) at (get_or-le-sum_by (λ v. times v.begun x) views id w lt)
 
   pub chosen_within : (x : ℕ) → chosen w.state x ≤ count_by (λ v. walks_to v.state x) views
-  chosen_within x = subst (λ (v : Withdrawer). chosen v.state x ≤ count_by (λ u. walks_to u.state x) views) at (get_or-le-sum_by (λ v. chosen v.state x) views id w lt)
+  chosen_within x = subst (λ (v : WithdrawView). chosen v.state x ≤ count_by (λ u. walks_to u.state x) views) at (get_or-le-sum_by (λ v. chosen v.state x) views id w lt)
 
   -- another one has chosen the number too
-  pub chosen_twice : (x k : ℕ) (d : Withdrawer) → k < length views → k ≢ id → chosen w.state x + chosen (get_or views k d).state x ≤ count_by (λ v. walks_to v.state x) views
+  pub chosen_twice : (x k : ℕ) (d : WithdrawView) → k < length views → k ≢ id → chosen w.state x + chosen (get_or views k d).state x ≤ count_by (λ v. walks_to v.state x) views
   chosen_twice x k d within other =
-      subst (λ (v : Withdrawer). chosen v.state x + chosen (get_or views k d).state x ≤ count_by (λ u. walks_to u.state x) views)
+      subst (λ (v : WithdrawView). chosen v.state x + chosen (get_or views k d).state x ≤ count_by (λ u. walks_to u.state x) views)
       (get_or_default views id d w lt ∙ at)
       (two_within (λ v. chosen v.state x) views id k d lt within (λ e. other (sym e)))
 

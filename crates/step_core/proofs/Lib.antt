@@ -9,3 +9,4 @@ pub mod WithdrawBegun
 pub mod WithdrawLowered
 pub mod WithdrawExchanged
 pub mod WithdrawRows
+pub mod WithdrawSeats

@@ -9,11 +9,11 @@ use Rattle.step_core.proofs.WithdrawFlags.{flags_after, own_begun, own_gone, gon
 use Rattle.step_core.proofs.WithdrawStates.{Follows, sound_after}
 use Rattle.step_core.proofs.WordSets.{all_after_set}
 use Rattle.store_spec.specs.WithdrawInvariant.{copies, debts, times, times_begun, times_taken, walks_to, IsOf, IsLive, AreFlags, AreOwed, AreLowest, IsSound, Walks, cell_words, flag_words, WithdrawInvariant}
-use Rattle.store_spec.specs.WithdrawStep.{WithdrawState, Withdrawer}
+use Rattle.store_spec.specs.WithdrawStep.{WithdrawState, WithdrawView}
 use Rattle.store_spec.specs.WithdrawStep.WithdrawState.{Rest, Chosen, Owing}
 
-module _ (home : ℕ → ℕ) (base words : List ℕ) (views : List Withdrawer) (id : ℕ) (w : Withdrawer) (x place : ℕ) (lt : id < length views) (at : get_or views id w ≡ w) (inv : WithdrawInvariant home base words views) (walked : w.state ≡ Chosen x place) (stops : get_or (cell_words base words) place 0 ≤ x) where
-  begins : Withdrawer
+module _ (home : ℕ → ℕ) (base words : List ℕ) (views : List WithdrawView) (id : ℕ) (w : WithdrawView) (x place : ℕ) (lt : id < length views) (at : get_or views id w ≡ w) (inv : WithdrawInvariant home base words views) (walked : w.state ≡ Chosen x place) (stops : get_or (cell_words base words) place 0 ≤ x) where
+  begins : WithdrawView
   begins = record { state = Owing x place; begun = w.begun ++ x ∷ []; gone = w.gone }
 
   walks : Walks home base views x place
@@ -44,7 +44,7 @@ module _ (home : ℕ → ℕ) (base words : List ℕ) (views : List Withdrawer) 
   live_before y h = record { of_base = h.of_base; kept = let kept = h.kept in omega (arith, begun_more y) }
 
   -- nobody else walks to it
-  live_on : (y k : ℕ) (d : Withdrawer) → k < length views → k ≢ id → chosen (get_or views k d).state y ≡ 1 → IsLive base views y → IsLive base (set views id begins) y
+  live_on : (y k : ℕ) (d : WithdrawView) → k < length views → k ≢ id → chosen (get_or views k d).state y ≡ 1 → IsLive base views y → IsLive base (set views id begins) y
   live_on y k d within other walks_there h =
       let was : chosen w.state x ≡ 1 = ap (λ s. chosen s x) walked ∙ hit_yes x x refl in
       let twice = chosen_twice views id w w lt at x k d within other in

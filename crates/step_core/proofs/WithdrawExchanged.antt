@@ -10,7 +10,7 @@ use Rattle.step_core.proofs.WithdrawFlags.{begun_stays, live_before, live_on, fl
 use Rattle.step_core.proofs.WithdrawStates.{Follows, sound_after}
 use Rattle.step_core.proofs.WordSets.{all_after_set}
 use Rattle.store_spec.specs.WithdrawInvariant.{copies, debts, times_begun, IsOf, IsLive, AreFlags, AreCopies, AreOwed, AreLowest, IsSound, SearchesDown, cell_words, flag_words, WithdrawInvariant}
-use Rattle.store_spec.specs.WithdrawStep.{WithdrawState, Withdrawer}
+use Rattle.store_spec.specs.WithdrawStep.{WithdrawState, WithdrawView}
 use Rattle.store_spec.specs.WithdrawStep.WithdrawState.{Down}
 
 -- What the exchange does to the copies and the debts of a number among the first cells: nothing; a copy and a debt
@@ -46,11 +46,11 @@ module _ (c source y first a d a' d' : ℕ) where
   still_all (gains e near p q) begun far h = absurd (omega arith)
   still_all (gains_owed e far' p q) begun far h = omega arith
 
-module _ (home : ℕ → ℕ) (base words : List ℕ) (views : List Withdrawer) (id : ℕ) (w : Withdrawer) (x bound c source : ℕ) (next : WithdrawState) (lt : id < length views) (at : get_or views id w ≡ w) (inv : WithdrawInvariant home base words views) (searched : w.state ≡ Down x bound bound c source) (found : get_or (cell_words base words) bound 0 ≡ x) (as_owed : (y first : ℕ) → y ≢ 0 → owed next y first ≡ owed_to c source y first) (owes_none : (first : ℕ) → owed next 0 first ≡ 0) where
-  wins : Withdrawer
+module _ (home : ℕ → ℕ) (base words : List ℕ) (views : List WithdrawView) (id : ℕ) (w : WithdrawView) (x bound c source : ℕ) (next : WithdrawState) (lt : id < length views) (at : get_or views id w ≡ w) (inv : WithdrawInvariant home base words views) (searched : w.state ≡ Down x bound bound c source) (found : get_or (cell_words base words) bound 0 ≡ x) (as_owed : (y first : ℕ) → y ≢ 0 → owed next y first ≡ owed_to c source y first) (owes_none : (first : ℕ) → owed next 0 first ≡ 0) where
+  wins : WithdrawView
   wins = record { state = next; begun = w.begun; gone = w.gone }
 
-  abbrev after : List Withdrawer
+  abbrev after : List WithdrawView
   after = set views id wins
 
   abbrev cells : List ℕ
@@ -207,7 +207,7 @@ module _ (home : ℕ → ℕ) (base words : List ℕ) (views : List Withdrawer) 
       }
 
   -- The new state is sound whatever the cells are: at rest, or owing the candidate.
-  pub exchange : ((x : ℕ) → chosen next x ≡ 0) → ((cells : List ℕ) (views : List Withdrawer) → IsSound home base cells views next) → WithdrawInvariant home base (set words bound c) (set views id (record { state = next; begun = w.begun; gone = w.gone }))
+  pub exchange : ((x : ℕ) → chosen next x ≡ 0) → ((cells : List ℕ) (views : List WithdrawView) → IsSound home base cells views next) → WithdrawInvariant home base (set words bound c) (set views id (record { state = next; begun = w.begun; gone = w.gone }))
   unfolding wins
   exchange unchosen sound =
       let low = search.owed.within in

@@ -10,7 +10,7 @@ use Rattle.step_core.proofs.WithdrawFlags.{begun_stays, flags_after, own_begun, 
 use Rattle.step_core.proofs.WithdrawQuiet.{same_but_flags}
 use Rattle.store_spec.specs.Layout.{IsOrdered}
 use Rattle.store_spec.specs.WithdrawInvariant.{copies, debts, times, times_begun, times_taken, walks_to, IsOf, IsLive, AreFlags, IsSound, Walks, cell_words, flag_words, WithdrawInvariant}
-use Rattle.store_spec.specs.WithdrawStep.{WithdrawState, Withdrawer}
+use Rattle.store_spec.specs.WithdrawStep.{WithdrawState, WithdrawView}
 use Rattle.store_spec.specs.WithdrawStep.WithdrawState.{Rest, Chosen}
 
 -- in ordered cells a number stands in one place
@@ -24,7 +24,7 @@ one_place home cells x p q h some at_p at_q =
     let no : ⊥ = omega arith in no in
     ⊎_elim (λ e. e) (λ s. ⊎_elim (λ lt. absurd (earlier p q at_p at_q lt)) (λ lt. absurd (earlier q p at_q at_p lt)) s) (cases_order p q)
 
-module _ (home : ℕ → ℕ) (base words : List ℕ) (views : List Withdrawer) (id : ℕ) (w : Withdrawer) (x cell : ℕ) (lt : id < length views) (at : get_or views id w ≡ w) (inv : WithdrawInvariant home base words views) (rests : w.state ≡ Rest) (some : x ≢ 0) (stands : get_or base cell 0 ≡ x) where
+module _ (home : ℕ → ℕ) (base words : List ℕ) (views : List WithdrawView) (id : ℕ) (w : WithdrawView) (x cell : ℕ) (lt : id < length views) (at : get_or views id w ≡ w) (inv : WithdrawInvariant home base words views) (rests : w.state ≡ Rest) (some : x ≢ 0) (stands : get_or base cell 0 ≡ x) where
   within : cell < length base
   within = ⊎_elim (λ lt. lt) (λ (past : length base ≤ cell). absurd (some (sym stands ∙ get_or_past base cell 0 past))) (cases_lt cell (length base))
 
@@ -53,7 +53,7 @@ module _ (home : ℕ → ℕ) (base words : List ℕ) (views : List Withdrawer) 
   -- the number was taken: it is found gone
   pub first_late : get_or words (length base + cell) 0 ≡ 1 → WithdrawInvariant home base (set words (length base + cell) 1) (set views id (record { state = Rest; begun = w.begun; gone = w.gone ++ x ∷ [] }))
   first_late was =
-      let z : Withdrawer = record { state = Rest; begun = w.begun; gone = w.gone ++ x ∷ [] } in
+      let z : WithdrawView = record { state = Rest; begun = w.begun; gone = w.gone ++ x ∷ [] } in
       let views' = set views id z in
       let flags = flag_words base words in
       let none : (y first : ℕ) → owed z.state y first ≡ owed w.state y first = λ y first. sym (rests_owe y first) in
@@ -75,7 +75,7 @@ module _ (home : ℕ → ℕ) (base words : List ℕ) (views : List Withdrawer) 
   -- it was not: it is chosen
   pub first_chooses : get_or words (length base + cell) 0 ≡ 0 → WithdrawInvariant home base (set words (length base + cell) 1) (set views id (record { state = Chosen x (home x); begun = w.begun; gone = w.gone }))
   first_chooses was =
-      let z : Withdrawer = record { state = Chosen x (home x); begun = w.begun; gone = w.gone } in
+      let z : WithdrawView = record { state = Chosen x (home x); begun = w.begun; gone = w.gone } in
       let views' = set views id z in
       let flags = flag_words base words in
       let none : (y first : ℕ) → owed z.state y first ≡ owed w.state y first = λ y first. sym (rests_owe y first) in

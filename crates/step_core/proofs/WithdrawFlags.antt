@@ -5,14 +5,14 @@ use Rattle.std.specs.List.{All}
 use Rattle.step_core.proofs.Debts.{chosen, begun_set, chosen_set}
 use Rattle.step_core.proofs.WordSets.{all_after_set}
 use Rattle.store_spec.specs.WithdrawInvariant.{times, times_begun, times_taken, IsOf, IsLive, AreFlags}
-use Rattle.store_spec.specs.WithdrawStep.{Withdrawer}
+use Rattle.store_spec.specs.WithdrawStep.{WithdrawView}
 
-module _ (base flags flags' : List ℕ) (views : List Withdrawer) (id : ℕ) (w z : Withdrawer) (lt : id < length views) (at : get_or views id w ≡ w) (h : AreFlags base flags views) where
+module _ (base flags flags' : List ℕ) (views : List WithdrawView) (id : ℕ) (w z : WithdrawView) (lt : id < length views) (at : get_or views id w ≡ w) (h : AreFlags base flags views) where
   pub own_begun : All (IsOf base) w.begun
-  own_begun = subst (λ (v : Withdrawer). All (IsOf base) v.begun) at (h.begun id w lt)
+  own_begun = subst (λ (v : WithdrawView). All (IsOf base) v.begun) at (h.begun id w lt)
 
   pub own_gone : All (λ x. IsOf base x × (times_taken views x ≡ 1)) w.gone
-  own_gone = subst (λ (v : Withdrawer). All (λ x. IsOf base x × (times_taken views x ≡ 1)) v.gone) at (h.gone id w lt)
+  own_gone = subst (λ (v : WithdrawView). All (λ x. IsOf base x × (times_taken views x ≡ 1)) v.gone) at (h.gone id w lt)
 
   -- what was found gone stays taken
   pub gone_on : (gone : List ℕ) → ((x : ℕ) → times_taken views x ≤ times_taken (set views id z) x) → ((x : ℕ) → times_taken (set views id z) x ≤ 1) → All (λ x. IsOf base x × (times_taken views x ≡ 1)) gone → All (λ x. IsOf base x × (times_taken (set views id z) x ≡ 1)) gone
@@ -30,7 +30,7 @@ module _ (base flags flags' : List ℕ) (views : List Withdrawer) (id : ℕ) (w 
   }
 
 -- a step that begins no removal
-module _ (base : List ℕ) (views : List Withdrawer) (id : ℕ) (w z : Withdrawer) (lt : id < length views) (at : get_or views id w ≡ w) (begun : z.begun ≡ w.begun) where
+module _ (base : List ℕ) (views : List WithdrawView) (id : ℕ) (w z : WithdrawView) (lt : id < length views) (at : get_or views id w ≡ w) (begun : z.begun ≡ w.begun) where
   pub begun_stays : (x : ℕ) → times_begun (set views id z) x ≡ times_begun views x
   begun_stays x = let was : times z.begun x ≡ times w.begun x = ap (λ l. times l x) begun in omega (arith, begun_set views id w z lt at x)
 

@@ -9,14 +9,14 @@ use Rattle.step_core.proofs.WithdrawFlags.{begun_stays, live_before, live_on, fl
 use Rattle.step_core.proofs.WithdrawStates.{Follows, sound_after}
 use Rattle.step_core.proofs.WordSets.{all_after_set}
 use Rattle.store_spec.specs.WithdrawInvariant.{copies, debts, IsLive, AreOwed, AreLowest, IsSound, Owes, cell_words, flag_words, WithdrawInvariant}
-use Rattle.store_spec.specs.WithdrawStep.{WithdrawState, Withdrawer}
+use Rattle.store_spec.specs.WithdrawStep.{WithdrawState, WithdrawView}
 use Rattle.store_spec.specs.WithdrawStep.WithdrawState.{Owing}
 
-module _ (home : ℕ → ℕ) (base words : List ℕ) (views : List Withdrawer) (id : ℕ) (w : Withdrawer) (x bound : ℕ) (lt : id < length views) (at : get_or views id w ≡ w) (inv : WithdrawInvariant home base words views) (as_owed : (y first : ℕ) → owed w.state y first ≡ owed_to x (bound + 1) y first) (unchosen : (y : ℕ) → chosen w.state y ≡ 0) (owes : Owes base x (bound + 1)) (missed : get_or (cell_words base words) (bound + 1) 0 ≢ x) where
-  lowers : Withdrawer
+module _ (home : ℕ → ℕ) (base words : List ℕ) (views : List WithdrawView) (id : ℕ) (w : WithdrawView) (x bound : ℕ) (lt : id < length views) (at : get_or views id w ≡ w) (inv : WithdrawInvariant home base words views) (as_owed : (y first : ℕ) → owed w.state y first ≡ owed_to x (bound + 1) y first) (unchosen : (y : ℕ) → chosen w.state y ≡ 0) (owes : Owes base x (bound + 1)) (missed : get_or (cell_words base words) (bound + 1) 0 ≢ x) where
+  lowers : WithdrawView
   lowers = record { state = Owing x bound; begun = w.begun; gone = w.gone }
 
-  abbrev after : List Withdrawer
+  abbrev after : List WithdrawView
   after = set views id lowers
 
   debts_more : (y first : ℕ) → debts after y first + owed_to x (bound + 1) y first ≡ debts views y first + owed_to x bound y first

@@ -6,9 +6,9 @@ use Rattle.step_core.proofs.WithdrawFlags.{begun_stays, live_before, live_on, fl
 use Rattle.step_core.proofs.WithdrawStates.{Follows, sound_after}
 use Rattle.step_core.proofs.WordSets.{all_after_set}
 use Rattle.store_spec.specs.WithdrawInvariant.{debts, AreFlags, AreCopies, AreOwed, AreLowest, IsSound, cell_words, flag_words, WithdrawInvariant}
-use Rattle.store_spec.specs.WithdrawStep.{WithdrawState, Withdrawer}
+use Rattle.store_spec.specs.WithdrawStep.{WithdrawState, WithdrawView}
 
-module _ (home : ℕ → ℕ) (base words words' : List ℕ) (views : List Withdrawer) (id : ℕ) (w z : Withdrawer) (lt : id < length views) (at : get_or views id w ≡ w) (inv : WithdrawInvariant home base words views) (begun : z.begun ≡ w.begun) (as_owed : (x first : ℕ) → owed z.state x first ≡ owed w.state x first) where
+module _ (home : ℕ → ℕ) (base words words' : List ℕ) (views : List WithdrawView) (id : ℕ) (w z : WithdrawView) (lt : id < length views) (at : get_or views id w ≡ w) (inv : WithdrawInvariant home base words views) (begun : z.begun ≡ w.begun) (as_owed : (x first : ℕ) → owed z.state x first ≡ owed w.state x first) where
   debts_stay : (x first : ℕ) → debts (set views id z) x first ≡ debts views x first
   debts_stay x first = let was = as_owed x first in omega (arith, debts_set views id w z lt at x first)
 

@@ -8,16 +8,19 @@ use Rattle.step_core.proofs.Copies.{copies_rise, copy_here, copy_elsewhere}
 use Rattle.step_core.proofs.Debts.{owed, owed_to, owed_other, chosen}
 use Rattle.step_core.proofs.WithdrawBegun.{walk_begins}
 use Rattle.step_core.proofs.WithdrawExchanged.{exchange}
+use Rattle.step_core.proofs.WithdrawFirst.{first_late, first_chooses}
 use Rattle.step_core.proofs.WithdrawLowered.{lower}
 use Rattle.step_core.proofs.WithdrawQuiet.{quiet}
-use Rattle.step_core.specs.WithdrawLaws.{Keeps}
+use Rattle.step_core.specs.WithdrawKept.{IsKept}
 use Rattle.store_spec.specs.WithdrawInvariant.{copies, IsLive, IsSound, Owes, SearchesDown, cell_words, WithdrawInvariant}
-use Rattle.store_spec.specs.WithdrawStep.{WithdrawState, WithdrawNote, Withdrawer, Fits, WithdrawRow, number_of}
+use Rattle.store_spec.specs.WithdrawStep.{WithdrawState, WithdrawNote, WithdrawView, Fits, WithdrawRow, FirstRow, IsSeated, WithdrawMove, WithdrawStep, number_of, view_after}
+use Rattle.store_spec.specs.WithdrawStep.FirstRow.{found_gone, chose}
+use Rattle.store_spec.specs.WithdrawStep.WithdrawMove.{begins, goes_on}
 use Rattle.store_spec.specs.WithdrawStep.WithdrawState.{Rest, Chosen, Owing, Up, Down}
 use Rattle.store_spec.specs.WithdrawStep.WithdrawNote.{Quiet, Gone, Begun, Done}
 use Rattle.store_spec.specs.WithdrawStep.WithdrawRow.{walked_on, began, found_owed, looked_lower, looked_higher, found_candidate, found_lower_candidate, kept_candidate, emptied, refilled, lost}
 
-module _ (home : ℕ → ℕ) (base words : List ℕ) (views : List Withdrawer) (inv : WithdrawInvariant home base words views) where
+module _ (home : ℕ → ℕ) (base words : List ℕ) (views : List WithdrawView) (inv : WithdrawInvariant home base words views) where
   abbrev cells : List ℕ
   cells = cell_words base words
 
@@ -83,7 +86,7 @@ module _ (home : ℕ → ℕ) (base words : List ℕ) (views : List Withdrawer) 
             (cases_eq word y);
       }
 
-  module _ (id : ℕ) (w : Withdrawer) (state : WithdrawState) (has : slice_get views id ≡ Some w) (is : w.state ≡ state) where
+  module _ (id : ℕ) (w : WithdrawView) (state : WithdrawState) (has : slice_get views id ≡ Some w) (is : w.state ≡ state) where
     within : id < length views
     within = slice_get_within views id w has
 
@@ -96,7 +99,7 @@ module _ (home : ℕ → ℕ) (base words : List ℕ) (views : List Withdrawer) 
     -- a look: no word changes, and the new state owes and has chosen what the old one did
     look : (place word : ℕ) (next : WithdrawState) → get_or words place 0 ≡ word → ((x first : ℕ) → owed next x first ≡ owed state x first) → ((x : ℕ) → chosen next x ≡ chosen state x) → IsSound home base cells views next → WithdrawInvariant home base (set words place word) (set views id (record { state = next; begun = w.begun; gone = w.gone }))
     look place word next here as_owed as_chosen good =
-        let z : Withdrawer = record { state = next; begun = w.begun; gone = w.gone } in
+        let z : WithdrawView = record { state = next; begun = w.begun; gone = w.gone } in
         subst (λ (l : List ℕ). WithdrawInvariant home base l (set views id z))
         (sym (ap (λ v. set words place v) (sym here) ∙ set-get_or words place 0))
         (quiet home base words words views id w z within at inv refl (λ x first. as_owed x first ∙ sym (ap (λ s. owed s x first) is)) refl (λ x. as_chosen x ∙ sym (ap (λ s. chosen s x) is)) good)
@@ -106,8 +109,8 @@ module _ (home : ℕ → ℕ) (base words : List ℕ) (views : List Withdrawer) 
 
   -- ---- the rows
 
-  module _ (id : ℕ) (w : Withdrawer) (has : slice_get views id ≡ Some w) where
-    abbrev moved : WithdrawState → List Withdrawer
+  module _ (id : ℕ) (w : WithdrawView) (has : slice_get views id ≡ Some w) where
+    abbrev moved : WithdrawState → List WithdrawView
     moved next = set views id (record { state = next; begun = w.begun; gone = w.gone })
 
     keeps_walked_on : (x place word : ℕ) → x < word → w.state ≡ Chosen x place → get_or words place 0 ≡ word → WithdrawInvariant home base (set words place word) (moved (Chosen x (place + 1)))
@@ -122,7 +125,7 @@ module _ (home : ℕ → ℕ) (base words : List ℕ) (views : List Withdrawer) 
     keeps_began x place word stops is here =
         let s = sound id w (Chosen x place) has is in
         let there : get_or cells place 0 ≡ word = seen id w (Chosen x place) has is place word s.within here in
-        let z : Withdrawer = record { state = Owing x place; begun = w.begun ++ x ∷ []; gone = w.gone } in
+        let z : WithdrawView = record { state = Owing x place; begun = w.begun ++ x ∷ []; gone = w.gone } in
         subst (λ (l : List ℕ). WithdrawInvariant home base l (set views id z))
         (sym (ap (λ v. set words place v) (sym here) ∙ set-get_or words place 0))
         (walk_begins home base words views id w x place (within id w (Chosen x place) has is) (at id w (Chosen x place) has is) inv is (omega arith))
@@ -201,7 +204,7 @@ module _ (home : ℕ → ℕ) (base words : List ℕ) (views : List Withdrawer) 
 
 -- ---- any row
 
-pub keeps_row : (home : ℕ → ℕ) (base : List ℕ) (state : WithdrawState) (cell found left : ℕ) (next : WithdrawState) (note : WithdrawNote) → WithdrawRow home state cell found left next note → Keeps home base (number_of state) state cell found left next note
+pub keeps_row : (home : ℕ → ℕ) (base : List ℕ) (state : WithdrawState) (cell found left : ℕ) (next : WithdrawState) (note : WithdrawNote) → WithdrawRow home state cell found left next note → IsKept home base (number_of state) state cell found left next note
 keeps_row home base _ _ _ _ _ _ (walked_on {x} {place} {word} less) words views id w inv has is here = keeps_walked_on home base words views inv id w has x place word less is here
 keeps_row home base _ _ _ _ _ _ (began {x} {place} {word} stops) words views id w inv has is here = keeps_began home base words views inv id w has x place word stops is here
 keeps_row home base _ _ _ _ _ _ (found_owed {x} {bound}) words views id w inv has is here = keeps_found_owed home base words views inv id w has x bound is here
@@ -213,3 +216,17 @@ keeps_row home base _ _ _ _ _ _ (kept_candidate {x} {bound} {place} {c} {source}
 keeps_row home base _ _ _ _ _ _ (emptied {x} {bound} {source}) words views id w inv has is here = keeps_emptied home base words views inv id w has x bound source is here
 keeps_row home base _ _ _ _ _ _ (refilled {x} {bound} {c} {source} some) words views id w inv has is here = keeps_refilled home base words views inv id w has x bound c source some is here
 keeps_row home base _ _ _ _ _ _ (lost {x} {bound} {c} {source} {word} other) words views id w inv has is here = keeps_lost home base words views inv id w has x bound c source word other is here
+
+pub keeps_first : (home : ℕ → ℕ) (base : List ℕ) (x cell found : ℕ) (new : WithdrawState) (note : WithdrawNote) → IsSeated base x cell → FirstRow home x found new note → IsKept home base x Rest (length base + cell) found 1 new note
+keeps_first home base x cell _ _ _ seated found_gone words views id w inv has is here = first_late home base words views id w x cell (slice_get_within views id w has) (get_or_from_slice_get views id w w has) inv is seated.some seated.stands here
+keeps_first home base x cell _ _ _ seated chose words views id w inv has is here = first_chooses home base words views id w x cell (slice_get_within views id w has) (get_or_from_slice_get views id w w has) inv is seated.some seated.stands here
+
+pub keeps_move : (home : ℕ → ℕ) (base : List ℕ) (from : WithdrawState) (x word found left : ℕ) (new : WithdrawState) (note : WithdrawNote) → WithdrawMove home base from x word found left new note → IsKept home base x from word found left new note
+keeps_move home base _ _ _ _ _ _ _ (begins {x} {cell} {found} {new} {note} seated row) = keeps_first home base x cell found new note seated row
+keeps_move home base _ _ _ _ _ _ _ (goes_on {state} {cell} {found} {left} {new} {note} row) = keeps_row home base state cell found left new note row
+
+pub keeps_step : (home : ℕ → ℕ) (base words : List ℕ) (views : List WithdrawView) (id : ℕ) (now : List ℕ) (views_now : List WithdrawView) → WithdrawStep home base words views id now views_now → WithdrawInvariant home base words views → WithdrawInvariant home base now views_now
+keeps_step home base words views id now views_now s inv =
+    let kept = keeps_move home base s.view.state s.number s.word (get_or words s.word 0) s.left s.new s.note s.move words views id s.view inv s.acts refl refl in
+    subst (λ (l : List ℕ). WithdrawInvariant home base l views_now) (sym s.words_now)
+    (subst (λ (l : List WithdrawView). WithdrawInvariant home base (set words s.word s.left) l) (sym s.view_now) kept)

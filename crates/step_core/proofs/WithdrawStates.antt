@@ -3,17 +3,17 @@ use Rattle.std.proofs.Common.{◌≡◌, ◌≢◌, ℕ, ◌+◌, ◌<◌, ◌�
 use Rattle.step_core.proofs.Copies.{hit_yes}
 use Rattle.step_core.proofs.Debts.{chosen}
 use Rattle.store_spec.specs.WithdrawInvariant.{copies, IsLive, IsSound, Walks, Owes, SearchesUp, SearchesDown}
-use Rattle.store_spec.specs.WithdrawStep.{WithdrawState, Withdrawer}
+use Rattle.store_spec.specs.WithdrawStep.{WithdrawState, WithdrawView}
 use Rattle.store_spec.specs.WithdrawStep.WithdrawState.{Rest, Chosen, Owing, Up, Down}
 
 -- How a step changes what the withdrawers rest on: no number comes to life, words only fall, and the lowest copy of a
 -- live number does not rise.
-pub record Follows (base cells : List ℕ) (views : List Withdrawer) (cells' : List ℕ) (views' : List Withdrawer) : Type 0 where
+pub record Follows (base cells : List ℕ) (views : List WithdrawView) (cells' : List ℕ) (views' : List WithdrawView) : Type 0 where
   pub live : (x : ℕ) → IsLive base views' x → IsLive base views x
   pub falls : (place : ℕ) → get_or cells' place 0 ≤ get_or cells place 0
   pub kept : (x first : ℕ) → IsLive base views' x → 0 < copies cells x first → 0 < copies cells' x first
 
-module _ (home : ℕ → ℕ) (base cells : List ℕ) (views : List Withdrawer) (cells' : List ℕ) (views' : List Withdrawer) (h : Follows base cells views cells' views') where
+module _ (home : ℕ → ℕ) (base cells : List ℕ) (views : List WithdrawView) (cells' : List ℕ) (views' : List WithdrawView) (h : Follows base cells views cells' views') where
   still_up : (x bound place : ℕ) → SearchesUp base cells x bound place → SearchesUp base cells' x bound place
   still_up x bound place s = record {
     owed = s.owed;

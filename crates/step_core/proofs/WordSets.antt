@@ -1,5 +1,5 @@
 -- Lists and sums after one element is set.
-use Rattle.std.proofs.Common.{◌≡◌, ◌≢◌, ◌==◌, ℕ, zero, suc, ◌+◌, ◌<◌, ◌≤◌, ⊎_elim, Bool, true, false, cond, if◌then◌else◌, List, [], ◌∷◌, ◌++◌, length, get_or, set, take, drop, Option, Some, sym, refl, ap, ◌∙◌, subst, arith}
+use Rattle.std.proofs.Common.{◌≡◌, ◌≢◌, ◌==◌, ℕ, zero, suc, ◌+◌, ◌<◌, ◌≤◌, ⊎_elim, Bool, true, false, cond, if◌then◌else◌, List, [], ◌∷◌, ◌++◌, length, get_or, set, replicate, sym, refl, ap, ◌∙◌, subst, arith}
 use Rattle.std.proofs.lemmas.Bool.{cases_eq, cases_lt}
 use Rattle.std.proofs.lemmas.List.{get_or_default, get_or-set_other, get_or-set_same, length-set}
 use Rattle.std.proofs.lemmas.List.Sums.{sum_by-set, sum_by-cons, get_or-le-sum_by}
@@ -34,3 +34,17 @@ sum_below f g [] h = omega arith
 sum_below f g (x ∷ xs) h =
     let rest = sum_below f g xs h in let here = h x in
     omega (arith, sum_by-cons f x xs, sum_by-cons g x xs)
+
+-- a sum of nothing but 0
+pub sum_none : {X : Type 0} (f : X → ℕ) (xs : List X) → All (λ x. f x ≡ 0) xs → sum_by f xs ≡ 0
+sum_none f [] h = refl
+sum_none f (x ∷ xs) h =
+    let here : f x ≡ 0 = h 0 x (omega arith) in
+    let rest = sum_none f xs (λ k d lt. h (suc k) d (omega arith)) in
+    omega (arith, sum_by-cons f x xs)
+
+-- empty cells are empty
+pub zero_cell : (count place : ℕ) → get_or (replicate {A = ℕ} count 0) place 0 ≡ 0
+zero_cell zero place = refl
+zero_cell (suc count) zero = refl
+zero_cell (suc count) (suc place) = zero_cell count place

@@ -1,1 +1,1 @@
-pub mod WithdrawLaws
+pub mod WithdrawKept

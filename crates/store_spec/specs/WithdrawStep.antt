@@ -1,7 +1,9 @@
 -- The atomic steps of a withdrawer, a row of their table each. A step finds a value in one word, leaves that word or
 -- writes it, and changes the state of the withdrawer that makes it. The words of a withdrawing phase are its cells
 -- and, behind them, a flag for each cell.
-use Rattle.std.specs.Prelude.{◌≡◌, ◌≢◌, ℕ, ◌+◌, ◌-◌, ◌*◌, ◌<◌, ◌≤◌, ◌⊎◌, ⊤, List, [], ◌∷◌, ◌++◌}
+use Rattle.std.specs.Prelude.{◌≡◌, ◌≢◌, ℕ, ◌+◌, ◌-◌, ◌*◌, ◌<◌, ◌≤◌, ◌==◌, ◌⊎◌, ⊤, if◌then◌else◌, List, [], ◌∷◌, ◌++◌, length, Some, slice_get, slice_index, slice_set}
+use Rattle.store_spec.specs.Act.{Act}
+use Rattle.store_spec.specs.Act.Act.{Nothing, Load, Trade}
 
 -- A withdrawer is at rest, or has a number. It has chosen a number, and walks up to where the number may stand; it
 -- owes one removal of a number, from the cell `bound` or one below; it looks for another number to fill the hole at
@@ -43,6 +45,14 @@ pub data WithdrawRow (home : ℕ → ℕ) : WithdrawState → ℕ → ℕ → �
   refilled : {x bound c source : ℕ} → c ≢ 0 → WithdrawRow home (Down x bound bound c source) bound x c (Owing c source) Quiet
   lost : {x bound c source word : ℕ} → word ≢ x → WithdrawRow home (Down x (bound + 1) (bound + 1) c source) (bound + 1) word word (Owing x bound) Quiet
 
+-- what the next step does to a word; what it leaves there is what the row says
+abbrev pub withdraw_act : WithdrawState → Act
+withdraw_act Rest = Nothing
+withdraw_act (Chosen x place) = Load place
+withdraw_act (Owing x bound) = Load bound
+withdraw_act (Up x bound place) = Load place
+withdraw_act (Down x bound place c source) = if place == bound then Trade bound x c else Load place
+
 -- ---- what a step needs of its state
 
 -- a number that is not 0, and places among so many cells
@@ -59,29 +69,28 @@ CanGoLower (Owing x bound) word = word ≢ x → 0 < bound
 CanGoLower (Down x bound place c source) word = place ≡ bound → word ≢ x → 0 < bound
 CanGoLower state word = ⊤
 
--- ---- how much is left to do
-
--- The walk left, the owed number, its bound, and the cells left to read, of which an earlier one counts more.
-abbrev pub work_left : ℕ → WithdrawState → List ℕ
-work_left cells Rest = 0 ∷ 0 ∷ 0 ∷ 0 ∷ []
-work_left cells (Chosen x place) = (cells - place) ∷ 0 ∷ 0 ∷ 0 ∷ []
-work_left cells (Owing x bound) = 0 ∷ x ∷ bound ∷ 2 * cells ∷ []
-work_left cells (Up x bound place) = 0 ∷ x ∷ bound ∷ (2 * cells - place) ∷ []
-work_left cells (Down x bound place c source) = 0 ∷ x ∷ bound ∷ (place - bound) ∷ []
+-- What is left of the steps for a number: the walk, the owed number, its bound, and the cells to read. Of these an
+-- earlier one counts more.
+abbrev pub withdraw_measure : ℕ → WithdrawState → List ℕ
+withdraw_measure cells Rest = 0 ∷ 0 ∷ 0 ∷ 0 ∷ []
+withdraw_measure cells (Chosen x place) = (cells - place) ∷ 0 ∷ 0 ∷ 0 ∷ []
+withdraw_measure cells (Owing x bound) = 0 ∷ x ∷ bound ∷ 2 * cells ∷ []
+withdraw_measure cells (Up x bound place) = 0 ∷ x ∷ bound ∷ (2 * cells - place) ∷ []
+withdraw_measure cells (Down x bound place c source) = 0 ∷ x ∷ bound ∷ (place - bound) ∷ []
 
 -- ---- a withdrawer among others
 
--- What the invariant knows of a withdrawer: its state, the numbers whose removal it has begun, and those that it
--- found gone.
-pub record Withdrawer : Type 0 where
+-- What is kept of a withdrawer: its state, the numbers whose removal it has begun, and those that it found gone.
+pub record WithdrawView : Type 0 where
   pub state : WithdrawState
   pub begun : List ℕ
   pub gone : List ℕ
 
-abbrev pub fresh : Withdrawer
-fresh = record { state = Rest; begun = []; gone = [] }
+-- a withdrawer that is new, or whose numbers were handed to another
+abbrev pub fresh_view : WithdrawView
+fresh_view = record { state = Rest; begun = []; gone = [] }
 
--- the number that a state is about
+-- the number that a state is about, and 0 at rest
 abbrev pub number_of : WithdrawState → ℕ
 number_of Rest = 0
 number_of (Chosen x place) = x
@@ -89,9 +98,33 @@ number_of (Owing x bound) = x
 number_of (Up x bound place) = x
 number_of (Down x bound place c source) = x
 
--- a withdrawer after a step for a number: the list that the note names has grown by the number
-abbrev pub noted : Withdrawer → ℕ → WithdrawState → WithdrawNote → Withdrawer
-noted w x state Quiet = record { state = state; begun = w.begun; gone = w.gone }
-noted w x state Done = record { state = state; begun = w.begun; gone = w.gone }
-noted w x state Gone = record { state = state; begun = w.begun; gone = w.gone ++ x ∷ [] }
-noted w x state Begun = record { state = state; begun = w.begun ++ x ∷ []; gone = w.gone }
+-- the view after a step for a number: the new state, and the number in the list that the note names
+abbrev pub view_after : WithdrawView → ℕ → WithdrawState → WithdrawNote → WithdrawView
+view_after view x new Quiet = record { state = new; begun = view.begun; gone = view.gone }
+view_after view x new Done = record { state = new; begun = view.begun; gone = view.gone }
+view_after view x new Gone = record { state = new; begun = view.begun; gone = view.gone ++ x ∷ [] }
+view_after view x new Begun = record { state = new; begun = view.begun ++ x ∷ []; gone = view.gone }
+
+-- a number, and its cell in the base, the cells that the phase began with
+pub record IsSeated (base : List ℕ) (x cell : ℕ) : Type 0 where
+  pub some : x ≢ 0
+  pub stands : slice_index base cell ≡ x
+
+-- A step begins with a number of the base, or goes on: the state, the number, the word, what it finds there and
+-- leaves there, the new state, and the note.
+pub data WithdrawMove (home : ℕ → ℕ) (base : List ℕ) : WithdrawState → ℕ → ℕ → ℕ → ℕ → WithdrawState → WithdrawNote → Type 0 where
+  begins : {x cell found : ℕ} {new : WithdrawState} {note : WithdrawNote} → IsSeated base x cell → FirstRow home x found new note → WithdrawMove home base Rest x (length base + cell) found 1 new note
+  goes_on : {state : WithdrawState} {cell found left : ℕ} {new : WithdrawState} {note : WithdrawNote} → WithdrawRow home state cell found left new note → WithdrawMove home base state (number_of state) cell found left new note
+
+-- One step: one row of the table, on one of the words and in the view at `id`. All else stays.
+pub record WithdrawStep (home : ℕ → ℕ) (base words : List ℕ) (views : List WithdrawView) (id : ℕ) (now : List ℕ) (views_now : List WithdrawView) : Type 0 where
+  pub view : WithdrawView
+  pub acts : slice_get views id ≡ Some view
+  pub number : ℕ
+  pub word : ℕ
+  pub left : ℕ
+  pub new : WithdrawState
+  pub note : WithdrawNote
+  pub move : WithdrawMove home base view.state number word (slice_index words word) left new note
+  pub words_now : now ≡ slice_set words word left
+  pub view_now : views_now ≡ slice_set views id (view_after view number new note)
