@@ -10,3 +10,4 @@ pub mod WithdrawLowered
 pub mod WithdrawExchanged
 pub mod WithdrawRows
 pub mod WithdrawSeats
+pub mod WithdrawReady
