@@ -11,3 +11,5 @@ pub mod WithdrawExchanged
 pub mod WithdrawRows
 pub mod WithdrawSeats
 pub mod WithdrawReady
+pub mod Listings
+pub mod WithdrawAtRest

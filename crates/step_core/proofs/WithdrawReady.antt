@@ -8,6 +8,7 @@ use Rattle.std.proofs.lemmas.List.Sums.{sum_by-cons}
 use Rattle.std.proofs.lemmas.Option.{slice_get_within, get_or_from_slice_get}
 use Rattle.std.specs.List.{All, Contains}
 use Rattle.step_core.proofs.Copies.{hit, hit_yes, hit_no, copies_more}
+use Rattle.step_core.proofs.Listings.{times_some}
 use Rattle.step_core.proofs.Debts.{owed, owed_to, owed_yes, owed_within, begun_within}
 use Rattle.store_spec.specs.Act.{word_of}
 use Rattle.store_spec.specs.Act.Act.{Load, Trade}
@@ -16,12 +17,6 @@ use Rattle.store_spec.specs.WithdrawInvariant.{copies, debts, times, times_begun
 use Rattle.store_spec.specs.WithdrawStep.{WithdrawState, WithdrawNote, WithdrawView, WithdrawRow, IsSeated, IsWithin, CanGoLower, withdraw_act, withdraw_measure}
 use Rattle.store_spec.specs.WithdrawStep.WithdrawState.{Rest, Chosen, Owing, Up, Down}
 use Rattle.store_spec.specs.WithdrawStep.WithdrawRow.{walked_on, began, found_owed, looked_lower, looked_higher, found_candidate, found_lower_candidate, kept_candidate, emptied, refilled, lost}
-
--- a number in a list stands there once at least
-pub times_some : (numbers : List ℕ) (x : ℕ) → Contains numbers x → 0 < times numbers x
-times_some [] x c = absurd (omega (arith, c.1))
-times_some (y ∷ numbers) x (zero, lt, e) = omega (arith, sum_by-cons (hit x) y numbers, hit_yes x y e)
-times_some (y ∷ numbers) x (suc k, lt, e) = let rest = times_some numbers x (k, omega arith, e) in omega (arith, sum_by-cons (hit x) y numbers)
 
 pub within_cells : (home : ℕ → ℕ) (base cells : List ℕ) (views : List WithdrawView) (state : WithdrawState) → IsSound home base cells views state → IsWithin (length base) state
 within_cells home base cells views Rest s = tt

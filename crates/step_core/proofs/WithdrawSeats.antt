@@ -159,6 +159,13 @@ times_one (cell ∷ cells) x (suc place) lt e one =
     let other : cell ≢ x = λ same. let no : 0 ≡ suc place = one 0 (omega arith) same in absurd (omega arith) in
     omega (arith, sum_by-cons (hit x) cell cells, hit_no x cell other)
 
+-- in cells that a phase begins with each number stands once
+pub base_once : (home : ℕ → ℕ) (base : List ℕ) (x : ℕ) → IsBase home base → IsOf base x → times base x ≡ 1
+base_once home base x begins of =
+    let place = of.stood.0 in
+    let there : get_or base place 0 ≡ x = get_or_default base place 0 x of.stood.1 ∙ of.stood.2 in
+    times_one base x place of.stood.1 there (λ k lt e. one_place home base x k place begins.ordered of.some e there)
+
 pub opened : (home : ℕ → ℕ) (base : List ℕ) (views : List WithdrawView) → IsBase home base → All (λ v. v ≡ fresh_view) views → WithdrawInvariant home base (base ++ replicate (length base) 0) views
 opened home base views begins fresh =
     let n = length base in
@@ -169,10 +176,6 @@ opened home base views begins fresh =
     let begun_none : (x : ℕ) → times_begun views x ≡ 0 = λ x. sum_none (λ v. times v.begun x) views (λ k d lt. ap (λ (v : WithdrawView). times v.begun x) (fresh k d lt)) in
     let chosen_none : (x : ℕ) → count_by (λ v. walks_to v.state x) views ≡ 0 = λ x. sum_none (λ v. chosen v.state x) views (λ k d lt. ap (λ (v : WithdrawView). chosen v.state x) (fresh k d lt)) in
     let taken_none : (x : ℕ) → times_taken views x ≡ 0 = λ x. let b = begun_none x in let c = chosen_none x in omega arith in
-    let once : (x : ℕ) → IsOf base x → times base x ≡ 1 = λ x of.
-    let place = of.stood.0 in
-    let there : get_or base place 0 ≡ x = get_or_default base place 0 x of.stood.1 ∙ of.stood.2 in
-    times_one base x place of.stood.1 there (λ k lt e. one_place home base x k place begins.ordered of.some e there) in
     record {
       begins = begins;
       size = length-append base (replicate n 0) ∙ ap (λ k. n + k) (length-replicate n 0);
@@ -189,7 +192,7 @@ opened home base views begins fresh =
       });
       owed = subst (λ (l : List ℕ). AreOwed base l views) (sym cells) (record {
         no_more = λ x first. let none = owed_none x first in omega arith;
-        in_all = λ x of. let none = owed_none x n in let begun = begun_none x in let one = once x of in
+        in_all = λ x of. let none = owed_none x n in let begun = begun_none x in let one = base_once home base x begins of in
             let all : copies base x n ≡ times base x = ap (λ l. times l x) (take_all n base (omega arith)) in omega arith;
       });
       lowest = subst (λ (l : List ℕ). AreLowest home base l views) (sym cells) (record {

@@ -21,4 +21,5 @@ pub mod Phase
 pub mod Probe
 pub mod StepFigures
 pub mod WithdrawInvariant
+pub mod WithdrawPhase
 pub mod WithdrawStep

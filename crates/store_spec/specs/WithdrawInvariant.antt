@@ -1,7 +1,7 @@
 -- What holds between any two steps of a withdrawing phase, over its words and its withdrawers. The base is the cells
 -- that the phase began with. A number is removed from the cells by copying a lower one over it, whose own place is
 -- then to be emptied in the same way: so a number may stand in several cells for a while, one of them at most for good.
-use Rattle.std.specs.Prelude.{◌≡◌, ◌≢◌, ℕ, ◌+◌, ◌-◌, ◌<◌, ◌≤◌, nat_lt, ◌==◌, Bool, false, ◌&&◌, ⊤, List, length, take, drop, sum_by, count_by, slice_index, All, Contains}
+use Rattle.std.specs.Prelude.{◌≡◌, ◌≢◌, ℕ, ◌+◌, ◌-◌, ◌<◌, ◌≤◌, nat_lt, ◌==◌, Bool, false, ◌&&◌, ⊤, List, length, take, drop, flat_map, sum_by, count_by, slice_index, All, Contains}
 use Rattle.store_spec.specs.Layout.{IsOrdered}
 use Rattle.store_spec.specs.WithdrawStep.{WithdrawState, WithdrawView, Fits}
 use Rattle.store_spec.specs.WithdrawStep.WithdrawState.{Rest, Chosen, Owing, Up, Down}
@@ -30,6 +30,10 @@ debts views x first = count_by (λ w. owes w.state x first) views
 -- how often the removal of a number was begun
 abbrev pub times_begun : List WithdrawView → ℕ → ℕ
 times_begun views x = sum_by (λ w. times w.begun x) views
+
+-- all numbers whose removal was begun
+abbrev pub begun_by : List WithdrawView → List ℕ
+begun_by views = flat_map (λ w. w.begun) views
 
 abbrev pub walks_to : WithdrawState → ℕ → Bool
 walks_to (Chosen y place) x = y == x
