@@ -1,1 +1,4 @@
+pub mod Act
+pub mod CastKept
+pub mod Shape
 pub mod WithdrawKept

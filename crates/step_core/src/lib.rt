@@ -1,5 +1,10 @@
-//! The atomic steps of a phase, and phases that are run one step after another.
+//! The steps by which tabulators and withdrawers change shared words, as tables over states, and cores that make them
+//! one by one in any order.
 #![tactic(auto)]
 
-/// A place to start from.
-pub fn nothing() {}
+mod act;
+pub mod laws;
+mod shape;
+
+pub use act::{Act, Stepped};
+pub use shape::Shape;

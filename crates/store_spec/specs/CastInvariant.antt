@@ -61,36 +61,48 @@ pub record HoldsOther (claims : List ℕ) (x place : ℕ) : Type 0 where
 
 -- Each claimed number stands in the first claim word of its own order that was free: those before it are filled.
 abbrev pub AreInOrder : ℕ → List ℕ → Type 0
-AreInOrder length claims = (x tries before : ℕ) → x ≢ 0 → before < tries → tries < length
-    → slice_index claims (claim_place x tries length) ≡ x → slice_index claims (claim_place x before length) ≢ 0
+AreInOrder count claims = (x tries before : ℕ) → x ≢ 0 → before < tries → tries < count
+    → slice_index claims (claim_place x tries count) ≡ x → slice_index claims (claim_place x before count) ≢ 0
 
 -- A number that is tried is not of the base, a claim word is left for it, and those tried hold others.
-pub record IsTried (length : ℕ) (base claims : List ℕ) (x k : ℕ) : Type 0 where
+pub record IsTried (count : ℕ) (base claims : List ℕ) (x k : ℕ) : Type 0 where
   pub some : x ≢ 0
   pub not_held : ¬ Contains base x
-  pub one_left : k < length
-  pub others : (before : ℕ) → before < k → HoldsOther claims x (claim_place x before length)
+  pub one_left : k < count
+  pub others : (before : ℕ) → before < k → HoldsOther claims x (claim_place x before count)
 
 abbrev pub IsProbing : ℕ → List ℕ → List ℕ → CastState → Type 0
-IsProbing length base claims Rest = Unit {0}
-IsProbing length base claims (Probing x k) = IsTried length base claims x k
-IsProbing length base claims (Carrying v i) = Unit {0}
-IsProbing length base claims (Ready v i s) = Unit {0}
+IsProbing count base claims Rest = Unit {0}
+IsProbing count base claims (Probing x k) = IsTried count base claims x k
+IsProbing count base claims (Carrying v i) = Unit {0}
+IsProbing count base claims (Ready v i s) = Unit {0}
+
+-- a number, and a claim word holds it
+abbrev pub IsClaimed : List ℕ → ℕ → Type 0
+IsClaimed claims x = (x ≢ 0) × Contains claims x
 
 -- a number found taken is claimed, and where the claim words were full for a number, each holds another
 pub record HasMet (claims : List ℕ) (view : CastView) : Type 0 where
-  pub taken : All (Contains claims) view.taken
+  pub taken : All (IsClaimed claims) view.taken
   pub full : All (λ x. (place : ℕ) → place < length claims → HoldsOther claims x place) view.full
 
-pub record AreClaimed (length : ℕ) (base claims : List ℕ) (views : List CastView) : Type 0 where
+pub record AreClaimed (count : ℕ) (base claims : List ℕ) (views : List CastView) : Type 0 where
   pub once : EachOnce (base ++ claims)
   pub accepted : HoldSame (accepted_of views) claims
   pub some : All (λ x. x ≢ 0) (accepted_of views)
-  pub in_order : AreInOrder length claims
-  pub probing : All (λ view. IsProbing length base claims view.state) views
+  pub in_order : AreInOrder count claims
+  pub probing : All (λ view. IsProbing count base claims view.state) views
   pub met : All (HasMet claims) views
 
 -- ---- both
+
+-- What the table and the base are like all the time: there is a cell for each home, each number of the base and each
+-- claim word.
+pub record HasRoomFor (t : Table) (base : List ℕ) : Type 0 where
+  pub some : All (λ v. v ≢ 0) base
+  pub homes : ℕ
+  pub homed : (v : ℕ) → t.home v < homes
+  pub room : homes + length base + t.claims ≤ t.cells
 
 pub record CastInvariant (t : Table) (base words : List ℕ) (views : List CastView) : Type 0 where
   pub size : length words ≡ t.cells + t.claims

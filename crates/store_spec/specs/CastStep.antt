@@ -13,7 +13,7 @@ pub record Table : Type 0 where
 
 -- The claim words of a number are tried from one of its own on, round the array.
 abbrev pub claim_place : ℕ → ℕ → ℕ → ℕ
-claim_place number tries length = (number % length + tries) % length
+claim_place number tries count = (number % count + tries) % count
 
 -- the shared word that is tried next
 abbrev pub claim_word : Table → ℕ → ℕ → ℕ
@@ -67,6 +67,15 @@ pub record CastView : Type 0 where
 -- a tabulator that is new, or whose numbers were handed to another
 abbrev pub fresh_view : CastView
 fresh_view = record { state = Rest; accepted = []; taken = []; full = [] }
+
+-- the view of a tabulator that takes in another, both at rest: its lists and then those of the other
+abbrev pub joined_view : CastView → CastView → CastView
+joined_view view other = record {
+  state = Rest;
+  accepted = view.accepted ++ other.accepted;
+  taken = view.taken ++ other.taken;
+  full = view.full ++ other.full;
+}
 
 -- the number that a state is about, and 0 at rest
 abbrev pub number_of : CastState → ℕ

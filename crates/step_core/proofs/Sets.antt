@@ -1,0 +1,112 @@
+-- Lists as sets of numbers: what is counted, and what becomes of it where one element is set.
+use Rattle.std.proofs.Common.{◌≡◌, ◌≢◌, ◌==◌, ℕ, zero, suc, ◌+◌, ◌<◌, ◌≤◌, ◌⊎◌, inl, inr, ⊎_elim, Some, List, [], ◌∷◌, ◌++◌, cond, length, get_or, map, set, refl, sym, ap, ◌∙◌, subst, arith}
+use Rattle.std.proofs.lemmas.Bool.{eq-eqb, ne_eqb, cases_eq, cond-true, cond-false}
+use Rattle.std.proofs.lemmas.List.{get_or_default, get_or-set_other, get_or-set_same, length-set}
+use Rattle.std.proofs.lemmas.List.Elements.{All-append, All-cons, All-get_or, All-head, All-nil, All-tail}
+use Rattle.std.proofs.lemmas.List.Kept.{AllPairs-cons}
+use Rattle.std.proofs.lemmas.List.Sums.{sum_by-append, sum_by-cons}
+use Rattle.std.proofs.lemmas.Option.{get_or_from_slice_get, slice_get_cases}
+use Rattle.std.specs.List.{All, AllPairs, Contains, flat_map, sum_by}
+use Rattle.std.specs.Prelude.{slice_get}
+use Rattle.store_spec.specs.CastInvariant.{EachOnce, count_of}
+
+-- ---- an element that stands in a list
+
+pub stands_within : {X : Type 0} (xs : List X) (i : ℕ) (x : X) → slice_get xs i ≡ Some x → i < length xs
+stands_within xs i x stands = ⊎_elim
+    (λ (h : (y : _) × (i < length xs) × (slice_get xs i ≡ Some y) × (get_or xs i y ≡ y)). h.1)
+    (λ h. absurd (let none = h.1 in cc))
+    (slice_get_cases xs i).1
+
+-- what holds of each element holds of it
+pub at_place : {X : Type 0} (P : X → Type 0) (xs : List X) (i : ℕ) (x : X) → slice_get xs i ≡ Some x → All P xs → P x
+at_place P xs i x stands all = subst P (get_or_from_slice_get xs i x x stands) (All-get_or P xs i x (stands_within xs i x stands) all)
+
+-- ---- lists joined end to end
+
+pub sum_by-flat_map : {X : Type 0} (weight : ℕ → ℕ) (f : X → List ℕ) (xs : List X) → sum_by weight (flat_map f xs) ≡ sum_by (λ x. sum_by weight (f x)) xs
+sum_by-flat_map weight f [] = refl
+sum_by-flat_map weight f (x ∷ xs) =
+    sum_by-append weight (f x) (flat_map f xs)
+    ∙ ap (λ n. sum_by weight (f x) + n) (sum_by-flat_map weight f xs)
+    ∙ sym (sum_by-cons (λ y. sum_by weight (f y)) x xs)
+
+pub sum_by-map : {X : Type 0} (weight : ℕ → ℕ) (f : X → ℕ) (xs : List X) → sum_by weight (map f xs) ≡ sum_by (λ x. weight (f x)) xs
+sum_by-map weight f [] = refl
+sum_by-map weight f (x ∷ xs) =
+    sum_by-cons weight (f x) (map f xs)
+    ∙ ap (λ n. weight (f x) + n) (sum_by-map weight f xs)
+    ∙ sym (sum_by-cons (λ y. weight (f y)) x xs)
+
+pub All-flat_map : {X : Type 0} (P : ℕ → Type 0) (f : X → List ℕ) (xs : List X) → All (λ x. All P (f x)) xs → All P (flat_map f xs)
+All-flat_map P f [] h = All-nil P
+All-flat_map {X} P f (x ∷ xs) h =
+    let Q : X → Type 0 = λ y. All P (f y) in
+    All-append P (f x) (flat_map f xs) (All-head Q x xs h) (All-flat_map P f xs (All-tail Q x xs h))
+
+All-front : (P : ℕ → Type 0) (xs ys : List ℕ) → All P (xs ++ ys) → All P xs × All P ys
+All-front P [] ys h = (All-nil P, h)
+All-front P (x ∷ xs) ys h =
+    let rest = All-front P xs ys (All-tail P x (xs ++ ys) h) in
+    (All-cons P x xs (All-head P x (xs ++ ys) h) rest.0, rest.1)
+
+pub All-from_flat_map : {X : Type 0} (P : ℕ → Type 0) (f : X → List ℕ) (xs : List X) → All P (flat_map f xs) → All (λ x. All P (f x)) xs
+All-from_flat_map {X} P f [] h = All-nil (λ (y : X). All P (f y))
+All-from_flat_map {X} P f (x ∷ xs) h =
+    let both = All-front P (f x) (flat_map f xs) h in
+    All-cons (λ (y : X). All P (f y)) x xs both.0 (All-from_flat_map P f xs both.1)
+
+-- ---- how often a number stands
+
+-- 1 for the number and 0 for any other
+abbrev pub is_one : ℕ → ℕ → ℕ
+is_one v x = cond (x == v) 1 0
+
+pub is_one-same : (v : ℕ) → is_one v v ≡ 1
+is_one-same v = cond-true _ 1 0 (eq-eqb v v refl)
+
+pub is_one-other : (v x : ℕ) → x ≢ v → is_one v x ≡ 0
+is_one-other v x d = cond-false _ 1 0 (ne_eqb x v d)
+
+pub is_one-zero : (v : ℕ) → v ≢ 0 → is_one v 0 ≡ 0
+is_one-zero v some = is_one-other v 0 (λ e. some (sym e))
+
+counted_on : (v x : ℕ) (xs : List ℕ) → count_of v (x ∷ xs) ≡ is_one v x + count_of v xs
+counted_on v x xs = sum_by-cons (is_one v) x xs
+
+pub counted : (v : ℕ) (xs : List ℕ) → Contains xs v → 1 ≤ count_of v xs
+counted v [] c = absurd (omega (arith, c.1))
+counted v (x ∷ xs) (zero, lt, e) = omega (arith, counted_on v x xs, ap (is_one v) e, is_one-same v)
+counted v (x ∷ xs) (suc k, lt, e) = omega (arith, counted_on v x xs, counted v xs (k, omega arith, e))
+
+pub stands_counted : (v : ℕ) (xs : List ℕ) → 1 ≤ count_of v xs → Contains xs v
+stands_counted v [] some = absurd (omega arith)
+stands_counted v (x ∷ xs) some = ⊎_elim
+    (λ (e : x ≡ v). (0, omega arith, e))
+    (λ (d : x ≢ v).
+    let rest = stands_counted v xs (omega (arith, counted_on v x xs, is_one-other v x d)) in
+    (suc rest.0, omega (arith, rest.1), rest.2))
+    (cases_eq x v)
+
+pub none_counted : (v : ℕ) (xs : List ℕ) → ¬ Contains xs v → count_of v xs ≡ 0
+none_counted v xs none = ⊎_elim
+    (λ e. e)
+    (λ (d : count_of v xs ≢ 0). absurd (none (stands_counted v xs (omega arith))))
+    (cases_eq (count_of v xs) 0)
+
+pub distinct_once : (xs : List ℕ) → EachOnce xs → All (λ v. v ≢ 0) xs → AllPairs (λ a b. a ≢ b) xs
+distinct_once [] once some = λ i j d lt within. absurd (omega arith)
+distinct_once (x ∷ xs) once some =
+    let first : x ≢ 0 = All-head (λ v. v ≢ 0) x xs some in
+    let apart : All (λ y. x ≢ y) xs = λ k d within e.
+    let again = counted x xs (k, within, get_or_default xs k x d within ∙ sym e) in
+    omega (arith, once x first, counted_on x x xs, is_one-same x) in
+    AllPairs-cons (λ a b. a ≢ b) x xs apart
+    (distinct_once xs (λ v n. omega (arith, once v n, counted_on v x xs)) (All-tail (λ v. v ≢ 0) x xs some))
+
+-- ---- one element is set
+
+pub contains-set : (xs : List ℕ) (i a v : ℕ) → get_or xs i 0 ≢ v → Contains xs v → Contains (set xs i a) v
+contains-set xs i a v apart (k, lt, e) =
+    let other : k ≢ i = λ same. apart (ap (λ j. get_or xs j 0) (sym same) ∙ get_or_default xs k 0 v lt ∙ e) in
+    (k, omega (arith, length-set xs i a), get_or-set_other xs i k a v other ∙ e)
