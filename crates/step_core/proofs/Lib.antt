@@ -12,6 +12,7 @@ pub mod WithdrawBegun
 pub mod WithdrawExchanged
 pub mod WithdrawFirst
 pub mod WithdrawFlags
+pub mod WithdrawLeads
 pub mod WithdrawLowered
 pub mod WithdrawQuiet
 pub mod WithdrawReady

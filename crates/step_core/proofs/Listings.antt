@@ -113,17 +113,21 @@ ascends_put : (v : ℕ) (numbers : List ℕ) → Ascends numbers → Ascends (pu
 ascends_put v [] h = (λ u some. absurd (omega arith), tt)
 ascends_put v (w ∷ ws) h = ⊎_elim
     (λ (later : w < v).
-    subst Ascends (sym (cond-false _ (v ∷ w ∷ ws) (w ∷ put_in_order v ws) (lt-leb v w later)))
-    (λ u some. ⊎_elim
-    (λ (e : v ≡ u). omega arith)
-    (λ (n : v ≢ u). h.0 u (omega (arith, times_put v ws u, hit_no u v n)))
-    (cases_eq v u), ascends_put v ws h.1))
+    subst Ascends (sym (cond-false _ (v ∷ w ∷ ws) (w ∷ put_in_order v ws) (lt-leb v w later))) (
+      λ u some. ⊎_elim
+          (λ (e : v ≡ u). omega arith)
+          (λ (n : v ≢ u). h.0 u (omega (arith, times_put v ws u, hit_no u v n)))
+          (cases_eq v u),
+      ascends_put v ws h.1,
+    ))
     (λ (first : v ≤ w).
-    subst Ascends (sym (cond-true _ (v ∷ w ∷ ws) (w ∷ put_in_order v ws) (le-leb v w first)))
-    (λ u some. ⊎_elim
-    (λ (e : w ≡ u). omega arith)
-    (λ (n : w ≢ u). let least = h.0 u (omega (arith, times-cons w ws u, hit_no u w n)) in omega arith)
-    (cases_eq w u), h))
+    subst Ascends (sym (cond-true _ (v ∷ w ∷ ws) (w ∷ put_in_order v ws) (le-leb v w first))) (
+      λ u some. ⊎_elim
+          (λ (e : w ≡ u). omega arith)
+          (λ (n : w ≢ u). let least = h.0 u (omega (arith, times-cons w ws u, hit_no u w n)) in omega arith)
+          (cases_eq w u),
+      h,
+    ))
     (cases_lt w v)
 
 ascends : (numbers : List ℕ) → Ascends (ascending numbers)

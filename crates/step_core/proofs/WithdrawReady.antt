@@ -10,15 +10,16 @@ use Rattle.std.specs.List.{All, Contains}
 use Rattle.step_core.proofs.Copies.{hit, hit_yes, hit_no, copies_more}
 use Rattle.step_core.proofs.Listings.{times_some}
 use Rattle.step_core.proofs.Debts.{owed, owed_to, owed_yes, owed_within, begun_within}
+use Rattle.step_core.specs.WithdrawTables.{FitsIn, MayFind}
 use Rattle.store_spec.specs.Act.{word_of}
 use Rattle.store_spec.specs.Act.Act.{Load, Trade}
 use Rattle.store_spec.specs.Measure.{Falls}
 use Rattle.store_spec.specs.WithdrawInvariant.{copies, debts, times, times_begun, times_taken, IsOf, IsSound, cell_words, flag_words, WithdrawInvariant}
-use Rattle.store_spec.specs.WithdrawStep.{WithdrawState, WithdrawNote, WithdrawView, WithdrawRow, IsSeated, IsWithin, CanGoLower, withdraw_act, withdraw_measure}
+use Rattle.store_spec.specs.WithdrawStep.{WithdrawState, WithdrawNote, WithdrawView, WithdrawRow, IsSeated, withdraw_act, withdraw_measure}
 use Rattle.store_spec.specs.WithdrawStep.WithdrawState.{Rest, Chosen, Owing, Up, Down}
 use Rattle.store_spec.specs.WithdrawStep.WithdrawRow.{walked_on, began, found_owed, looked_lower, looked_higher, found_candidate, found_lower_candidate, kept_candidate, emptied, refilled, lost}
 
-pub within_cells : (home : ℕ → ℕ) (base cells : List ℕ) (views : List WithdrawView) (state : WithdrawState) → IsSound home base cells views state → IsWithin (length base) state
+pub within_cells : (home : ℕ → ℕ) (base cells : List ℕ) (views : List WithdrawView) (state : WithdrawState) → IsSound home base cells views state → FitsIn (length base) state
 within_cells home base cells views Rest s = tt
 within_cells home base cells views (Chosen x place) s = (s.live.of_base.some, s.within)
 within_cells home base cells views (Owing x bound) s = (s.of_base.some, s.within)
@@ -77,12 +78,12 @@ module _ (home : ℕ → ℕ) (base words : List ℕ) (views : List WithdrawView
       (λ (n : bound ≢ 0). omega arith)
       (cases_eq bound 0)
 
-  pub can_go_lower : (state : WithdrawState) (found : ℕ) → w.state ≡ state → get_or words (word_of (withdraw_act state)) 0 ≡ found → CanGoLower state found
-  can_go_lower Rest found is here = tt
-  can_go_lower (Chosen x place) found is here = tt
-  can_go_lower (Owing x bound) found is here = λ other. lower_owed x bound found (λ first. ap (λ s. owed s x first) is) (sound_of (Owing x bound) is).within here other
-  can_go_lower (Up x bound place) found is here = tt
-  can_go_lower (Down x bound place c source) found is here = λ e other.
+  pub may_find : (state : WithdrawState) (found : ℕ) → state ≢ Rest → w.state ≡ state → get_or words (word_of (withdraw_act state)) 0 ≡ found → MayFind state found
+  may_find Rest found moves is here = moves refl
+  may_find (Chosen x place) found moves is here = tt
+  may_find (Owing x bound) found moves is here = λ other. lower_owed x bound found (λ first. ap (λ s. owed s x first) is) (sound_of (Owing x bound) is).within here other
+  may_find (Up x bound place) found moves is here = tt
+  may_find (Down x bound place c source) found moves is here = λ e other.
       lower_owed x bound found (λ first. ap (λ s. owed s x first) is) (sound_of (Down x bound place c source) is).owed.within
       (subst (λ (k : ℕ). get_or words k 0 ≡ found) (down_word x bound place c source ∙ e) here) other
 

@@ -2,3 +2,4 @@ pub mod Act
 pub mod CastKept
 pub mod Shape
 pub mod WithdrawKept
+pub mod WithdrawTables

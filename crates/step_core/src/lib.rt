@@ -5,6 +5,8 @@
 mod act;
 pub mod laws;
 mod shape;
+mod withdraw;
 
 pub use act::{Act, Stepped};
 pub use shape::Shape;
+pub use withdraw::{WithdrawNote, WithdrawState, withdraw_act, withdraw_after, withdraw_first};

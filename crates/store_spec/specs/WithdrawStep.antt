@@ -1,7 +1,7 @@
 -- The atomic steps of a withdrawer, a row of their table each. A step finds a value in one word, leaves that word or
 -- writes it, and changes the state of the withdrawer that makes it. The words of a withdrawing phase are its cells
 -- and, behind them, a flag for each cell.
-use Rattle.std.specs.Prelude.{◌≡◌, ◌≢◌, ℕ, ◌+◌, ◌-◌, ◌*◌, ◌<◌, ◌≤◌, ◌==◌, ◌⊎◌, ⊤, if◌then◌else◌, List, [], ◌∷◌, ◌++◌, length, Some, slice_get, slice_index, slice_set}
+use Rattle.std.specs.Prelude.{◌≡◌, ◌≢◌, ℕ, ◌+◌, ◌-◌, ◌*◌, ◌<◌, ◌≤◌, ◌==◌, ◌⊎◌, if◌then◌else◌, List, [], ◌∷◌, ◌++◌, length, Some, slice_get, slice_index, slice_set}
 use Rattle.store_spec.specs.Act.{Act}
 use Rattle.store_spec.specs.Act.Act.{Nothing, Load, Trade}
 
@@ -52,22 +52,6 @@ withdraw_act (Chosen x place) = Load place
 withdraw_act (Owing x bound) = Load bound
 withdraw_act (Up x bound place) = Load place
 withdraw_act (Down x bound place c source) = if place == bound then Trade bound x c else Load place
-
--- ---- what a step needs of its state
-
--- a number that is not 0, and places among so many cells
-abbrev pub IsWithin : ℕ → WithdrawState → Type 0
-IsWithin cells Rest = ⊤
-IsWithin cells (Chosen x place) = (x ≢ 0) × (place < cells)
-IsWithin cells (Owing x bound) = (x ≢ 0) × (bound < cells)
-IsWithin cells (Up x bound place) = (x ≢ 0) × (bound < place) × (place < cells)
-IsWithin cells (Down x bound place c source) = (x ≢ 0) × (bound ≤ place) × (place < cells) × (source < cells)
-
--- where another word than the owed number is found at the bound, there is a cell below
-abbrev pub CanGoLower : WithdrawState → ℕ → Type 0
-CanGoLower (Owing x bound) word = word ≢ x → 0 < bound
-CanGoLower (Down x bound place c source) word = place ≡ bound → word ≢ x → 0 < bound
-CanGoLower state word = ⊤
 
 -- What is left of the steps for a number: the walk, the owed number, its bound, and the cells to read. Of these an
 -- earlier one counts more.
