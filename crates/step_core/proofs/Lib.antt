@@ -14,6 +14,7 @@ pub mod WithdrawFirst
 pub mod WithdrawFlags
 pub mod WithdrawLeads
 pub mod WithdrawLowered
+pub mod WithdrawOneRow
 pub mod WithdrawQuiet
 pub mod WithdrawReady
 pub mod WithdrawRows

@@ -2,6 +2,7 @@
 use Rattle.std.proofs.Common.{◌≡◌, ◌≢◌, ℕ, ◌+◌, ◌<◌, ◌≤◌, ⊎_elim, List, length, get_or, refl, sym, ◌∙◌, ap, subst, arith}
 use Rattle.std.proofs.lemmas.Bool.{cases_eq, cases_lt}
 use Rattle.std.proofs.lemmas.List.{length-take, get_or_default, get_or_past, take_all}
+use Rattle.std.proofs.lemmas.List.Elements.{All-weaker}
 use Rattle.std.specs.List.{All, Contains, count_by}
 use Rattle.layout_def.proofs.OwnLayout.{ordered_is_own_layout}
 use Rattle.step_core.proofs.Copies.{hit, hit_yes, copies_more, copies_rise, copy_here}
@@ -102,3 +103,10 @@ module _ (home : ℕ → ℕ) (base words : List ℕ) (views : List WithdrawView
   begun_once x =
       let once = inv.flags.once x in let begun : times (begun_by views) x ≡ times_begun views x = times-flat_map (λ w. w.begun) views x in
       omega (arith, all_begun x)
+
+  pub gone_begun : All (λ w. All (Contains (begun_by views)) w.gone) views
+  gone_begun = λ k d lt. All-weaker (λ x. IsOf base x × (times_taken views x ≡ 1)) (Contains (begun_by views))
+      (λ x s.
+      let begun : times (begun_by views) x ≡ times_begun views x = times-flat_map (λ w. w.begun) views x in
+      some_times (begun_by views) x (omega (arith, all_begun x, s.1)))
+      (get_or views k d).gone (inv.flags.gone k d lt)
