@@ -20,4 +20,5 @@ pub mod WithdrawReady
 pub mod WithdrawRows
 pub mod WithdrawSeats
 pub mod WithdrawStates
+pub mod WithdrawingAnswers
 pub mod WordSets

@@ -3,3 +3,4 @@ pub mod CastKept
 pub mod Shape
 pub mod WithdrawKept
 pub mod WithdrawTables
+pub mod Withdrawing
