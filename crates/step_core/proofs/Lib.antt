@@ -21,4 +21,6 @@ pub mod WithdrawRows
 pub mod WithdrawSeats
 pub mod WithdrawStates
 pub mod WithdrawingAnswers
+pub mod WithdrawingBase
+pub mod WithdrawingSteps
 pub mod WordSets
