@@ -22,5 +22,6 @@ pub mod WithdrawSeats
 pub mod WithdrawStates
 pub mod WithdrawingAnswers
 pub mod WithdrawingBase
+pub mod WithdrawingEnds
 pub mod WithdrawingSteps
 pub mod WordSets

@@ -100,7 +100,7 @@ times_put v (w ∷ ws) x = ⊎_elim
     ap (λ l. times l x) (cond-true _ (v ∷ w ∷ ws) (w ∷ put_in_order v ws) (le-leb v w first)) ∙ times-cons v (w ∷ ws) x)
     (cases_lt w v)
 
-times_ascending : (numbers : List ℕ) (x : ℕ) → times (ascending numbers) x ≡ times numbers x
+pub times_ascending : (numbers : List ℕ) (x : ℕ) → times (ascending numbers) x ≡ times numbers x
 times_ascending [] x = refl
 times_ascending (v ∷ vs) x = omega (arith, times_put v (ascending vs) x, times_ascending vs x, times-cons v vs x)
 

@@ -92,7 +92,7 @@ numbers-contains such (a ∷ answers) =
     (cases_Bool (such a.reply)))
     answers (numbers-contains such answers))
 
-numbers-absent : (such : WithdrawReply → Bool) (held left : List ℕ) → such Absent ≡ false → numbers_that such (absent_first held left) ≡ []
+pub numbers-absent : (such : WithdrawReply → Bool) (held left : List ℕ) → such Absent ≡ false → numbers_that such (absent_first held left) ≡ []
 numbers-absent such held left no_such = numbers-none such (absent_first held left)
     (All-weaker (IsAbsent held) (λ a. such a.reply ≡ false) (λ a h. ap such h.reply ∙ no_such) (absent_first held left) (all_absent held left))
 

@@ -48,3 +48,11 @@ pub zero_cell : (count place : ℕ) → get_or (replicate {A = ℕ} count 0) pla
 zero_cell zero place = refl
 zero_cell (suc count) zero = refl
 zero_cell (suc count) (suc place) = zero_cell count place
+
+-- where each term is the same, the sums are
+pub sum_same : {X : Type 0} (f g : X → ℕ) (xs : List X) → All (λ x. f x ≡ g x) xs → sum_by f xs ≡ sum_by g xs
+sum_same f g [] h = refl
+sum_same f g (x ∷ xs) h =
+    let here : f x ≡ g x = h 0 x (omega arith) in
+    let rest = sum_same f g xs (λ k d lt. h (suc k) d (omega arith)) in
+    omega (arith, sum_by-cons f x xs, sum_by-cons g x xs)
