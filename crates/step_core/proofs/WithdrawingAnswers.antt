@@ -122,3 +122,9 @@ pairs_settled held answers a left pairs before =
     pairs_on MayPrecede (IsAbsent held) (answers ++ a ∷ []) (absent_first held left)
     (λ x y absent same gone withdrawn. absurd (let is = absent.reply in let no : ⊥ = cc in no))
     (all_pairs_push MayPrecede answers a pairs before) (all_absent held left)
+
+pub pairs_absent : (held left : List ℕ) → AllPairs MayPrecede (absent_first held left)
+pairs_absent held left =
+    pairs_on MayPrecede (IsAbsent held) [] (absent_first held left)
+    (λ x y absent same gone withdrawn. absurd (let is = absent.reply in let no : ⊥ = cc in no))
+    (λ i j d lt within. absurd (omega arith)) (all_absent held left)

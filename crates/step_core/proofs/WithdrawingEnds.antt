@@ -11,10 +11,12 @@ use Rattle.step_core.proofs.Listings.{no_zero_in_cells, same_ascending, some_tim
 use Rattle.step_core.proofs.WithdrawAtRest as rest
 use Rattle.step_core.proofs.WithdrawSeats.{base_once}
 use Rattle.step_core.proofs.WithdrawSeats as seats
-use Rattle.step_core.proofs.WithdrawingAnswers.{IsAbsent, all_absent, next_settled, numbers-absent, numbers-contains}
+use Rattle.step_core.proofs.WithdrawingAnswers.{IsAbsent, all_absent, next_settled, numbers-absent, numbers-contains, pairs_absent}
 use Rattle.step_core.proofs.WithdrawingBase.{base_begins, base_layout, of_base_held}
 use Rattle.step_core.proofs.WordSets.{sum_same}
-use Rattle.step_core.specs.Withdrawing.{EndsWith, IsDone, IsWithdrawer, IsWithdrawing, Withdrawer, Withdrawing, answers_in, base_in, cells_in, count_in, home_in, is_gone, numbers_that, opened, settled, view_of}
+use Rattle.store_spec.proofs.Ascending.{ascending_distinct, length-ascending}
+use Rattle.store_spec.proofs.LaidOut.{ascending_from_rising}
+use Rattle.step_core.specs.Withdrawing.{EndsWith, IsDone, IsWithdrawer, IsWithdrawing, Withdrawer, Withdrawing, absent_first, answers_in, base_in, cells_in, count_in, home_in, is_gone, numbers_that, opened, settled, view_of}
 use Rattle.store_spec.specs.Home.{home_of}
 use Rattle.store_spec.specs.Layout.{ascending, laid_out, layout_of, numbers_in}
 use Rattle.store_spec.specs.WithdrawInvariant.{IsOf, WithdrawInvariant, begun_by, cell_words, times}
@@ -205,4 +207,61 @@ module _ (w : Withdrawing) (h : IsWithdrawing w) (done : All IsDone w.tabs) wher
             ∙ rest.at_rest (home_in w) (base_in w) w.words (map view_of w.tabs) h.invariant resting
             ∙ ap (λ n. layout_of (home_in w) n (without (numbers_in (base_in w)) (begun_by (map view_of w.tabs)))) size
             ∙ ap (laid_out (home_in w) (count_in w)) (same_ascending (without (numbers_in (base_in w)) (begun_by (map view_of w.tabs))) (without w.held (listed (answers_in w))) same_left);
+      }
+
+-- ---- the opening
+
+module _ (bits salt limit : ℕ) (start : List ℕ) (lists : List (List ℕ)) (few : bits ≤ 16) (within : length start ≤ limit) (some : All (λ x. x ≢ 0) start) (distinct : AllPairs (λ a b. a ≢ b) start) where
+  abbrev held : List ℕ
+  held = ascending start
+
+  abbrev begin : Withdrawing
+  begin = opened bits salt limit start lists
+
+  short : length (ascending start) ≤ limit
+  short = omega (arith, length-ascending start)
+
+  some_held : All (λ x. x ≢ 0) (ascending start)
+  some_held = λ k d lt.
+      let there = Contains-get_or (ascending start) k d lt in
+      All-contains (λ x. x ≢ 0) start (get_or (ascending start) k d) some
+      (some_times start (get_or (ascending start) k d) (omega (arith, times_ascending start (get_or (ascending start) k d), times_some (ascending start) (get_or (ascending start) k d) there)))
+
+  apart : AllPairs (λ a b. a ≢ b) (ascending start)
+  apart = λ i j d lt in_range.
+      let less : get_or (ascending start) i d < get_or (ascending start) j d = ascending_from_rising (ascending start) (ascending_distinct start distinct) i j d lt in_range in
+      λ e. omega arith
+
+  same_base : layout_of (home_of bits salt) (2 ^ bits + limit) start ≡ base_in begin
+  same_base = ap (laid_out (home_of bits salt) (2 ^ bits + limit)) (sym (same_ascending (ascending start) start (times_ascending start)))
+
+  all_fresh : All (λ v. v ≡ fresh_view) (map view_of (opened bits salt limit start lists).tabs)
+  all_fresh = All-map (λ v. v ≡ fresh_view) view_of begin.tabs (All-map (λ t. view_of t ≡ fresh_view) (λ (list : List ℕ). settled (ascending start) (record { state = Rest; answers = []; left = list })) lists
+      (λ k d lt.
+      let list = get_or lists k d in
+      ap (λ l. record { state = Rest; begun = l ++ []; gone = numbers_that is_gone (absent_first (ascending start) list) }) (numbers-absent is_withdrawn (ascending start) list refl)
+      ∙ ap (λ l. record { state = Rest; begun = []; gone = l }) (numbers-absent is_gone (ascending start) list refl)))
+
+  pub opens : IsWithdrawing (opened bits salt limit start lists)
+  opens =
+      let size : length (base_in begin) ≡ 2 ^ bits + limit = (base_layout bits salt limit (ascending start) few short some_held apart).size in
+      let words : begin.words ≡ base_in begin ++ replicate (length (base_in begin)) 0 =
+      ap (λ l. l ++ replicate (2 ^ bits + limit) 0) same_base ∙ ap (λ n. base_in begin ++ replicate n 0) (sym size) in
+      record {
+        few_bits = few;
+        within_limit = short;
+        some = some_held;
+        distinct = apart;
+        invariant = subst (λ (l : List ℕ). WithdrawInvariant (home_of bits salt) (base_in begin) l (map view_of begin.tabs)) (sym words)
+            (seats.opened (home_of bits salt) (base_in begin) (map view_of begin.tabs) (base_begins bits salt limit (ascending start) few short some_held apart) all_fresh);
+        tabs = All-map (IsWithdrawer (ascending start)) (λ (list : List ℕ). settled (ascending start) (record { state = Rest; answers = []; left = list })) lists
+            (λ k d lt.
+            let list = get_or lists k d in
+            let absent = all_absent (ascending start) list in
+            record {
+              next = next_settled (ascending start) list;
+              answers = All-weaker (IsAbsent (ascending start)) (λ b. IsRight (ascending start) b.number b.reply) (λ b out. subst (λ r. IsRight (ascending start) b.number r) (sym out.reply) out.not_held) (absent_first (ascending start) list) absent;
+              in_order = pairs_absent (ascending start) list;
+              not_gone = λ moves. absurd (moves refl);
+            });
       }
