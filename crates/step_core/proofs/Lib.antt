@@ -6,6 +6,7 @@ pub mod CastRows
 pub mod Copies
 pub mod Debts
 pub mod Listings
+pub mod SeatPlaces
 pub mod Sets
 pub mod WithdrawAtRest
 pub mod WithdrawBegun

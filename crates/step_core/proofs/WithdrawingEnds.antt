@@ -102,8 +102,12 @@ module _ (w : Withdrawing) (h : IsWithdrawing w) (done : All IsDone w.tabs) wher
       ∙ sym (begun_is x)
 
   begun_listed : (x : ℕ) → times (begun_by (map view_of w.tabs)) x ≤ times (listed (answers_in w)) x
-  begun_listed x = omega (arith, begun_is x, listed_is x,
-      sum_by-le-sum_by (λ (t : Withdrawer). times (numbers_that is_withdrawn t.answers) x) (λ (t : Withdrawer). times (map (λ a. a.number) t.answers) x) w.tabs (λ t. kind_within is_withdrawn t.answers x))
+  begun_listed x = omega (
+    arith,
+    begun_is x,
+    listed_is x,
+    sum_by-le-sum_by (λ (t : Withdrawer). times (numbers_that is_withdrawn t.answers) x) (λ (t : Withdrawer). times (map (λ a. a.number) t.answers) x) w.tabs (λ t. kind_within is_withdrawn t.answers x),
+  )
 
   -- by its kind
   answer_cases : (t : Withdrawer) (k : ℕ) (a : Withdrawal) → k < length w.tabs → get_or w.tabs k t ≡ t → Contains w.held a.number → Contains t.answers a → (r : reply.WithdrawReply) → a.reply ≡ r → IsRight w.held a.number r → 0 < times (begun_by (map view_of w.tabs)) a.number

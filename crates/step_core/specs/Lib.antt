@@ -1,5 +1,6 @@
 pub mod Act
 pub mod CastKept
+pub mod Seats
 pub mod Shape
 pub mod WithdrawKept
 pub mod WithdrawTables

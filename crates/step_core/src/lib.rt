@@ -4,6 +4,7 @@
 
 mod act;
 pub mod laws;
+mod seats;
 mod shape;
 mod withdraw;
 
