@@ -4,6 +4,7 @@ pub mod CastOpening
 pub mod CastPlaces
 pub mod CastRows
 pub mod Copies
+pub mod CoreWithdrawers
 pub mod Debts
 pub mod Listings
 pub mod SeatPlaces

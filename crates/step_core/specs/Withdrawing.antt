@@ -61,6 +61,9 @@ settled held tab =
 
 -- ---- the opening
 
+abbrev pub opened_tab : List ℕ → List ℕ → Withdrawer
+opened_tab held list = settled held (record { state = Rest; answers = []; left = list })
+
 abbrev pub opened : ℕ → ℕ → ℕ → List ℕ → List (List ℕ) → Withdrawing
 opened bits salt limit start lists =
     let cells = 2 ^ bits + limit in
@@ -70,7 +73,7 @@ opened bits salt limit start lists =
       limit = limit;
       held = ascending start;
       words = layout_of (home_of bits salt) cells start ++ replicate cells 0;
-      tabs = map (λ list. settled (ascending start) (record { state = Rest; answers = []; left = list })) lists;
+      tabs = map (opened_tab (ascending start)) lists;
     }
 
 -- ---- steps

@@ -7,7 +7,9 @@ pub mod laws;
 mod seats;
 mod shape;
 mod withdraw;
+mod withdrawer;
 
 pub use act::{Act, Stepped};
 pub use shape::Shape;
 pub use withdraw::{WithdrawNote, WithdrawState, withdraw_act, withdraw_after, withdraw_first};
+pub use withdrawer::WithdrawReply;

@@ -1,6 +1,6 @@
 //! The numbers that a withdrawing phase begins with, and the cells in which they stand.
 
-ghost use Rattle.std.specs.Prelude.{◌≡◌, ◌≢◌, ℕ, ◌<◌, All, AllPairs, Contains, IfOk, IsPermutation, MatchOption, length, slice_index, vec_len};
+ghost use Rattle.std.specs.Prelude.{◌≡◌, ◌≢◌, ◌↔◌, ℕ, ◌<◌, All, AllPairs, Contains, IfOk, IsPermutation, IsTrue, MatchOption, length, slice_index, vec_len};
 ghost use Rattle.std.specs.List.Sorted.{IsNonDecreasing};
 ghost use Rattle.step_core.specs.Seats.{AreSeats, IsCellOf, StandOnce};
 ghost use Rattle.store_spec.specs.Layout.{ascending};
@@ -13,6 +13,8 @@ use std::alloc::Global;
 pub struct Seats {
     pub numbers: Vec<u64>,
     pub places: Vec<usize>,
+    ghost in_order: { IsNonDecreasing numbers.items },
+    ghost as_many: { vec_len places ≡ vec_len numbers },
 }
 
 impl Seats {
@@ -31,10 +33,15 @@ impl Seats {
         Ok(Seats { numbers, places })
     }
 
+    /// Whether a number is one of the numbers.
+    pub fn holds(&self, number: u64) -> bool
+        ensures { IsTrue result ↔ Contains self.now.numbers.items number }
+    {
+        seat_of(&self.numbers, number).is_some()
+    }
+
     /// The cell of a number. `None` where it is none of the numbers.
     pub fn cell_of(&self, number: u64) -> Option<usize>
-        requires in_order { IsNonDecreasing self.now.numbers.items }
-        requires as_many { length self.now.places.items ≡ length self.now.numbers.items }
         ensures { MatchOption result (¬ Contains self.now.numbers.items number)
             (IsCellOf self.now.numbers.items self.now.places.items number) }
     {
