@@ -4,6 +4,8 @@ pub mod CastOpening
 pub mod CastPlaces
 pub mod CastRows
 pub mod Copies
+pub mod CoreEnds
+pub mod CoreSteps
 pub mod CoreWithdrawers
 pub mod Debts
 pub mod Listings

@@ -3,6 +3,7 @@ pub mod CastKept
 pub mod Seats
 pub mod Shape
 pub mod WithdrawCore
+pub mod WithdrawCoreKept
 pub mod WithdrawKept
 pub mod WithdrawTables
 pub mod Withdrawing

@@ -1,12 +1,12 @@
 -- A withdrawing phase that is made step by step: withdrawers, each with a list of numbers, on shared words.
 use Rattle.std.specs.Prelude.{◌≡◌, ◌≢◌, ℕ, ◌+◌, ◌^◌, ◌-◌, ◌<◌, ◌≤◌, ◌==◌, if◌then◌else◌, ⊤, Bool, true, false, List, [], ◌∷◌, ◌++◌, length, take, drop, map, filter, replicate, All, AllPairs, Contains, Some, slice_get, slice_index, slice_set}
 use Rattle.std.specs.List.{list_any}
-use Rattle.std.specs.Option.{IsSomeAnd}
+use Rattle.std.specs.Option.{IsSomeAnd, option_map_or}
 use Rattle.store_spec.specs.Home.{home_of}
 use Rattle.store_spec.specs.Layout.{ascending, layout_of}
 use Rattle.store_spec.specs.Measure.{Falls}
 use Rattle.store_spec.specs.WithdrawInvariant.{WithdrawInvariant}
-use Rattle.store_spec.specs.WithdrawPhase.{IsRight, MayPrecede, Withdrawal, WithdrawOutcome, WithdrawReply, is_withdrawn}
+use Rattle.store_spec.specs.WithdrawPhase.{IsRight, MayPrecede, Withdrawal, WithdrawOutcome, WithdrawReply, is_withdrawn, listed, without}
 use Rattle.store_spec.specs.WithdrawPhase.WithdrawReply.{Withdrawn, Gone, Absent}
 use Rattle.store_spec.specs.WithdrawStep as notes
 use Rattle.store_spec.specs.WithdrawStep.{WithdrawMove, WithdrawNote, WithdrawState, WithdrawView, withdraw_measure}
@@ -202,3 +202,11 @@ pub record IsWithdrawing (w : Withdrawing) : Type 0 where
 pub record EndsWith (w : Withdrawing) (after : List ℕ) : Type 0 where
   pub outcome : WithdrawOutcome w.held (answers_in w) after
   pub layout : cells_in w ≡ layout_of (home_in w) (count_in w) after
+
+-- the phase has ended with the set that was held without the listed numbers
+abbrev pub HasEnded : Withdrawing → Type 0
+HasEnded w = EndsWith w (without w.held (listed (answers_in w)))
+
+-- the replies of the withdrawer at `id`, as far as it has answered
+abbrev pub replies_at : Withdrawing → ℕ → List WithdrawReply
+replies_at w id = option_map_or (λ tab. map (λ a. a.reply) tab.answers) (slice_get w.tabs id) []

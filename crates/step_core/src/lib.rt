@@ -7,9 +7,11 @@ pub mod laws;
 mod seats;
 mod shape;
 mod withdraw;
+mod withdraw_core;
 mod withdrawer;
 
 pub use act::{Act, Stepped};
 pub use shape::Shape;
 pub use withdraw::{WithdrawNote, WithdrawState, withdraw_act, withdraw_after, withdraw_first};
+pub use withdraw_core::WithdrawCore;
 pub use withdrawer::WithdrawReply;

@@ -13,7 +13,7 @@ ghost use Rattle.store_spec.specs.WithdrawStep.WithdrawState.{Rest};
 
 use crate::seats::Seats;
 use crate::{
-    Act, Shape, Stepped, WithdrawNote, WithdrawState, withdraw_act, withdraw_after, withdraw_first,
+    Act, Shape, WithdrawNote, WithdrawState, withdraw_act, withdraw_after, withdraw_first,
 };
 use outside_io::Memory;
 use std::alloc::Global;
@@ -209,8 +209,9 @@ fn perform(words: &mut [u64], act: Act) -> u64
     }
 }
 
-/// One step of a withdrawer on the shared words. `AtRest` where it is at rest with its list used up.
-pub fn make_step(shape: &Shape, seats: &Seats, words: &mut [u64], tab: &mut Withdrawer) -> Stepped
+/// One step of a withdrawer on the shared words.
+pub fn make_step(shape: &Shape, seats: &Seats, words: &mut [u64], tab: &mut Withdrawer)
+    requires more { ¬ IsDone (tab_of tab.old) }
     requires room { HasReplyRoom tab.old }
     requires shape { IsShape shape.now (base_of shape.now seats.now.numbers.items) }
     requires seats { AreSeats (base_of shape.now seats.now.numbers.items)
@@ -218,16 +219,10 @@ pub fn make_step(shape: &Shape, seats: &Seats, words: &mut [u64], tab: &mut With
     requires size { length words.old ≡ shape.now.cells + shape.now.cells }
     requires may_step { MayStep (base_of shape.now seats.now.numbers.items)
         seats.now.numbers.items words.old (tab_of tab.old) }
-    ensures at_rest { (result ≡ Stepped.AtRest) ↔ IsDone (tab_of tab.old) }
-    ensures unchanged { result ≡ Stepped.AtRest → (words.new ≡ words.old) × (tab.new ≡ tab.old) }
-    ensures row { result ≡ Stepped.Step → TabSteps shape.now seats.now.numbers.items
+    ensures row { TabSteps shape.now seats.now.numbers.items
         words.old (tab_of tab.old) words.new (tab_of tab.new) }
     ensures kept { HasReplyRoom tab.new }
 {
-    if tab.is_done() {
-        return Stepped::AtRest;
-    }
     let (state, note) = tab.act(shape, seats, words);
     tab.go_to(state, note, seats);
-    Stepped::Step
 }
