@@ -19,9 +19,10 @@ use Rattle.store_spec.specs.WithdrawPhase as outcome
 
 module _ (a : Inside) (w : Withdrawing) (answer : Bool) where
   pub all_done : withdrawing_of a ≡ w → (IsTrue answer ↔ All (λ tab. IsDone (tab_of tab)) a.tabs.items) → IsTrue answer ↔ All IsDone w.tabs
-  all_done is tells = subst (λ (v : Withdrawing). IsTrue answer ↔ All IsDone v.tabs) is
-      (λ yes_all. All-map IsDone tab_of a.tabs.items (tells.0 yes_all),
-      λ done. tells.1 (λ k d lt. subst IsDone (get_or-map tab_of a.tabs.items k d (tab_of d) lt) (done k (tab_of d) (omega (arith, length-map a.tabs.items tab_of)))))
+  all_done is tells = subst (λ (v : Withdrawing). IsTrue answer ↔ All IsDone v.tabs) is (
+    λ yes_all. All-map IsDone tab_of a.tabs.items (tells.0 yes_all),
+    λ done. tells.1 (λ k d lt. subst IsDone (get_or-map tab_of a.tabs.items k d (tab_of d) lt) (done k (tab_of d) (omega (arith, length-map a.tabs.items tab_of)))),
+  )
 
   pub has_ended : IsCoreKept a → withdrawing_of a ≡ w → (IsTrue answer ↔ All (λ tab. IsDone (tab_of tab)) a.tabs.items) → IsTrue answer → HasEnded w
   has_ended kept is tells yes_all = subst HasEnded is (ends (withdrawing_of a) kept.phase (All-map IsDone tab_of a.tabs.items (tells.0 yes_all)))

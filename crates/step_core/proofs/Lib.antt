@@ -5,6 +5,7 @@ pub mod CastPlaces
 pub mod CastRows
 pub mod Copies
 pub mod CoreEnds
+pub mod CoreOpens
 pub mod CoreSteps
 pub mod CoreWithdrawers
 pub mod Debts

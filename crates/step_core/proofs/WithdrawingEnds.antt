@@ -236,7 +236,7 @@ module _ (bits salt limit : ℕ) (start : List ℕ) (lists : List (List ℕ)) (f
       let less : get_or (ascending start) i d < get_or (ascending start) j d = ascending_from_rising (ascending start) (ascending_distinct start distinct) i j d lt in_range in
       λ e. omega arith
 
-  same_base : layout_of (home_of bits salt) (2 ^ bits + limit) start ≡ base_in begin
+  pub same_base : layout_of (home_of bits salt) (2 ^ bits + limit) start ≡ base_in begin
   same_base = ap (laid_out (home_of bits salt) (2 ^ bits + limit)) (sym (same_ascending (ascending start) start (times_ascending start)))
 
   all_fresh : All (λ v. v ≡ fresh_view) (map view_of (opened bits salt limit start lists).tabs)

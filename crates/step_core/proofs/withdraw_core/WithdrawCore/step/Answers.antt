@@ -35,8 +35,11 @@ returns c =
     let stored = with_items_is a.words c.make_step.new.words (c.make_step.auto.words ∙ c.deref_mut.ensures.len) in
     let s = core_step_to a c.args.self.now c.args.tab c.index_mut.result.now c.deref_mut.result.now c.make_step.new.words _ c.make_step.new.tab kept c.self.view_is c.requires (sym c.index_mut.ensures.value) c.deref_mut.ensures.value stored c.make_step.ensures.row in
     record {
-      at_rest = (λ e. absurd (let no : ⊥ = cc in no), λ done. absurd (iff_false c.is_done.ensures c.if-is_done.false
-      (core_done_from a c.args.self.now c.args.tab c.index.result.now kept c.self.view_is c.requires (sym c.index.ensures) done)));
+      at_rest = (
+        λ e. absurd (let no : ⊥ = cc in no),
+        λ done. absurd (iff_false c.is_done.ensures c.if-is_done.false
+            (core_done_from a c.args.self.now c.args.tab c.index.result.now kept c.self.view_is c.requires (sym c.index.ensures) done)),
+      );
       unchanged = λ e. absurd (let no : ⊥ = cc in no);
       row = λ e. s.row;
       falls = λ e. s.falls;
