@@ -4,4 +4,10 @@ pub mod CastCoreKept
 pub mod CastKept
 pub mod CastTables
 pub mod Casting
+pub mod Seats
 pub mod Shape
+pub mod WithdrawCore
+pub mod WithdrawCoreKept
+pub mod WithdrawKept
+pub mod WithdrawTables
+pub mod Withdrawing

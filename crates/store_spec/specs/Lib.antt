@@ -18,3 +18,6 @@ pub mod Measure
 pub mod Phase
 pub mod Probe
 pub mod StepFigures
+pub mod WithdrawInvariant
+pub mod WithdrawPhase
+pub mod WithdrawStep

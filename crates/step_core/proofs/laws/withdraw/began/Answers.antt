@@ -1,0 +1,9 @@
+use Rattle.std.proofs.Common.{◌+◌}
+use Rattle.step_core.proofs.WithdrawRows.{keeps_row}
+use Rattle.step_core.proofs.laws.withdraw.began.Goals as goal
+use Rattle.store_spec.specs.WithdrawStep.WithdrawNote.{Quiet, Gone, Begun, Done}
+use Rattle.store_spec.specs.WithdrawStep.WithdrawState.{Rest, Chosen, Owing, Up, Down}
+use Rattle.store_spec.specs.WithdrawStep.WithdrawRow.{began}
+
+pub returns : goal.returns
+returns c = λ home base x place word stops. keeps_row home base (Chosen x place) place word word (Owing x place) Begun (began stops)

@@ -1,0 +1,8 @@
+use Rattle.step_core.proofs.WithdrawRows.{keeps_first}
+use Rattle.step_core.proofs.laws.withdraw.chose.Goals as goal
+use Rattle.store_spec.specs.WithdrawStep.WithdrawNote.{Quiet, Gone, Begun, Done}
+use Rattle.store_spec.specs.WithdrawStep.WithdrawState.{Rest, Chosen, Owing, Up, Down}
+use Rattle.store_spec.specs.WithdrawStep.FirstRow.{chose}
+
+pub returns : goal.returns
+returns c = λ home base x cell seated. keeps_first home base x cell 0 (Chosen x (home x)) Quiet seated chose

@@ -1,0 +1,8 @@
+use Rattle.step_core.proofs.WithdrawRows.{keeps_first}
+use Rattle.step_core.proofs.laws.withdraw.found_gone.Goals as goal
+use Rattle.store_spec.specs.WithdrawStep.WithdrawNote.{Quiet, Gone, Begun, Done}
+use Rattle.store_spec.specs.WithdrawStep.WithdrawState.{Rest, Chosen, Owing, Up, Down}
+use Rattle.store_spec.specs.WithdrawStep.FirstRow.{found_gone}
+
+pub returns : goal.returns
+returns c = λ home base x cell seated. keeps_first home base x cell 1 Rest Gone seated found_gone

@@ -1,0 +1,9 @@
+use Rattle.std.proofs.Common.{◌+◌}
+use Rattle.step_core.proofs.WithdrawRows.{keeps_row}
+use Rattle.step_core.proofs.laws.withdraw.found_owed.Goals as goal
+use Rattle.store_spec.specs.WithdrawStep.WithdrawNote.{Quiet, Gone, Begun, Done}
+use Rattle.store_spec.specs.WithdrawStep.WithdrawState.{Rest, Chosen, Owing, Up, Down}
+use Rattle.store_spec.specs.WithdrawStep.WithdrawRow.{found_owed}
+
+pub returns : goal.returns
+returns c = λ home base x bound. keeps_row home base (Owing x bound) bound x x (Up x bound (bound + 1)) Quiet (found_owed)

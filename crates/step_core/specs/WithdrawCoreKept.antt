@@ -1,0 +1,23 @@
+-- How a core of withdrawing is kept.
+use Rattle.std.specs.Prelude.{◌≡◌, ℕ, ◌+◌, ◌^◌, ◌<◌, ◌≤◌, map, All}
+use Rattle.step_core.specs.Seats.{AreSeats}
+use Rattle.step_core.specs.WithdrawCore.{HasReplyRoom, IsShape, base_of, tab_of}
+use Rattle.step_core.specs.Withdrawing.{IsWithdrawing, Withdrawing}
+use Rattle.step_core.specs.declared.withdraw_core.WithdrawCore.TheInside.{Inside}
+
+abbrev pub withdrawing_of : Inside → Withdrawing
+withdrawing_of a = record {
+  bits = a.shape.order.bits;
+  salt = a.shape.order.salt;
+  limit = a.limit;
+  held = a.seats.numbers.items;
+  words = a.words.items;
+  tabs = map tab_of a.tabs.items;
+}
+
+pub record IsCoreKept (a : Inside) : Type 0 where
+  pub phase : IsWithdrawing (withdrawing_of a)
+  pub cells : a.shape.cells ≡ 2 ^ a.shape.order.bits + a.limit
+  pub shape : IsShape a.shape (base_of a.shape a.seats.numbers.items)
+  pub seats : AreSeats (base_of a.shape a.seats.numbers.items) a.seats.numbers.items a.seats.places.items
+  pub room : All HasReplyRoom a.tabs.items

@@ -1,0 +1,212 @@
+-- A withdrawing phase that is made step by step: withdrawers, each with a list of numbers, on shared words.
+use Rattle.std.specs.Prelude.{◌≡◌, ◌≢◌, ℕ, ◌+◌, ◌^◌, ◌-◌, ◌<◌, ◌≤◌, ◌==◌, if◌then◌else◌, ⊤, Bool, true, false, List, [], ◌∷◌, ◌++◌, length, take, drop, map, filter, replicate, All, AllPairs, Contains, Some, slice_get, slice_index, slice_set}
+use Rattle.std.specs.List.{list_any}
+use Rattle.std.specs.Option.{IsSomeAnd, option_map_or}
+use Rattle.store_spec.specs.Home.{home_of}
+use Rattle.store_spec.specs.Layout.{ascending, layout_of}
+use Rattle.store_spec.specs.Measure.{Falls}
+use Rattle.store_spec.specs.WithdrawInvariant.{WithdrawInvariant}
+use Rattle.store_spec.specs.WithdrawPhase.{IsRight, MayPrecede, Withdrawal, WithdrawOutcome, WithdrawReply, is_withdrawn, listed, without}
+use Rattle.store_spec.specs.WithdrawPhase.WithdrawReply.{Withdrawn, Gone, Absent}
+use Rattle.store_spec.specs.WithdrawStep as notes
+use Rattle.store_spec.specs.WithdrawStep.{WithdrawMove, WithdrawNote, WithdrawState, WithdrawView, withdraw_measure}
+use Rattle.store_spec.specs.WithdrawStep.WithdrawState.{Rest, Chosen, Owing, Up, Down}
+
+-- A withdrawer: its state, the numbers of its list that are answered, and those that are not. Of these the first is
+-- the one that it is about, unless it is at rest.
+pub record Withdrawer : Type 0 where
+  pub state : WithdrawState
+  pub answers : List Withdrawal
+  pub left : List ℕ
+
+-- the homes, the most numbers that the set may have, the set at the opening in ascending order, the words, and the
+-- withdrawers
+pub record Withdrawing : Type 0 where
+  pub bits : ℕ
+  pub salt : ℕ
+  pub limit : ℕ
+  pub held : List ℕ
+  pub words : List ℕ
+  pub tabs : List Withdrawer
+
+abbrev pub home_in : Withdrawing → ℕ → ℕ
+home_in w = home_of w.bits w.salt
+
+-- a cell for each home and each number
+abbrev pub count_in : Withdrawing → ℕ
+count_in w = 2 ^ w.bits + w.limit
+
+-- the cells at the opening
+abbrev pub base_in : Withdrawing → List ℕ
+base_in w = layout_of (home_in w) (count_in w) w.held
+
+abbrev pub cells_in : Withdrawing → List ℕ
+cells_in w = take (count_in w) w.words
+
+abbrev pub answers_in : Withdrawing → List (List Withdrawal)
+answers_in w = map (λ tab. tab.answers) w.tabs
+
+-- ---- numbers that need no step
+
+-- the answers to the numbers that stand first, as far as they are not held
+abbrev pub absent_first : List ℕ → List ℕ → List Withdrawal
+absent_first held [] = []
+absent_first held (x ∷ xs) = if list_any (λ n. n == x) held then [] else record { number = x; reply = Absent } ∷ absent_first held xs
+
+-- a withdrawer at rest answers them as soon as they stand first
+abbrev pub settled : List ℕ → Withdrawer → Withdrawer
+settled held tab =
+    let absent = absent_first held tab.left in
+    record { state = tab.state; answers = tab.answers ++ absent; left = drop (length absent) tab.left }
+
+-- ---- the opening
+
+abbrev pub opened_tab : List ℕ → List ℕ → Withdrawer
+opened_tab held list = settled held (record { state = Rest; answers = []; left = list })
+
+abbrev pub opened : ℕ → ℕ → ℕ → List ℕ → List (List ℕ) → Withdrawing
+opened bits salt limit start lists =
+    let cells = 2 ^ bits + limit in
+    record {
+      bits = bits;
+      salt = salt;
+      limit = limit;
+      held = ascending start;
+      words = layout_of (home_of bits salt) cells start ++ replicate cells 0;
+      tabs = map (opened_tab (ascending start)) lists;
+    }
+
+-- ---- steps
+
+-- nothing is left to do
+abbrev pub IsDone : Withdrawer → Type 0
+IsDone tab = (tab.state ≡ Rest) × (tab.left ≡ [])
+
+abbrev pub IsDoneAt : Withdrawing → ℕ → Type 0
+IsDoneAt w id = IsSomeAnd (slice_get w.tabs id) IsDone
+
+-- the number of the next step: at rest, the one that stands first
+abbrev pub next_number : WithdrawState → List ℕ → ℕ
+next_number Rest left = slice_index left 0
+next_number state left = notes.number_of state
+
+-- the number that stands first is answered
+abbrev pub answered : WithdrawReply → Withdrawer → Withdrawer
+answered reply tab = record {
+  state = tab.state;
+  answers = tab.answers ++ record { number = slice_index tab.left 0; reply = reply } ∷ [];
+  left = drop 1 tab.left;
+}
+
+-- a withdrawer after a step to this state, with this note, which tells the reply if there is one
+abbrev pub after_step : List ℕ → Withdrawer → WithdrawState → WithdrawNote → Withdrawer
+after_step held tab new notes.Quiet = record { state = new; answers = tab.answers; left = tab.left }
+after_step held tab new notes.Begun = record { state = new; answers = tab.answers; left = tab.left }
+after_step held tab new notes.Gone = settled held (answered Gone (record { state = new; answers = tab.answers; left = tab.left }))
+after_step held tab new notes.Done = settled held (answered Withdrawn (record { state = new; answers = tab.answers; left = tab.left }))
+
+-- the withdrawer at `id` makes one step, one row of the table of withdrawing, and all else stays
+pub record Steps (w : Withdrawing) (id : ℕ) (now : Withdrawing) : Type 0 where
+  pub tab : Withdrawer
+  pub acts : slice_get w.tabs id ≡ Some tab
+  pub word : ℕ
+  pub left : ℕ
+  pub new : WithdrawState
+  pub note : WithdrawNote
+  pub move : WithdrawMove (home_in w) (base_in w) tab.state (next_number tab.state tab.left) word (slice_index w.words word) left new note
+  pub is : now ≡ record {
+    bits = w.bits;
+    salt = w.salt;
+    limit = w.limit;
+    held = w.held;
+    words = slice_set w.words word left;
+    tabs = slice_set w.tabs id (after_step w.held tab new note);
+  }
+
+-- A whole schedule: at each of its places the withdrawer makes one step, or has nothing left to do.
+pub data Runs : Withdrawing → List ℕ → Withdrawing → Type 0 where
+  ended : (w : Withdrawing) → Runs w [] w
+  goes : (w next end : Withdrawing) (id : ℕ) (ids : List ℕ) → Steps w id next → Runs next ids end → Runs w (id ∷ ids) end
+  rests : (w end : Withdrawing) (id : ℕ) (ids : List ℕ) → IsDoneAt w id → Runs w ids end → Runs w (id ∷ ids) end
+
+-- ---- the measure
+
+-- the numbers that were not taken up
+abbrev pub not_begun : WithdrawState → ℕ → ℕ
+not_begun Rest left = left
+not_begun state left = left - 1
+
+abbrev pub tab_measure : ℕ → Withdrawer → List ℕ
+tab_measure cells tab = not_begun tab.state (length tab.left) ∷ withdraw_measure cells tab.state
+
+-- the measure of the withdrawer at `id` falls
+pub record FallsAt (w : Withdrawing) (id : ℕ) (now : Withdrawing) : Type 0 where
+  pub tab : Withdrawer
+  pub stands : slice_get w.tabs id ≡ Some tab
+  pub tab_now : Withdrawer
+  pub stands_now : slice_get now.tabs id ≡ Some tab_now
+  pub falls : Falls (tab_measure (count_in w) tab_now) (tab_measure (count_in w) tab)
+
+-- ---- what holds at every moment
+
+abbrev pub is_gone : WithdrawReply → Bool
+is_gone Withdrawn = false
+is_gone Gone = true
+is_gone Absent = false
+
+-- the numbers with a reply of some kind
+abbrev pub numbers_that : (WithdrawReply → Bool) → List Withdrawal → List ℕ
+numbers_that such answers = map (λ a. a.number) (filter (λ a. such a.reply) answers)
+
+-- the number whose removal was begun and is not answered yet
+abbrev pub begun_now : WithdrawState → List ℕ → List ℕ
+begun_now Rest left = []
+begun_now (Chosen x place) left = []
+begun_now state left = take 1 left
+
+-- a withdrawer as the withdrawing invariant sees it
+abbrev pub view_of : Withdrawer → WithdrawView
+view_of tab = record {
+  state = tab.state;
+  begun = numbers_that is_withdrawn tab.answers ++ begun_now tab.state tab.left;
+  gone = numbers_that is_gone tab.answers;
+}
+
+-- The number that stands first: at rest it is held; on the walk it is the one that is chosen; and later there is one.
+abbrev pub IsNext : List ℕ → WithdrawState → List ℕ → Type 0
+IsNext held Rest [] = ⊤
+IsNext held Rest (x ∷ xs) = Contains held x
+IsNext held (Chosen y place) left = (0 < length left) × (slice_index left 0 ≡ y)
+IsNext held state left = 0 < length left
+
+-- each answer is right and in its order, and what the withdrawer is about was not found gone
+pub record IsWithdrawer (held : List ℕ) (tab : Withdrawer) : Type 0 where
+  pub next : IsNext held tab.state tab.left
+  pub answers : All (λ a. IsRight held a.number a.reply) tab.answers
+  pub in_order : AllPairs MayPrecede tab.answers
+  pub not_gone : tab.state ≢ Rest → All (λ a. a.number ≡ slice_index tab.left 0 → a.reply ≢ Gone) tab.answers
+
+-- The set at the opening is a set within the limit, the withdrawing invariant holds of the words and the withdrawers,
+-- and each withdrawer answers its list in order.
+pub record IsWithdrawing (w : Withdrawing) : Type 0 where
+  pub few_bits : w.bits ≤ 16
+  pub within_limit : length w.held ≤ w.limit
+  pub some : All (λ x. x ≢ 0) w.held
+  pub distinct : AllPairs (λ a b. a ≢ b) w.held
+  pub invariant : WithdrawInvariant (home_in w) (base_in w) w.words (map view_of w.tabs)
+  pub tabs : All (IsWithdrawer w.held) w.tabs
+
+-- ---- at the end
+
+-- All withdrawers are done: the phase has this outcome, and the cells are the layout of the set after it.
+pub record EndsWith (w : Withdrawing) (after : List ℕ) : Type 0 where
+  pub outcome : WithdrawOutcome w.held (answers_in w) after
+  pub layout : cells_in w ≡ layout_of (home_in w) (count_in w) after
+
+-- the phase has ended with the set that was held without the listed numbers
+abbrev pub HasEnded : Withdrawing → Type 0
+HasEnded w = EndsWith w (without w.held (listed (answers_in w)))
+
+-- the replies of the withdrawer at `id`, as far as it has answered
+abbrev pub replies_at : Withdrawing → ℕ → List WithdrawReply
+replies_at w id = option_map_or (λ tab. map (λ a. a.reply) tab.answers) (slice_get w.tabs id) []
