@@ -6,8 +6,8 @@ use Rattle.std.proofs.lemmas.Option.{slice_get-get_or}
 use Rattle.std.specs.List.{All}
 use Rattle.std.specs.Option.{option_map_or}
 use Rattle.std.specs.Prelude.{slice_get}
-use Rattle.step_core.proofs.WithdrawCoreSteps.{tab_within}
-use Rattle.step_core.proofs.WithdrawingEnds.{ends}
+use Rattle.step_core.proofs.WithdrawCoreSteps.{done_at, tab_within}
+use Rattle.step_core.proofs.WithdrawingEnds.{alone_ends, ends}
 use Rattle.step_core.specs.WithdrawCore.{HasReplyRoom, answers_of, reply_of, tab_of}
 use Rattle.step_core.specs.WithdrawCoreKept.{IsCoreKept, withdrawing_of}
 use Rattle.step_core.specs.Withdrawing.{HasEnded, IsDone, Withdrawing, replies_at}
@@ -45,3 +45,10 @@ replies_are a w id tab told kept is lt at same =
     ∙ sym (replies_of tab.list.items tab.replies.items (omega (arith, tab.replies.ok.0, tab.list.ok.0)))
     ∙ ap (λ (o : Option phase.Withdrawer). option_map_or (λ t. map (λ a. a.reply) t.answers) o []) (sym has)
     ∙ ap (λ (v : Withdrawing). replies_at v id) is
+
+-- ---- one withdrawer by itself
+
+pub core_alone : (a : Inside) (w : Withdrawing) (id : ℕ) (tab : Withdrawer) → IsCoreKept a → withdrawing_of a ≡ w → id < length w.tabs → get_or a.tabs.items id tab ≡ tab → IsDone (tab_of tab) → length w.tabs ≡ 1 → HasEnded w
+core_alone a w id tab kept is lt at done one =
+    let at_id = done_at a.shape a.limit a.seats.numbers.items a.words.items a.tabs.items id tab kept.cells (tab_within a w id is lt) at kept.phase done in
+    subst HasEnded is (alone_ends (withdrawing_of a) id kept.phase (ap (λ (v : Withdrawing). length v.tabs) is ∙ one) at_id)

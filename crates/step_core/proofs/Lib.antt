@@ -42,5 +42,6 @@ pub mod WithdrawStates
 pub mod WithdrawingAnswers
 pub mod WithdrawingBase
 pub mod WithdrawingEnds
+pub mod WithdrawingRuns
 pub mod WithdrawingSteps
 pub mod WordSets

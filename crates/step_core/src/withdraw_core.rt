@@ -84,6 +84,9 @@ impl WithdrawCore {
         ensures unchanged { result ≡ Stepped.AtRest → self.new ≡ self.old }
         ensures row { result ≡ Stepped.Step → Steps self.old tab self.new }
         ensures falls { result ≡ Stepped.Step → FallsAt self.old tab self.new }
+
+        // One withdrawer by itself, stepped until it is at rest, ends the phase.
+        ensures alone { length self.old.tabs ≡ 1 → result ≡ Stepped.AtRest → HasEnded self.new }
         ensures invariant { IsWithdrawing self.new }
     {
         if self.tabs[tab].is_done() {

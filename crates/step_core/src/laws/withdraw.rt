@@ -3,7 +3,8 @@
 
 ghost use Rattle.step_core.specs.WithdrawKept.{IsKept};
 ghost use Rattle.step_core.specs.WithdrawTables.{FitsIn, MayFind};
-ghost use Rattle.std.specs.Prelude.{◌≡◌, ◌≢◌, ℕ, ◌+◌, ◌<◌, ◌≤◌, ◌⊎◌, List, [], ◌∷◌, ◌++◌, All, Contains, Some, length, replicate, slice_get, slice_index, slice_set};
+ghost use Rattle.std.specs.Prelude.{◌≡◌, ◌≢◌, ℕ, ◌+◌, ◌<◌, ◌≤◌, ◌⊎◌, List, [], ◌∷◌, ◌++◌, All, AllPairs, Contains, Some, length, replicate, slice_get, slice_index, slice_set};
+ghost use Rattle.step_core.specs.Withdrawing.{HasEnded, IsDone, IsWithdrawing, Runs, Withdrawing, opened};
 ghost use Rattle.store_spec.specs.Act.{word_of};
 ghost use Rattle.store_spec.specs.Layout.{layout_of, numbers_in};
 ghost use Rattle.store_spec.specs.Measure.{Falls};
@@ -178,4 +179,17 @@ pub fn one_row()
     ensures later { (home : ℕ → ℕ) (from : WithdrawState) (v w found l k : ℕ) (a b : WithdrawState) (m n : WithdrawNote)
         → WithdrawRow home from v found l a m → WithdrawRow home from w found k b n
         → (v ≡ w) × (l ≡ k) × (a ≡ b) × (m ≡ n) }
+{}
+
+/// Over every schedule what holds of a phase at its opening holds on, a schedule has one run, and a phase whose
+/// withdrawers are all done has ended with its outcome.
+pub fn every_schedule()
+    ensures opens { (bits salt limit : ℕ) (start : List ℕ) (lists : List (List ℕ))
+        → bits ≤ 16 → length start ≤ limit → All (λ x. x ≢ 0) start → AllPairs (λ a b. a ≢ b) start
+        → IsWithdrawing (opened bits salt limit start lists) }
+    ensures keeps { (w : Withdrawing) (ids : List ℕ) (end : Withdrawing)
+        → Runs w ids end → IsWithdrawing w → IsWithdrawing end }
+    ensures one_run { (w : Withdrawing) (ids : List ℕ) (a b : Withdrawing)
+        → IsWithdrawing w → Runs w ids a → Runs w ids b → a ≡ b }
+    ensures ends { (w : Withdrawing) → IsWithdrawing w → All IsDone w.tabs → HasEnded w }
 {}

@@ -2,6 +2,7 @@ use Rattle.std.proofs.Common.{◌≡◌, ◌<◌, List, ℕ, length, sym, subst,
 use Rattle.std.proofs.lemmas.Bool.{iff_false}
 use Rattle.std.proofs.lemmas.List.{with_items_is}
 use Rattle.std.proofs.lemmas.List.Elements.{All-set}
+use Rattle.step_core.proofs.CoreEnds.{core_alone}
 use Rattle.step_core.proofs.WithdrawCoreSteps.{core_done_from, core_step_to, may_step, tab_within}
 use Rattle.step_core.proofs.withdraw_core.WithdrawCore.step.Goals as goal
 use Rattle.step_core.specs.WithdrawCore.{HasReplyRoom, MayStep, base_of, tab_of}
@@ -43,5 +44,10 @@ returns c =
       unchanged = λ e. absurd (let no : ⊥ = cc in no);
       row = λ e. s.row;
       falls = λ e. s.falls;
+      alone = λ one e. absurd (let no : ⊥ = cc in no);
       invariant = s.keeps;
     }
+
+pub returns-then-is_done-clause-alone : goal.returns-then-is_done-clause-alone
+returns-then-is_done-clause-alone c = λ one e.
+    core_alone c.self.inside c.args.self.now c.args.tab c.index.result.now c.self.invariant c.self.view_is c.requires (sym c.index.ensures) (c.is_done.ensures.0 c.if-is_done.true) one
