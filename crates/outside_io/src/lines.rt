@@ -40,11 +40,16 @@ pub enum LineEndFault {
 }
 
 impl fmt::Display for LineEndFault {
+    ghost use Rattle.std.specs.Prelude.{Some};
+    ghost use Rattle.outside_io.specs.Lines.{fault_text};
+
+    ghost output = { λ fault. Some (fault_text fault) };
+
     fn fmt<W: fmt::Write>(&self, f: &mut fmt::Formatter<W>) -> fmt::Result {
-        f.write_str(match self {
-            LineEndFault::TooLong => "the input is too long",
-            LineEndFault::ReadFault => "the input failed",
-        })
+        match self {
+            LineEndFault::TooLong => f.write_str("the input is too long"),
+            LineEndFault::ReadFault => f.write_str("the input failed"),
+        }
     }
 }
 
