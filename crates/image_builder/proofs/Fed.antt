@@ -8,10 +8,13 @@ use Rattle.image_builder.proofs.Wrong.{whole_bank}
 use Rattle.image_builder.specs.Cells.{AreCells, bytes_in, front_of}
 use Rattle.image_builder.specs.Feeding.{Feeding, IsFront, IsRefusedPiece}
 use Rattle.image_builder.specs.Kept.{AreParts, fed_of}
-use Rattle.image_builder.specs.declared.read.ImageFault.TheVariants.{OtherElection}
+use Rattle.image_builder.specs.Reading.{IsRefusedBank}
+use Rattle.image_builder.specs.declared.read.ImageFault.{ImageFault}
+use Rattle.image_builder.specs.declared.read.ImageFault.TheVariants.{OtherElection, Damaged, Memory}
 use Rattle.store_spec.specs.Ballot.{Ballot}
+use Rattle.store_spec.specs.Damage.{first_cells}
 use Rattle.store_spec.specs.Election.{Election, IsElection, bank_size, cell_count, cell_size}
-use Rattle.store_spec.specs.Image.{header_of, image_of}
+use Rattle.store_spec.specs.Image.{IsImageOf, cells_of, header_of, image_of}
 
 -- ---- nothing is wrong so far
 
@@ -181,3 +184,12 @@ pub feeding_more : (e own : Election) (header numbers : List ℕ) (ballots : Lis
 feeding_more e own header numbers ballots part all same whole is =
     ap (λ e. let f : Feeding = record { election = e; fed = fed_of e header numbers ballots part } in f) same
     ∙ ap (λ fed. let f : Feeding = record { election = e; fed = fed } in f) (ap (λ header. fed_of e header numbers ballots part) whole ∙ is)
+
+-- ---- an image
+
+pub only_memory : (e : Election) (bank : List ℕ) (ballots : List Ballot) (fault : ImageFault) → IsImageOf e bank ballots → IsRefusedBank e bank fault → fault ≡ Memory
+only_memory e bank ballots (OtherElection header) is refused =
+    absurd (refused.1 (refused.0 ∙ ap (take 32) is.bytes ∙ take_at (header_of e) (bytes_in e (cells_of e ballots) ballots) 32 refl))
+only_memory e bank ballots (Damaged cell) is refused =
+    absurd (refused.1.wrong (ballots, is.set, is.within_limit, ap (first_cells e (cell + 1)) is.bytes))
+only_memory e bank ballots Memory is refused = refl
