@@ -1,3 +1,5 @@
+pub mod Fed
+pub mod FirstCells
 pub mod FourTests
 pub mod Images
 pub mod Listings
