@@ -7,11 +7,13 @@ pub mod image;
 pub mod layout;
 pub mod line_laws;
 mod step_figures;
+mod withdraw_figures;
 
 ghost use Rattle.store_spec.specs.Figures.{ExampleHomes, ExampleSizes, ExampleLayout, ExampleImage, ExampleLines};
 
 pub use disk::{torn_again, torn_range, written_range};
 pub use step_figures::{example_claims, example_outcome, example_race};
+pub use withdraw_figures::{example_finding, example_stale_candidate, example_withdrawal};
 
 /// The homes of some numbers under the example election.
 pub fn example_homes()
