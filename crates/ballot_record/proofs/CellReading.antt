@@ -10,7 +10,7 @@ use Rattle.std.proofs.lemmas.Nat.{be_bytes_4, be_bytes_8, from_be_bytes-to_be_by
 use Rattle.store_spec.specs.Ballot.{Ballot, IsValid}
 use Rattle.store_spec.specs.Election.{Election, IsElection}
 use Rattle.store_spec.specs.Image.{ballot_bytes}
-use Rattle.store_spec.proofs.ValidMarks.{small_set, marks_kept}
+use Rattle.ballot_record.proofs.ValidMarks.{small_set, marks_kept}
 use Rattle.ballot_record.specs.CellReading.{sets_at, ballot_at}
 
 abbrev pub AreBytes : List ℕ → Type 0
@@ -87,7 +87,7 @@ pub cell_again : (e : Election) (b : Ballot) → IsElection e → IsValid e b �
 cell_again e b election valid =
     let n = length e.contests in
     let front = take n b.marks in
-    let count : length front ≡ n = omega (arith, length-take n b.marks, valid.sixteen, election.few_contests) in
+    let count : length front ≡ n = omega (arith, length-take n b.marks, valid.every_set, election.few_contests) in
     let small : (i : ℕ) → i < length front → get_or front i 0 < 2 ^ 32 = λ i within.
     subst (λ set. set < 2 ^ 32) (sym (get_or-take n b.marks i 0 (omega (arith, count)))) (small_set e b election valid i (omega (arith, count, election.few_contests))) in
     let parts = parted (to_be_bytes w64 b.number) (b.style % 256) (flat_map (to_be_bytes w32) front) refl in

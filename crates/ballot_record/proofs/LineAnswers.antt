@@ -3,43 +3,43 @@ use Rattle.std.proofs.Common.{◌≡◌, ◌≢◌, ℕ, List, length, Option, S
 use Rattle.std.specs.Prelude.{option_map}
 use Rattle.std.proofs.lemmas.Option.{none-some, some_pair_parts}
 use Rattle.store_spec.specs.Ballot.{Ballot, IsValid}
-use Rattle.store_spec.specs.BallotLine.{Line, ReadsAs, IsRecordLine, Spells, IsLineOf, ballot_of_line}
+use Rattle.store_spec.specs.BallotLine.{RecordLine, ReadsAs, IsRecordLine, Spells, IsLineOf, ballot_of_line}
 use Rattle.store_spec.specs.Election.{Election}
-use Rattle.store_spec.proofs.LineReading.{line_of}
-use Rattle.store_spec.proofs.LineLaws.{one_reading}
-use Rattle.store_spec.proofs.LineWhole.{line_takes, line_again}
+use Rattle.ballot_record.specs.LineReading.{line_of}
+use Rattle.ballot_record.proofs.LineLaws.{one_reading}
+use Rattle.ballot_record.proofs.LineWhole.{line_takes, line_again}
 use Rattle.ballot_record.specs.Line.{line_seen}
 
-pub not_a_line : (bytes : List ℕ) → None ≡ option_map line_seen (line_of bytes) → ¬ IsRecordLine bytes
-not_a_line bytes none is = none-some (line_seen is.0) (none ∙ ap (option_map line_seen) (line_again bytes is.0 is.1))
+pub not_a_line : (e : Election) (bytes : List ℕ) → None ≡ option_map line_seen (line_of bytes) → ¬ IsRecordLine e bytes
+not_a_line e bytes none is = none-some (line_seen is.0) (none ∙ ap (option_map line_seen) (line_again e bytes is.0 is.1))
 
 -- the line behind a record that was read
-pub record IsLineRead (bytes : List ℕ) (b : Ballot) (count : ℕ) : Type 0 where
-  pub line : Line
-  pub reads : ReadsAs bytes line
+pub record IsLineRead (e : Election) (bytes : List ℕ) (b : Ballot) (count : ℕ) : Type 0 where
+  pub line : RecordLine
+  pub reads : ReadsAs e bytes line
   pub is : b ≡ ballot_of_line line
   pub counted : count ≡ length line.groups
 
-read_from : (bytes : List ℕ) (b : Ballot) (count : ℕ) (o : Option Line) → line_of bytes ≡ o → Some (b, count) ≡ option_map line_seen o → IsLineRead bytes b count
-read_from bytes b count None found e = absurd (none-some (b, count) (sym e))
-read_from bytes b count (Some line) found e =
-    let parts = some_pair_parts b (ballot_of_line line) count (length line.groups) e in
-    record { line = line; reads = line_takes bytes line found; is = parts.0; counted = parts.1 }
+read_from : (e : Election) (bytes : List ℕ) (b : Ballot) (count : ℕ) (o : Option RecordLine) → line_of bytes ≡ o → Some (b, count) ≡ option_map line_seen o → IsLineRead e bytes b count
+read_from e bytes b count None found same = absurd (none-some (b, count) (sym same))
+read_from e bytes b count (Some line) found same =
+    let parts = some_pair_parts b (ballot_of_line line) count (length line.groups) same in
+    record { line = line; reads = line_takes e bytes line found; is = parts.0; counted = parts.1 }
 
-pub line_read : (bytes : List ℕ) (b : Ballot) (count : ℕ) → Some (b, count) ≡ option_map line_seen (line_of bytes) → IsLineRead bytes b count
-line_read bytes b count e = read_from bytes b count (line_of bytes) refl e
+pub line_read : (e : Election) (bytes : List ℕ) (b : Ballot) (count : ℕ) → Some (b, count) ≡ option_map line_seen (line_of bytes) → IsLineRead e bytes b count
+line_read e bytes b count same = read_from e bytes b count (line_of bytes) refl same
 
-pub spells : (e : Election) (bytes : List ℕ) (b : Ballot) (count : ℕ) → IsLineRead bytes b count → count ≡ length e.contests → IsValid e b → Spells e bytes b
+pub spells : (e : Election) (bytes : List ℕ) (b : Ballot) (count : ℕ) → IsLineRead e bytes b count → count ≡ length e.contests → IsValid e b → Spells e bytes b
 spells e bytes b count read all valid = record { line = read.line; reads = read.reads; a_group_each = sym read.counted ∙ all; is = read.is; valid = valid }
 
-pub other_groups : (e : Election) (bytes : List ℕ) (b : Ballot) (count : ℕ) → IsLineRead bytes b count → count ≢ length e.contests → ¬ IsLineOf e bytes
+pub other_groups : (e : Election) (bytes : List ℕ) (b : Ballot) (count : ℕ) → IsLineRead e bytes b count → count ≢ length e.contests → ¬ IsLineOf e bytes
 other_groups e bytes b count read differs is =
     let spelled = is.1 in
-    differs (read.counted ∙ ap (λ (line : Line). length line.groups) (one_reading bytes read.line spelled.line read.reads spelled.reads) ∙ spelled.a_group_each)
+    differs (read.counted ∙ ap (λ (line : RecordLine). length line.groups) (one_reading e bytes read.line spelled.line read.reads spelled.reads) ∙ spelled.a_group_each)
 
-pub not_valid : (e : Election) (bytes : List ℕ) (b : Ballot) (count : ℕ) → IsLineRead bytes b count → ¬ IsValid e b → ¬ IsLineOf e bytes
+pub not_valid : (e : Election) (bytes : List ℕ) (b : Ballot) (count : ℕ) → IsLineRead e bytes b count → ¬ IsValid e b → ¬ IsLineOf e bytes
 not_valid e bytes b count read invalid is =
     let x = is.0 in
     let spelled = is.1 in
-    let same : x ≡ b = spelled.is ∙ ap ballot_of_line (one_reading bytes spelled.line read.line spelled.reads read.reads) ∙ sym read.is in
+    let same : x ≡ b = spelled.is ∙ ap ballot_of_line (one_reading e bytes spelled.line read.line spelled.reads read.reads) ∙ sym read.is in
     invalid (subst (IsValid e) same spelled.valid)

@@ -5,7 +5,7 @@ use Rattle.std.proofs.lemmas.List.{set_at, length-map}
 use Rattle.std.proofs.lemmas.List.{map-append}
 use Rattle.std.proofs.lemmas.Option.{some_pair_parts}
 use Rattle.store_spec.specs.BallotLine.{mark_set}
-use Rattle.store_spec.proofs.LineReading.{group_at, groups_of}
+use Rattle.ballot_record.specs.LineReading.{group_at, groups_of}
 use Rattle.ballot_record.specs.Line.{set_seen, sets_seen}
 use Rattle.ballot_record.proofs.LineSets.{rest_past, when_past, when_not_past}
 

@@ -6,8 +6,8 @@ use Rattle.std.proofs.lemmas.Nat.{or_comm, or_shifted, pow_below}
 use Rattle.std.proofs.Common.{pow_mono, pow-suc}
 use Rattle.std.proofs.lemmas.List.Sums.{sum_by-cons}
 use Rattle.store_spec.specs.BallotLine.{mark_set}
-use Rattle.store_spec.proofs.LineReading.{digits_at, past_byte, with_first, choices_at}
-use Rattle.store_spec.proofs.LineNumbers.{number_takes}
+use Rattle.ballot_record.specs.LineReading.{digits_at, past_byte, with_first, choices_at}
+use Rattle.ballot_record.proofs.LineNumbers.{number_takes}
 use Rattle.ballot_record.specs.Line.{set_seen}
 
 -- a set and the choices that follow, as one set

@@ -1,8 +1,8 @@
-pub mod Cell
 pub mod CellReading
 pub mod Contest
 pub mod Kept
 pub mod Line
+pub mod LineReading
 pub mod Parts
 pub mod Record
 pub mod LineWhy

@@ -14,13 +14,13 @@ parts_of contests styles limit bits salt = record {
 }
 
 -- what an election's rules say of its contests alone
-pub record AreContests (contests : List definition.Contest) : Type 0 where
+pub record AreContests (most most_choices : ℕ) (contests : List definition.Contest) : Type 0 where
   pub some : 1 ≤ length contests
-  pub few : length contests ≤ 16
-  pub each : All definition.IsContest contests
+  pub few : length contests ≤ most
+  pub each : All (definition.IsContestUpTo most_choices) contests
 
 -- what they say of the styles over so many contests
 pub record AreStyles (contests : ℕ) (styles : List ℕ) : Type 0 where
   pub some : 1 ≤ length styles
-  pub few : length styles ≤ 255
+  pub few : length styles ≤ definition.most_styles
   pub each : All (definition.IsStyle contests) styles

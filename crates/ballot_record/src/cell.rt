@@ -1,13 +1,13 @@
 ghost use Rattle.std.specs.Prelude.{◌≡◌, ◌+◌, ◌-◌, ◌*◌, ◌≤◌, ◌++◌, ◌↔◌, length, take, drop, replicate, All, IsTrue};
 ghost use Rattle.std.specs.Int.{from_be_bytes, w32};
-ghost use Rattle.store_spec.specs.Ballot.{Ballot};
+ghost use Rattle.store_spec.specs.Ballot.{Ballot, MARK_SETS};
 ghost use Rattle.store_spec.specs.Election.{cell_size};
-ghost use Rattle.ballot_record.specs.Cell.{IsEmptyCell, IsCellOf};
+ghost use Rattle.store_spec.specs.Image.{IsEmptyCell, IsCellOf};
 ghost use Rattle.ballot_record.specs.CellReading.{sets_at, ballot_at};
 ghost use Rattle.ballot_record.specs.Record.{ballot};
 ghost use Rattle.ballot_record.specs.declared.record.Record as declared;
 
-use crate::{Election, MAX_CONTESTS, Record};
+use crate::{Election, MAX_MARK_SETS, Record};
 
 /// What stands in a cell.
 #[derive(Clone, Copy, Debug, PartialEq, Eq)]
@@ -32,12 +32,12 @@ fn take_set(bytes: &[u8]) -> (u32, &[u8])
 }
 
 /// So many mark sets, with zeros behind them.
-fn take_sets(bytes: &[u8], contests: usize) -> [u32; MAX_CONTESTS]
-    requires few { contests ≤ 16 }
+fn take_sets(bytes: &[u8], contests: usize) -> [u32; MAX_MARK_SETS]
+    requires few { contests ≤ MARK_SETS }
     requires long { length bytes.now ≡ 4 * contests }
-    ensures { result ≡ sets_at contests bytes.now ++ replicate (16 - contests) 0 }
+    ensures { result ≡ sets_at contests bytes.now ++ replicate (MARK_SETS - contests) 0 }
 {
-    let mut marks = [0; MAX_CONTESTS];
+    let mut marks = [0; MAX_MARK_SETS];
     let mut rest = bytes;
     for place in 0..contests {
         let (set, after) = take_set(rest);
@@ -49,7 +49,7 @@ fn take_sets(bytes: &[u8], contests: usize) -> [u32; MAX_CONTESTS]
 
 /// The record that the bytes of a cell spell, valid or not.
 fn record_at(bytes: &[u8], contests: usize) -> Record
-    requires few { contests ≤ 16 }
+    requires few { contests ≤ MARK_SETS }
     requires long { length bytes.now ≡ 9 + 4 * contests }
     ensures { ballot result ≡ ballot_at contests bytes.now }
 {
@@ -74,8 +74,11 @@ fn are_zero(bytes: &[u8]) -> bool
 pub fn take_cell(bytes: &[u8], election: &Election) -> CellRead
     requires { length bytes.now ≡ cell_size election.now }
     ensures empty { (result ≡ CellRead.Empty) ↔ IsEmptyCell election.now bytes.now }
-    ensures held { (r : declared.Record) → (result ≡ CellRead.Held r) ↔ IsCellOf election.now bytes.now (ballot r) }
-    ensures bad { (result ≡ CellRead.Bad) ↔ (¬ IsEmptyCell election.now bytes.now × ((b : Ballot) → ¬ IsCellOf election.now bytes.now b)) }
+    ensures held { (r : declared.Record) → (result ≡ CellRead.Held r)
+        ↔ IsCellOf election.now bytes.now (ballot r) }
+    ensures bad { (result ≡ CellRead.Bad)
+        ↔ (¬ IsEmptyCell election.now bytes.now
+        × ((b : Ballot) → ¬ IsCellOf election.now bytes.now b)) }
 {
     let record = record_at(bytes, election.contests());
     if record.valid(election) {

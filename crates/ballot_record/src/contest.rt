@@ -1,5 +1,5 @@
 ghost use Rattle.std.specs.Prelude.{◌↔◌, IsTrue};
-ghost use Rattle.store_spec.specs.Election.{IsContest};
+ghost use Rattle.store_spec.specs.Election.{IsContestUpTo};
 
 /// The most choices of a contest.
 pub const MAX_CHOICES: u8 = 32;
@@ -18,7 +18,7 @@ impl Contest {
 
     /// Whether its numbers are within the limits.
     pub fn is_valid(&self) -> bool
-        ensures { IsTrue result ↔ IsContest (contest_of self.now) }
+        ensures { IsTrue result ↔ IsContestUpTo MAX_CHOICES (contest_of self.now) }
     {
         1 <= self.choices
             && self.choices <= MAX_CHOICES

@@ -1,9 +1,9 @@
 ghost use Rattle.std.specs.Prelude.{◌≡◌, ◌-◌, ◌^◌, ◌<◌, ◌≤◌, ◌++◌, ◌↔◌, length, replicate, All, Some, IsTrue, IsSome, IfSome, slice_get};
-ghost use Rattle.store_spec.specs.Election.{IsContest, IsStyle, IsElection, choices_of, choices_on, is_on_style, cell_count, cell_size, bank_size, medium_size, example};
+ghost use Rattle.store_spec.specs.Election.{IsContest, IsContestUpTo, IsStyle, IsElection, choices_of, choices_on, is_on_style, cell_count, cell_size, bank_size, medium_size, most_bank_size, most_cell_size, most_cells, most_choices, example};
 ghost use Rattle.ballot_record.specs.Contest.{contest_of, contests_of, no_contest};
 ghost use Rattle.ballot_record.specs.Parts.{parts_of, AreContests, AreStyles};
 
-use crate::Contest;
+use crate::{Contest, MAX_CHOICES};
 use std::marker::Model;
 
 /// The most contests of an election.
@@ -52,20 +52,21 @@ impl Model for Election {
 }
 
 fn each_is_valid(contests: &[Contest]) -> bool
-    ensures { IsTrue result ↔ All (λ contest. IsContest (contest_of contest)) contests.now }
+    ensures { IsTrue result
+        ↔ All (λ contest. IsContestUpTo MAX_CHOICES (contest_of contest)) contests.now }
 {
     contests.iter().all(|contest| contest.is_valid())
 }
 
 fn are_contests(contests: &[Contest]) -> bool
-    ensures { IsTrue result ↔ AreContests (contests_of contests.now) }
+    ensures { IsTrue result ↔ AreContests MAX_CONTESTS MAX_CHOICES (contests_of contests.now) }
 {
     let count = contests.len();
     1 <= count && count <= MAX_CONTESTS && each_is_valid(contests)
 }
 
 fn are_styles(styles: &[u32], contests: usize) -> bool
-    requires { contests ≤ 16 }
+    requires { contests ≤ MAX_CONTESTS }
     ensures { IsTrue result ↔ AreStyles contests styles.now }
 {
     !styles.is_empty()
@@ -76,8 +77,9 @@ fn are_styles(styles: &[u32], contests: usize) -> bool
 }
 
 fn contests_kept(contests: &[Contest]) -> [Contest; MAX_CONTESTS]
-    requires { length contests.now ≤ 16 }
-    ensures { result ≡ contests.now ++ replicate (16 - length contests.now) no_contest }
+    requires { length contests.now ≤ MAX_CONTESTS }
+    ensures { result
+        ≡ contests.now ++ replicate (MAX_CONTESTS - length contests.now) no_contest }
 {
     let mut kept = [NO_CONTEST; MAX_CONTESTS];
     kept[..contests.len()].copy_from_slice(contests);
@@ -85,8 +87,8 @@ fn contests_kept(contests: &[Contest]) -> [Contest; MAX_CONTESTS]
 }
 
 fn styles_kept(styles: &[u32]) -> [u32; MAX_STYLES]
-    requires { length styles.now ≤ 255 }
-    ensures { result ≡ styles.now ++ replicate (255 - length styles.now) 0 }
+    requires { length styles.now ≤ MAX_STYLES }
+    ensures { result ≡ styles.now ++ replicate (MAX_STYLES - length styles.now) 0 }
 {
     let mut kept = [0; MAX_STYLES];
     kept[..styles.len()].copy_from_slice(styles);
@@ -103,8 +105,10 @@ impl Election {
         bits: u8,
         salt: u64,
     ) -> Option<Election>
-        ensures valid { IsSome result ↔ IsElection (parts_of contests.now styles.now limit bits salt) }
-        ensures parts { IfSome result (λ election. election ≡ parts_of contests.now styles.now limit bits salt) }
+        ensures valid { IsSome result
+            ↔ IsElection (parts_of contests.now styles.now limit bits salt) }
+        ensures parts { IfSome result
+            (λ election. election ≡ parts_of contests.now styles.now limit bits salt) }
     {
         if !are_contests(contests) || !are_styles(styles, contests.len()) {
             return None;
@@ -156,7 +160,7 @@ impl Election {
         requires first { 1 ≤ k }
         requires last { k ≤ length self.now.contests }
         ensures contest { slice_get self.now.contests (k - 1) ≡ Some (contest_of result) }
-        ensures valid { IsContest (contest_of result) }
+        ensures valid { IsContest self.now (contest_of result) }
     {
         let contests = &self.contests;
         contests[k - 1]
@@ -185,7 +189,7 @@ impl Election {
     /// How many choices a ballot of a style has in contest `k`: none where the contest is not on the style.
     pub fn choices_on(&self, style: u8, k: usize) -> u8
         ensures choices { result ≡ choices_on self.now style k }
-        ensures few { result ≤ 32 }
+        ensures at_most { result ≤ most_choices self.now }
     {
         if self.on_style(style, k) {
             self.contest(k).choices
@@ -220,7 +224,7 @@ impl Election {
     /// How many cells a bank has.
     pub fn cells(&self) -> usize
         ensures count { result ≡ cell_count self.now }
-        ensures few { result ≤ 98304 }
+        ensures at_most { result ≤ most_cells }
     {
         (1 << self.bits) + self.limit as usize
     }
@@ -228,7 +232,7 @@ impl Election {
     /// How many bytes a cell has.
     pub fn cell_bytes(&self) -> usize
         ensures size { result ≡ cell_size self.now }
-        ensures few { result ≤ 73 }
+        ensures at_most { result ≤ most_cell_size self.now }
     {
         9 + 4 * self.contests()
     }
@@ -236,7 +240,7 @@ impl Election {
     /// How many bytes a bank has.
     pub fn bank_bytes(&self) -> usize
         ensures size { result ≡ bank_size self.now }
-        ensures few { result ≤ 7176224 }
+        ensures at_most { result ≤ most_bank_size self.now }
     {
         32 + self.cells() * self.cell_bytes()
     }

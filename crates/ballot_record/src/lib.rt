@@ -5,6 +5,7 @@ mod cell;
 mod contest;
 mod election;
 mod fault;
+pub mod laws;
 mod line;
 mod record;
 
@@ -13,7 +14,7 @@ pub use contest::{Contest, MAX_CHOICES};
 pub use election::{Election, MAX_BITS, MAX_CONTESTS, MAX_LIMIT, MAX_STYLES};
 pub use fault::{LineFault, LineWhy};
 pub use line::read_line;
-pub use record::Record;
+pub use record::{MAX_MARK_SETS, Record};
 
 #[cfg(test)]
 mod tests;

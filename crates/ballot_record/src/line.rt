@@ -1,10 +1,10 @@
 ghost use Rattle.std.specs.Prelude.{◌≡◌, ℕ, ◌^◌, ◌<◌, ◌≤◌, ◌↔◌, option_map, option_copied, Some, None, Ok, Err, IfOk};
 ghost use Rattle.store_spec.specs.BallotLine.{IsRecordLine, Spells, IsLineOf};
-ghost use Rattle.store_spec.proofs.LineReading.{digits_at, past_byte, choices_at, group_at, groups_of, line_of};
+ghost use Rattle.ballot_record.specs.LineReading.{digits_at, past_byte, choices_at, group_at, groups_of, line_of};
 ghost use Rattle.ballot_record.specs.Line.{set_seen, sets_seen, line_seen};
 ghost use Rattle.ballot_record.specs.Record.{ballot};
 
-use crate::{Election, LineFault, MAX_CHOICES, MAX_CONTESTS, MAX_STYLES, Record};
+use crate::{Election, LineFault, MAX_CHOICES, MAX_CONTESTS, MAX_MARK_SETS, MAX_STYLES, Record};
 
 /// What follows a byte, where it stands first.
 fn after_byte(bytes: &[u8], byte: u8) -> Option<&[u8]>
@@ -17,7 +17,7 @@ fn after_byte(bytes: &[u8], byte: u8) -> Option<&[u8]>
 }
 
 /// The number from 1 to the limit that stands first, and the bytes after it.
-#[tactic(auto, unfolding(store_spec::proofs::LineReading::digits_at))]
+#[tactic(auto, unfolding(crate::specs::LineReading::digits_at))]
 fn take_number(bytes: &[u8], limit: u64) -> Option<(u64, &[u8])>
     ensures { option_map (λ x. (x.0, x.1.now)) result ≡ digits_at limit 0 bytes.now }
 {
@@ -40,7 +40,8 @@ fn take_number(bytes: &[u8], limit: u64) -> Option<(u64, &[u8])>
 
 /// The mark set of choices in ascending order, with commas between them, and the bytes after them.
 fn take_choices(bytes: &[u8]) -> Option<(u32, &[u8])>
-    ensures { option_map (λ x. (x.0, x.1.now)) result ≡ option_map set_seen (choices_at 32 0 bytes.now) }
+    ensures { option_map (λ x. (x.0, x.1.now)) result
+        ≡ option_map set_seen (choices_at MAX_CHOICES 0 bytes.now) }
 {
     let mut set: u32 = 0;
     let mut last = 0;
@@ -60,7 +61,7 @@ fn take_choices(bytes: &[u8]) -> Option<(u32, &[u8])>
 }
 
 /// The mark set of a group, and the bytes after it.
-#[tactic(auto, unfolding(store_spec::proofs::LineReading::group_at))]
+#[tactic(auto, unfolding(crate::specs::LineReading::group_at))]
 fn take_group(bytes: &[u8]) -> Option<(u32, &[u8])>
     ensures { option_map (λ x. (x.0, x.1.now)) result ≡ option_map set_seen (group_at bytes.now) }
 {
@@ -71,10 +72,10 @@ fn take_group(bytes: &[u8]) -> Option<(u32, &[u8])>
 }
 
 /// The mark sets of the groups up to the end, and how many groups there are.
-fn all_groups(bytes: &[u8]) -> Option<([u32; MAX_CONTESTS], usize)>
-    ensures { result ≡ option_map sets_seen (groups_of 16 bytes.now) }
+fn all_groups(bytes: &[u8]) -> Option<([u32; MAX_MARK_SETS], usize)>
+    ensures { result ≡ option_map sets_seen (groups_of MAX_CONTESTS bytes.now) }
 {
-    let mut marks = [0; MAX_CONTESTS];
+    let mut marks = [0; MAX_MARK_SETS];
     let mut rest = bytes;
     for place in 0..MAX_CONTESTS {
         let (set, after) = take_group(rest)?;
@@ -88,7 +89,7 @@ fn all_groups(bytes: &[u8]) -> Option<([u32; MAX_CONTESTS], usize)>
 }
 
 /// The record that a line in the grammar spells, and how many groups it has.
-#[tactic(auto, unfolding(store_spec::proofs::LineReading::line_of))]
+#[tactic(auto, unfolding(crate::specs::LineReading::line_of))]
 fn parts(line: &[u8]) -> Option<(Record, usize)>
     ensures { option_map (λ x. (ballot x.0, x.1)) result ≡ option_map line_seen (line_of line.now) }
 {
@@ -108,8 +109,10 @@ fn parts(line: &[u8]) -> Option<(Record, usize)>
 /// has not a group for each contest, or its record is not valid.
 pub fn read_line(line: &[u8], election: &Election) -> Result<Record, LineFault>
     ensures read { IfOk result (λ r. Spells election.now line.now (ballot r)) }
-    ensures malformed { (result ≡ Err LineFault.Malformed) ↔ (¬ IsRecordLine line.now) }
-    ensures invalid { (result ≡ Err LineFault.Invalid) ↔ (IsRecordLine line.now × ¬ IsLineOf election.now line.now) }
+    ensures malformed { (result ≡ Err LineFault.Malformed)
+        ↔ (¬ IsRecordLine election.now line.now) }
+    ensures invalid { (result ≡ Err LineFault.Invalid)
+        ↔ (IsRecordLine election.now line.now × ¬ IsLineOf election.now line.now) }
 {
     let Some((record, groups)) = parts(line) else {
         return Err(LineFault::Malformed);

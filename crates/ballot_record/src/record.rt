@@ -6,13 +6,15 @@ ghost use Rattle.store_spec.specs.Image.{ballot_bytes};
 use crate::Election;
 use byteorder::{BigEndian, ByteOrder};
 
-/// A cast ballot: its number, its style, and a mark set for each of sixteen contests, in which bit c - 1 stands for
-/// choice c.
+/// How many mark sets a record has room for, however many contests its election has.
+pub const MAX_MARK_SETS: usize = 16;
+
+/// A cast ballot: its number, its style, and its mark sets: in that of contest k bit c - 1 stands for choice c.
 #[derive(Clone, Copy, Debug, PartialEq, Eq)]
 pub struct Record {
     pub number: u64,
     pub style: u8,
-    pub marks: [u32; 16],
+    pub marks: [u32; MAX_MARK_SETS],
 }
 
 impl Record {

@@ -144,6 +144,15 @@ fn an_ordinary_precinct(rt: HostRuntime) -> Result<(), Fail> {
     let record = record_of(11053842079311552021, 2, [0x1, 0x112, 0]);
     let line = "11053842079311552021 2 1/2,5,9/-";
     assert_eq!(rt; read_line(line.as_bytes(), &election), Ok(record));
+
+    assert!(rt; record.valid(&election));
+    let mut cell = [0xff; 21];
+    record.put_cell(&election, &mut cell);
+    assert_eq!(rt;
+        cell,
+        *b"\x99\x67\x22\xce\x2c\xa1\x5e\x15\x02\0\0\0\x01\0\0\x01\x12\0\0\0\0"
+    );
+    assert_eq!(rt; take_cell(&cell, &election), CellRead::Held(record));
     Ok(())
 }
 

@@ -1,5 +1,5 @@
 -- Records under their numbers.
-use Rattle.std.proofs.Common.{◌≡◌, ◌≢◌, ℕ, zero, suc, ◌<◌, Bool, true, false, cond, eqb, List, [], ◌∷◌, ◌++◌, length, get_or, map, Option, Some, None, refl, ap, sym, ◌∙◌, inl, inr, arith, length-append}
+use Rattle.std.proofs.Common.{◌≡◌, ◌≢◌, ℕ, zero, suc, ◌<◌, Bool, true, false, cond, eqb, List, [], ◌∷◌, ◌++◌, length, get_or, map, Option, Some, None, refl, ap, sym, ◌∙◌, inl, inr, arith}
 use Rattle.std.proofs.lemmas.Bool.{cases_eq, cases_lt}
 use Rattle.std.proofs.lemmas.List.Folds.{find-append}
 use Rattle.std.specs.Cmp.{nat_cmp_is}
@@ -13,7 +13,7 @@ use Rattle.std.specs.Ordering.{nat_cmp, is_eq}
 use Rattle.std.specs.Prelude.{find, ◌==◌}
 use Rattle.ballot_record.specs.declared.record.Record.{Record}
 use Rattle.ballot_record.specs.Record.{ballot}
-use Rattle.store_spec.specs.Ballot.{Ballot, IsBallotSet, IsValid}
+use Rattle.store_spec.specs.Ballot.{Ballot, IsListing, IsValid}
 use Rattle.store_spec.specs.Election.{Election}
 
 abbrev pub found_in : List Record → ℕ → Option Record
@@ -89,10 +89,9 @@ index_grown old new records cast indexed none updated number =
           ∙ sym (all ∙ ap last test ∙ or_none (found_in records number))
     ]
 
--- a set with one ballot more
-pub set_grown : (e : Election) (ballots : List Ballot) (b : Ballot) → IsBallotSet e ballots → IsValid e b → ((k : ℕ) (d : Ballot) → k < length ballots → (get_or ballots k d).number ≢ b.number) → length ballots < e.limit → IsBallotSet e (ballots ++ b ∷ [])
-set_grown e ballots b set valid new room = record {
-  valid = All-push (IsValid e) ballots b set.valid valid;
-  distinct = all_pairs_push (λ a b. a.number ≢ b.number) ballots b set.distinct new;
-  within_limit = omega (arith, length-append ballots (b ∷ []));
+-- a listing with one ballot more
+pub listing_grown : (e : Election) (ballots : List Ballot) (b : Ballot) → IsListing e ballots → IsValid e b → ((k : ℕ) (d : Ballot) → k < length ballots → (get_or ballots k d).number ≢ b.number) → IsListing e (ballots ++ b ∷ [])
+listing_grown e ballots b listing valid new = record {
+  valid = All-push (IsValid e) ballots b listing.valid valid;
+  distinct = all_pairs_push (λ a b. a.number ≢ b.number) ballots b listing.distinct new;
 }

@@ -1,3 +1,6 @@
+mod Building
+mod Causes
 mod Index
+mod OneAnswer
 mod Reading
 mod Texts

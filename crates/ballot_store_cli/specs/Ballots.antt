@@ -6,10 +6,10 @@ use Rattle.ballot_record.specs.Record.{ballot}
 use Rattle.ballot_record.specs.LineWhy.{reason}
 use Rattle.ballot_record.specs.declared.record.Record.{Record}
 use Rattle.ballot_record.specs.declared.fault.LineWhy.TheVariants.{Malformed, Invalid, Duplicate, Conflict, Full}
-use Rattle.ballot_store_cli.specs.declared.ballots.Ballots.{Ballots}
-use Rattle.ballot_store_cli.specs.declared.ballots.Refusal.{Refusal}
-use Rattle.ballot_store_cli.specs.declared.ballots.Refusal.TheVariants.{Bad, Memory}
-use Rattle.store_spec.specs.Ballot.{Ballot, IsBallotSet}
+use Rattle.ballot_store_cli.specs.declared.build.ballots.Ballots.{Ballots}
+use Rattle.ballot_store_cli.specs.declared.build.ballots.Refusal.{Refusal}
+use Rattle.ballot_store_cli.specs.declared.build.ballots.Refusal.TheVariants.{Bad, Memory}
+use Rattle.store_spec.specs.Ballot.{Ballot, IsListing, IsWithinLimit}
 use Rattle.store_spec.specs.BallotLine.{Spells}
 use Rattle.store_spec.specs.Build.{IsRefused}
 use Rattle.store_spec.specs.Election.{Election}
@@ -22,9 +22,10 @@ ballots_so_far ballots = map ballot ballots.records.items
 abbrev pub IsIndexed : Ballots → Type 0
 IsIndexed ballots = (number : ℕ) → get nat_cmp ballots.index number ≡ find (λ (r : Record). r.number == number) ballots.records.items
 
--- the ballots so far are a set that the election's store may hold, and are found by their numbers
+-- the ballots so far are the listing of a set that the election's store may hold, and are found by their numbers
 pub record IsSound (e : Election) (ballots : Ballots) : Type 0 where
-  pub set : IsBallotSet e (ballots_so_far ballots)
+  pub listing : IsListing e (ballots_so_far ballots)
+  pub within_limit : IsWithinLimit e (ballots_so_far ballots)
   pub indexed : IsIndexed ballots
 
 -- what becomes of a valid ballot after those of the lines before

@@ -1,37 +1,63 @@
 -- What the command `build` makes of a script. `text` is what the script's source had left before the run, and `left`
--- what it has after it; `before` and `now` are what the sink has taken, where it tells.
-use Rattle.std.specs.Prelude.{◌≡◌, ℕ, ◌+◌, ◌-◌, ◌≤◌, List, [], length, take, Option, Ok, Err}
+-- what it has after it.
+use Rattle.std.specs.Prelude.{◌≡◌, ℕ, ◌+◌, ◌≤◌, List, [], ◌++◌, length}
+use Rattle.ballot_record.specs.LineWhy.{reason}
+use Rattle.ballot_store_cli.specs.Outside.{Outside, NoFault}
+use Rattle.ballot_store_cli.specs.declared.status.Status.{Status}
+use Rattle.ballot_store_cli.specs.declared.status.Status.TheVariants as status
+use Rattle.ballot_store_cli.specs.declared.status.Which.TheVariants as which
+use Rattle.outside_io.specs.Told.{IfTold}
 use Rattle.outside_io.specs.Stream.{GivesAtMost, GivesExactly, TakesAll, TakesSome}
-use Rattle.store_spec.specs.Ballot.{Ballot}
-use Rattle.store_spec.specs.Build.{Reason, BuiltFrom}
+use Rattle.store_spec.specs.Ballot.{Ballot, IsBallotSet, IsWithinLimit}
+use Rattle.store_spec.specs.Build.{Builds, IsFirstBad, Reason}
 use Rattle.store_spec.specs.Election.{Election}
+use Rattle.store_spec.specs.Fault.{Rose}
 use Rattle.store_spec.specs.Image.{image_of}
-use Rattle.store_spec.specs.Input.{SCRIPT_LIMIT, ended_lines, lines_of, lines_within}
+use Rattle.store_spec.specs.Input.{script_limit, ended_lines, lines_of, lines_within}
 
 -- the script was read to its end, within its limit
 abbrev pub IsReadOut : List ℕ → List ℕ → Type 0
-IsReadOut text left = (length text ≤ SCRIPT_LIMIT) × (left ≡ [])
+IsReadOut text left = (length text ≤ script_limit) × (left ≡ [])
 
--- the sink took the image of the set that the lines build, and nothing else
-abbrev pub WritesImage : Election → List ℕ → Option (List ℕ) → Option (List ℕ) → Type 0
-WritesImage e text before now = (ballots : List Ballot) × BuiltFrom e (lines_of text) (Ok ballots) × TakesAll before (image_of e ballots) now
+-- the script was read out, and its lines build this set
+abbrev pub BuildsSet : Election → List Ballot → List ℕ → List ℕ → Type 0
+BuildsSet e set text left = IsReadOut text left × Builds e (lines_of text) set
 
--- the sink took some of the first bytes of that image, or none
-abbrev pub WritesPart : Election → List ℕ → Option (List ℕ) → Option (List ℕ) → Type 0
-WritesPart e text before now = (ballots : List Ballot) × BuiltFrom e (lines_of text) (Ok ballots) × TakesSome before (image_of e ballots) now
+-- of the lines that end within the limit this is the first bad one, for this reason
+abbrev pub HasBadLine : Election → ℕ → Reason → List ℕ → List ℕ → Type 0
+HasBadLine e line why text left = IsFirstBad e (lines_within script_limit text) line why × GivesAtMost (script_limit + 1) text left
 
--- this is the first bad line of those that end within the limit, for this reason
-abbrev pub HasBadLine : Election → List ℕ → ℕ → Reason → Type 0
-HasBadLine e text line why = BuiltFrom e (lines_within SCRIPT_LIMIT text) (Err (line, why))
-
--- what the source gave of its text
-abbrev pub given : List ℕ → List ℕ → List ℕ
-given text left = take (length text - length left) text
-
--- no line that ended in what the source gave is bad, and it gave no more than the limit
-abbrev pub IsGoodSoFar : Election → List ℕ → List ℕ → Type 0
-IsGoodSoFar e text left = GivesAtMost SCRIPT_LIMIT text left × (ballots : List Ballot) × BuiltFrom e (ended_lines (given text left)) (Ok ballots)
-
--- the source gave one byte more than the limit, and no line that ends within the limit is bad
+-- one byte more than the limit was read, and no line that ends within the limit is bad
 abbrev pub HasTooMuch : Election → List ℕ → List ℕ → Type 0
-HasTooMuch e text left = GivesExactly (SCRIPT_LIMIT + 1) text left × (ballots : List Ballot) × BuiltFrom e (lines_within SCRIPT_LIMIT text) (Ok ballots)
+HasTooMuch e text left = GivesExactly (script_limit + 1) text left × (set : List Ballot) × Builds e (lines_within script_limit text) set
+
+-- no more than the limit was read, and no line that ended in it is bad
+abbrev pub IsGoodSoFar : Election → List ℕ → List ℕ → Type 0
+IsGoodSoFar e text left = (given : List ℕ) × (text ≡ given ++ left) × (length given ≤ script_limit) × (set : List Ballot) × Builds e (ended_lines given) set
+
+-- a relation of what the script's source had left before and has now, where it tells
+abbrev pub OfScript : {S K : Type 0} → Outside S K → Outside S K → (List ℕ → List ℕ → Type 0) → Type 0
+OfScript before after Related = IfTold before.script.left after.script.left Related
+
+-- the script's lines build some set, and the sink took of its image as this says
+pub record WritesImage {S K : Type 0} (e : Election) (before after : Outside S K) (Takes : List ℕ → Type 0) : Type 0 where
+  pub set : List Ballot
+  pub held : IsBallotSet e set
+  pub within_limit : IsWithinLimit e set
+  pub built : OfScript before after (BuildsSet e set)
+  pub taken : Takes (image_of e set)
+
+-- the script was refused, as this says, and the sink was left alone
+pub record RefusesScript {S K : Type 0} (before after : Outside S K) (Why : List ℕ → List ℕ → Type 0) : Type 0 where
+  pub why : OfScript before after Why
+  pub untouched : after.sink ≡ before.sink
+
+-- All that a run of `build` promises under an election: why each status comes, what was read, and what was written.
+abbrev pub BuildEnds : {S K : Type 0} → Election → Status → Outside S K → Outside S K → Type 0
+BuildEnds e status.Ok before after = WritesImage e before after (λ image. TakesAll before.sink.taken image after.sink.taken) × NoFault before after
+BuildEnds e status.WriteFault before after = WritesImage e before after (λ image. TakesSome before.sink.taken image after.sink.taken) × Rose before.sink.faults after.sink.faults
+BuildEnds e (status.BadLine line why) before after = RefusesScript before after (HasBadLine e line (reason why)) × NoFault before after
+BuildEnds e (status.TooLong which.Script) before after = RefusesScript before after (HasTooMuch e) × NoFault before after
+BuildEnds e (status.ReadFault which.Script) before after = RefusesScript before after (IsGoodSoFar e) × Rose before.script.faults after.script.faults
+BuildEnds e status.Memory before after = RefusesScript before after (GivesAtMost (script_limit + 1)) × NoFault before after
+BuildEnds e other before after = ⊥

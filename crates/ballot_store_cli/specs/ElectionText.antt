@@ -1,54 +1,43 @@
--- What the source of an election gives. `before` is what it had left, and `now` what it has left after the reading,
--- where it tells.
-use Rattle.std.specs.Prelude.{◌≡◌, ℕ, ◌+◌, ◌≤◌, List, [], length, Option}
+-- What the source of an election gives.
+use Rattle.std.specs.Prelude.{◌≡◌, ℕ, ◌+◌, ◌≤◌, List, [], length}
+use Rattle.ballot_store_cli.specs.Outside.{Input}
 use Rattle.ballot_store_cli.specs.declared.status.Status.{Status}
-use Rattle.ballot_store_cli.specs.declared.status.Status.TheVariants.{Ok, Usage, BadElection, TooLong, ReadFault, WriteFault, Memory, BadLine}
+use Rattle.ballot_store_cli.specs.declared.status.Status.TheVariants as status
 use Rattle.ballot_store_cli.specs.declared.status.Which.TheVariants as which
 use Rattle.election_def.specs.Text.{Describes, IsElectionText}
-use Rattle.outside_io.specs.Lines.{IfTold}
+use Rattle.outside_io.specs.Told.{IfTold}
 use Rattle.outside_io.specs.Stream.{GivesAtMost, GivesExactly}
 use Rattle.store_spec.specs.Election.{Election, IsElection}
 use Rattle.store_spec.specs.Fault.{Rose}
 
 -- the most bytes of an election's text
-abbrev pub ELECTION_LIMIT : ℕ
-ELECTION_LIMIT = 1048576
+abbrev pub election_limit : ℕ
+election_limit = 1048576
 
 -- the whole text was read, within its limit
 abbrev pub IsWhole : List ℕ → List ℕ → Type 0
-IsWhole text left = (length text ≤ ELECTION_LIMIT) × (left ≡ [])
+IsWhole text left = (length text ≤ election_limit) × (left ≡ [])
 
 -- the whole text was read, and it describes this election
 abbrev pub IsElectionRead : Election → List ℕ → List ℕ → Type 0
 IsElectionRead e text left = IsWhole text left × Describes text e
 
--- Why no election was read. `was` and `is` are how often the source had failed before and has failed now.
-abbrev pub RefusesElection : Status → Option (List ℕ) → Option (List ℕ) → ℕ → ℕ → Type 0
-RefusesElection BadElection before now was is = IfTold before now (λ text left. IsWhole text left × ¬ IsElectionText text)
-RefusesElection (TooLong which.Election) before now was is = IfTold before now (GivesExactly (ELECTION_LIMIT + 1))
-RefusesElection (ReadFault which.Election) before now was is = Rose was is × IfTold before now (GivesAtMost ELECTION_LIMIT)
-RefusesElection Memory before now was is = Unit {0}
-RefusesElection (TooLong which.Script) before now was is = ⊥
-RefusesElection (ReadFault which.Script) before now was is = ⊥
-RefusesElection Ok before now was is = ⊥
-RefusesElection Usage before now was is = ⊥
-RefusesElection WriteFault before now was is = ⊥
-RefusesElection (BadLine line why) before now was is = ⊥
+-- the whole text was read, and it describes no election
+abbrev pub IsNoElectionRead : List ℕ → List ℕ → Type 0
+IsNoElectionRead text left = IsWhole text left × ¬ IsElectionText text
 
 -- there is a valid election for which this holds: the one that the whole text of the source describes, where it tells
-abbrev pub ForElection : Option (List ℕ) → Option (List ℕ) → (Election → Type 0) → Type 0
-ForElection before now Holds = (e : Election) × IsElection e × IfTold before now (IsElectionRead e) × Holds e
+pub record ForElection {E : Type 0} (before after : Input E) (Holds : Election → Type 0) : Type 0 where
+  pub election : Election
+  pub valid : IsElection election
+  pub read : IfTold before.left after.left (IsElectionRead election)
+  pub no_fault : after.faults ≡ before.faults
+  pub holds : Holds election
 
--- the answers of a run that ended before it came to the script: the words are no command form, or the election was
--- refused; that there was no memory is not among them
-abbrev pub IsBeforeScript : Status → Type 0
-IsBeforeScript Usage = Unit {0}
-IsBeforeScript BadElection = Unit {0}
-IsBeforeScript (TooLong which.Election) = Unit {0}
-IsBeforeScript (ReadFault which.Election) = Unit {0}
-IsBeforeScript (TooLong which.Script) = ⊥
-IsBeforeScript (ReadFault which.Script) = ⊥
-IsBeforeScript Ok = ⊥
-IsBeforeScript WriteFault = ⊥
-IsBeforeScript Memory = ⊥
-IsBeforeScript (BadLine line why) = ⊥
+-- Why a source gave no election, and how much was read of it then.
+abbrev pub RefusesElection : {E : Type 0} → Status → Input E → Input E → Type 0
+RefusesElection status.BadElection before after = IfTold before.left after.left IsNoElectionRead × (after.faults ≡ before.faults)
+RefusesElection (status.TooLong which.Election) before after = IfTold before.left after.left (GivesExactly (election_limit + 1)) × (after.faults ≡ before.faults)
+RefusesElection (status.ReadFault which.Election) before after = IfTold before.left after.left (GivesAtMost election_limit) × Rose before.faults after.faults
+RefusesElection status.Memory before after = IfTold before.left after.left (GivesAtMost (election_limit + 1)) × (after.faults ≡ before.faults)
+RefusesElection other before after = ⊥

@@ -1,9 +1,17 @@
 -- How the program ends: its exit status, and the text on standard error where that is not 0.
-use Rattle.std.specs.Prelude.{ℕ, List, ◌++◌, codes}
+use Rattle.std.specs.Prelude.{ℕ, List, ◌++◌, codes, Result, Ok as Fine, Err}
 use Rattle.std.specs.Fmt.{decimal}
 use Rattle.ballot_store_cli.specs.declared.status.Status.{Status}
 use Rattle.ballot_store_cli.specs.declared.status.Status.TheVariants.{Ok, Usage, BadElection, TooLong, ReadFault, WriteFault, Memory, BadLine}
 use Rattle.ballot_store_cli.specs.declared.status.Which.TheVariants.{Election, Script}
+use Rattle.ballot_store_cli.specs.declared.build.BuildFault.{BuildFault}
+use Rattle.ballot_store_cli.specs.declared.build.script.ScriptFault.{ScriptFault}
+use Rattle.ballot_store_cli.specs.declared.build.script.ScriptFault.TheVariants as script
+use Rattle.election_def.specs.declared.fault.ElectionFault.{ElectionFault}
+use Rattle.election_def.specs.declared.fault.ElectionFault.TheVariants as election
+use Rattle.ballot_store_cli.specs.declared.build.BuildFault.TheVariants as build
+use Rattle.ballot_store_cli.specs.declared.election.NoElection.{NoElection}
+use Rattle.ballot_store_cli.specs.declared.election.NoElection.TheVariants as none
 
 abbrev pub exit_status : Status → ℕ
 exit_status Ok = 0
@@ -26,3 +34,41 @@ status_text (ReadFault Script) = codes "script read fault"
 status_text WriteFault = codes "write fault"
 status_text Memory = codes "out of memory"
 status_text (BadLine line why) = codes "bad line " ++ decimal line
+
+-- the status is neither a fault of the outside nor want of memory
+abbrev pub IsDecided : Status → Type 0
+IsDecided (ReadFault which) = ⊥
+IsDecided WriteFault = ⊥
+IsDecided Memory = ⊥
+IsDecided status = Unit {0}
+
+-- ---- the causes that the parts of the program tell
+
+abbrev pub no_election_status : NoElection → Status
+no_election_status none.BadText = BadElection
+no_election_status none.TooLong = TooLong Election
+no_election_status none.ReadFault = ReadFault Election
+no_election_status none.Memory = Memory
+
+abbrev pub build_fault_status : BuildFault → Status
+build_fault_status (build.BadLine line why) = BadLine line why
+build_fault_status build.TooLong = TooLong Script
+build_fault_status build.ReadFault = ReadFault Script
+build_fault_status build.WriteFault = WriteFault
+build_fault_status build.Memory = Memory
+
+-- the status of what a command answered
+abbrev pub ended_as : {F : Type 0} → (F → Status) → Result (Unit {0}) F → Status
+ended_as fault_status (Fine done) = Ok
+ended_as fault_status (Err fault) = fault_status fault
+
+-- what reading a text, or a script of record lines, answers, as the part above tells it
+abbrev pub no_election : ElectionFault → NoElection
+no_election election.NotElection = none.BadText
+no_election election.Memory = none.Memory
+
+abbrev pub build_fault : ScriptFault → BuildFault
+build_fault (script.BadLine line why) = build.BadLine line why
+build_fault script.TooLong = build.TooLong
+build_fault script.ReadFault = build.ReadFault
+build_fault script.Memory = build.Memory

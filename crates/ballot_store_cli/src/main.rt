@@ -1,13 +1,13 @@
 //! `ballot_store MEDIUM ELECTION COMMAND`: a history-independent store for cast ballots.
 #![tactic(auto)]
 
-mod ballots;
 mod build;
+mod command;
 mod election;
+pub mod laws;
 mod run;
-mod script;
 mod status;
-mod words;
+mod streams;
 
 use outside_io::{FileSource, StdinSource, StdoutSink};
 pub use run::run;
@@ -17,7 +17,7 @@ use std::rt::{Env, Files};
 use std::thread::Threads;
 use std::{env, io};
 
-// The words behind the program's name. Words that are no text are no command form.
+// The words behind the program's name. Words that are no text form no command.
 fn words_of(rt: &(impl Env + AllocGlobal)) -> Result<Vec<String>, Status> {
     match env::args(rt) {
         Ok(words) => words
@@ -48,7 +48,12 @@ where
 }
 
 fn main(rt: HostRuntime) -> ExitCode {
-    let status = status_of(&rt);
+    let status = match streams::hold_numbers(&rt) {
+        Ok(()) => status_of(&rt),
+        Err(_) => Status::ReadFault {
+            which: Which::Script,
+        },
+    };
     if status != Status::Ok {
         let _ = eprintln!(rt; "ballot_store: {status}");
     }

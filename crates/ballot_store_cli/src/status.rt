@@ -1,7 +1,8 @@
 ghost use Rattle.std.specs.Prelude.{◌≡◌};
 
+use crate::build::BuildFault;
+use crate::election::NoElection;
 use ballot_record::LineWhy;
-use outside_io::Memory;
 use std::fmt;
 
 /// Which of the two inputs of a run.
@@ -48,6 +49,47 @@ impl Status {
             Status::WriteFault => 7,
             Status::Memory => 8,
             Status::BadLine { .. } => 15,
+        }
+    }
+}
+
+impl From<NoElection> for Status {
+    ghost use Rattle.std.specs.Prelude.{◌≡◌};
+    ghost use Rattle.ballot_store_cli.specs.Status.{no_election_status};
+
+    ghost from_gives = { λ cause status. status ≡ no_election_status cause };
+
+    fn from(cause: NoElection) -> Self {
+        match cause {
+            NoElection::BadText => Status::BadElection,
+            NoElection::TooLong => Status::TooLong {
+                which: Which::Election,
+            },
+            NoElection::ReadFault => Status::ReadFault {
+                which: Which::Election,
+            },
+            NoElection::Memory => Status::Memory,
+        }
+    }
+}
+
+impl From<BuildFault> for Status {
+    ghost use Rattle.std.specs.Prelude.{◌≡◌};
+    ghost use Rattle.ballot_store_cli.specs.Status.{build_fault_status};
+
+    ghost from_gives = { λ fault status. status ≡ build_fault_status fault };
+
+    fn from(fault: BuildFault) -> Self {
+        match fault {
+            BuildFault::BadLine { line, why } => Status::BadLine { line, why },
+            BuildFault::TooLong => Status::TooLong {
+                which: Which::Script,
+            },
+            BuildFault::ReadFault => Status::ReadFault {
+                which: Which::Script,
+            },
+            BuildFault::WriteFault => Status::WriteFault,
+            BuildFault::Memory => Status::Memory,
         }
     }
 }

@@ -1,4 +1,5 @@
-ghost use Rattle.std.specs.Prelude.{◌≡◌, ◌≤◌, ℕ, length, vec_len, None};
+ghost use Rattle.std.specs.Prelude.{◌≤◌, ℕ, vec_len, None};
+ghost use Rattle.std.proofs.Common.{arith};
 
 use crate::{Status, Which, run};
 use ballot_record::LineWhy;
@@ -15,6 +16,26 @@ fn words(alloc: Global, texts: &[&str]) -> Result<Vec<String>, AllocError> {
     Ok(words)
 }
 
+const BUILD: [&str; 3] = ["medium", "election.json", "build"];
+
+// How the run of these words ends. Each test comes to `run` through this.
+fn ends<R, E, S, K>(
+    rt: &R,
+    texts: &[&str],
+    election: &mut E,
+    script: &mut S,
+    out: &mut K,
+) -> Result<Status, Fail>
+where
+    R: Threads + Sync + AllocGlobal,
+    E: Source,
+    S: Source,
+    K: Sink,
+{
+    let words = words(rt.alloc(), texts)?;
+    Ok(run(rt, rt.alloc(), &words, election, script, out))
+}
+
 // A script source of so many bytes `a`, which gives its bytes in pieces of at most so many, and tells none.
 #[derive(Drop)]
 struct Letters {
@@ -26,6 +47,8 @@ impl Source for Letters {
     ghost left = { λ _. None };
 
     ghost faults = { λ _. 0 };
+
+    ghost counted = { λ _. Prim.omega arith };
 
     fn read(&mut self, buf: &mut [u8]) -> Result<usize, Failed> {
         let count = buf.len().min(self.left).min(self.most);
@@ -48,6 +71,8 @@ impl Source for Pieces {
     ghost left = { λ _. None };
 
     ghost faults = { λ _. 0 };
+
+    ghost counted = { λ _. Prim.omega arith };
 
     fn read(&mut self, buf: &mut [u8]) -> Result<usize, Failed> {
         let left = self.bytes.len() - self.at;
@@ -73,11 +98,10 @@ where
     R: Threads + Sync + AllocGlobal,
 {
     let alloc = rt.alloc();
-    let words = words(alloc, &["medium", "election.json", "build"])?;
     let mut election = MemorySource::new(election.to_vec(alloc)?, Vec::new(alloc));
     let mut source = MemorySource::new(script.to_vec(alloc)?, Vec::new(alloc));
     let mut sink = MemorySink::new(alloc, 1000, Vec::new(alloc))?;
-    let status = run(rt, alloc, &words, &mut election, &mut source, &mut sink);
+    let status = ends(rt, &BUILD, &mut election, &mut source, &mut sink)?;
     Ok((status, sink.bytes().to_vec(alloc)?))
 }
 
@@ -192,7 +216,6 @@ fn bad_lines(rt: HostRuntime) -> Result<(), Fail> {
 #[test]
 fn wide_lines_and_long_scripts(rt: HostRuntime) -> Result<(), Fail> {
     let alloc = rt.alloc();
-    let words = words(alloc, &["medium", "election.json", "build"])?;
     let malformed = Status::BadLine {
         line: 1,
         why: LineWhy::Malformed,
@@ -209,14 +232,13 @@ fn wide_lines_and_long_scripts(rt: HostRuntime) -> Result<(), Fail> {
     ];
     for (left, most, want) in rows {
         let mut sink = MemorySink::new(alloc, 1000, Vec::new(alloc))?;
-        let status = run(
+        let status = ends(
             &rt,
-            alloc,
-            &words,
+            &BUILD,
             &mut example(alloc)?,
             &mut Letters { left, most },
             &mut sink,
-        );
+        )?;
         assert_eq!(rt; status, want, "{left} letters");
         assert_eq!(rt; sink.bytes().len(), 0);
     }
@@ -226,7 +248,6 @@ fn wide_lines_and_long_scripts(rt: HostRuntime) -> Result<(), Fail> {
 #[test]
 fn pieces_of_one_byte(rt: HostRuntime) -> Result<(), Fail> {
     let alloc = rt.alloc();
-    let words = words(alloc, &["medium", "election.json", "build"])?;
     for most in [1usize, 2, 5, 100] {
         let mut source = Pieces {
             bytes: b"9 1 1/-\n14 1 -/2\n1 1 2/1,3\n".to_vec(alloc)?,
@@ -234,14 +255,7 @@ fn pieces_of_one_byte(rt: HostRuntime) -> Result<(), Fail> {
             most,
         };
         let mut sink = MemorySink::new(alloc, 304, Vec::new(alloc))?;
-        let status = run(
-            &rt,
-            alloc,
-            &words,
-            &mut example(alloc)?,
-            &mut source,
-            &mut sink,
-        );
+        let status = ends(&rt, &BUILD, &mut example(alloc)?, &mut source, &mut sink)?;
         assert_eq!(rt; status, Status::Ok);
         assert!(rt;
             is_image(alloc, sink.bytes(), THREE_BALLOTS)?,
@@ -254,7 +268,6 @@ fn pieces_of_one_byte(rt: HostRuntime) -> Result<(), Fail> {
 #[test]
 fn faults_of_source_and_sink(rt: HostRuntime) -> Result<(), Fail> {
     let alloc = rt.alloc();
-    let words = words(alloc, &["medium", "election.json", "build"])?;
     let read_fault = Status::ReadFault {
         which: Which::Script,
     };
@@ -270,27 +283,19 @@ fn faults_of_source_and_sink(rt: HostRuntime) -> Result<(), Fail> {
     for (read, write, room, want) in rows {
         let mut source = MemorySource::new(b"9 1 1/-\n".to_vec(alloc)?, vec![in alloc; read]?);
         let mut sink = MemorySink::new(alloc, room, vec![in alloc; write]?)?;
-        let status = run(
-            &rt,
-            alloc,
-            &words,
-            &mut example(alloc)?,
-            &mut source,
-            &mut sink,
-        );
+        let status = ends(&rt, &BUILD, &mut example(alloc)?, &mut source, &mut sink)?;
         assert_eq!(rt; status, want, "{read} {write} {room}");
         let taken = if want == Status::Ok { 304 } else { 0 };
         assert_eq!(rt; sink.bytes().len(), taken);
     }
     let mut source = SureSource::new(b"9 1 1/-\n".to_vec(alloc)?);
-    let status = run(
+    let status = ends(
         &rt,
-        alloc,
-        &words,
+        &BUILD,
         &mut example(alloc)?,
         &mut source,
         &mut SureSink::new(),
-    );
+    )?;
     assert_eq!(rt; status, Status::Ok);
     Ok(())
 }
@@ -341,7 +346,6 @@ fn other_elections(rt: HostRuntime) -> Result<(), Fail> {
 #[test]
 fn width_and_faults_of_the_election(rt: HostRuntime) -> Result<(), Fail> {
     let alloc = rt.alloc();
-    let words = words(alloc, &["medium", "election.json", "build"])?;
     let too_long = Status::TooLong {
         which: Which::Election,
     };
@@ -349,14 +353,13 @@ fn width_and_faults_of_the_election(rt: HostRuntime) -> Result<(), Fail> {
         let mut text = EXAMPLE.to_vec(alloc)?;
         text.resize(size, b' ')?;
         let mut source = SureSource::new(b"9 1 1/-\n".to_vec(alloc)?);
-        let status = run(
+        let status = ends(
             &rt,
-            alloc,
-            &words,
+            &BUILD,
             &mut SureSource::new(text),
             &mut source,
             &mut SureSink::new(),
-        );
+        )?;
         assert_eq!(rt; status, want, "{size} bytes");
     }
     let read_fault = Status::ReadFault {
@@ -366,7 +369,7 @@ fn width_and_faults_of_the_election(rt: HostRuntime) -> Result<(), Fail> {
         let mut election = MemorySource::new(EXAMPLE.to_vec(alloc)?, vec![in alloc; call]?);
         let mut source = SureSource::new(b"9 1 1/-\n".to_vec(alloc)?);
         let mut sink = MemorySink::new(alloc, 304, Vec::new(alloc))?;
-        let status = run(&rt, alloc, &words, &mut election, &mut source, &mut sink);
+        let status = ends(&rt, &BUILD, &mut election, &mut source, &mut sink)?;
         assert_eq!(rt; status, want, "the election fails at call {call}");
         let taken = if want == Status::Ok { 304 } else { 0 };
         assert_eq!(rt; sink.bytes().len(), taken);
@@ -390,16 +393,14 @@ fn command_forms(rt: HostRuntime) -> Result<(), Fail> {
         (&["m", "--help", "build"], Status::Usage),
     ];
     for (texts, want) in rows {
-        let words = words(alloc, texts)?;
         let mut source = SureSource::new(Vec::new(alloc));
-        let status = run(
+        let status = ends(
             &rt,
-            alloc,
-            &words,
+            texts,
             &mut example(alloc)?,
             &mut source,
             &mut SureSink::new(),
-        );
+        )?;
         assert_eq!(rt; status, want, "{texts:?}");
     }
     Ok(())

@@ -1,13 +1,13 @@
 -- Ballots with no marks, under the example election.
-use Rattle.std.proofs.Common.{◌≡◌, ◌≢◌, ◌^◌, ◌-◌, ℕ, ◌<◌, ◌≤◌, List, [], ◌∷◌, ap, length, map, replicate, slice_index, refl, sym, subst, arith}
-use Rattle.std.proofs.lemmas.List.{get_or-replicate, length-map}
+use Rattle.std.proofs.Common.{◌≡◌, ◌≢◌, ◌^◌, ◌-◌, ℕ, ◌<◌, ◌≤◌, List, [], ◌∷◌, ap, map, replicate, slice_index, refl, sym, subst, arith}
+use Rattle.std.proofs.lemmas.List.{get_or-replicate}
 use Rattle.std.proofs.lemmas.List.Elements.{All-map}
 use Rattle.std.proofs.lemmas.Nat.{pow_pos}
 use Rattle.std.specs.List.{All, AllPairs}
 use Rattle.ballot_record.specs.declared.record.Record.{Record}
 use Rattle.body_store.specs.Contents.{ballots_of}
-use Rattle.store_spec.proofs.BallotNumbers.{pairs_of_ballots}
-use Rattle.store_spec.specs.Ballot.{Ballot, IsValid, IsBallotSet, numbers_of}
+use Rattle.ballot_record.proofs.BallotNumbers.{pairs_of_ballots}
+use Rattle.store_spec.specs.Ballot.{Ballot, IsListing, IsValid, numbers_of}
 use Rattle.store_spec.specs.Election.{example, choices_on}
 
 abbrev pub blank : ℕ → Ballot
@@ -22,7 +22,7 @@ blank_valid number some short = record {
   short_number = short;
   some_style = omega arith;
   known_style = omega arith;
-  sixteen = refl;
+  every_set = refl;
   marked = λ k first last.
       let none : slice_index (replicate 16 0) (k - 1) ≡ 0 = get_or-replicate 16 (k - 1) 0 0 (omega arith) in
       subst (λ (n : ℕ). n < 2 ^ choices_on example 1 k) (sym none) (pow_pos (choices_on example 1 k));
@@ -32,11 +32,10 @@ numbers_of-blank : (ns : List ℕ) → numbers_of (map blank ns) ≡ ns
 numbers_of-blank [] = refl
 numbers_of-blank (n ∷ ns) = ap (λ rest. n ∷ rest) (numbers_of-blank ns)
 
-pub blank_set : (ns : List ℕ) → All (λ n. n ≢ 0) ns → All (λ n. n < 2 ^ 64) ns → AllPairs (λ a b. a ≢ b) ns → length ns ≤ 8 → IsBallotSet example (map blank ns)
-blank_set ns some short apart few = record {
+pub blank_listing : (ns : List ℕ) → All (λ n. n ≢ 0) ns → All (λ n. n < 2 ^ 64) ns → AllPairs (λ a b. a ≢ b) ns → IsListing example (map blank ns)
+blank_listing ns some short apart = record {
   valid = All-map (IsValid example) blank ns (λ k d lt. let one = some k d lt in blank_valid _ (omega arith) (short k d lt));
   distinct = pairs_of_ballots (λ a b. a ≢ b) (map blank ns) (subst (λ (l : List ℕ). AllPairs (λ a b. a ≢ b) l) (sym (numbers_of-blank ns)) apart);
-  within_limit = let size = length-map ns blank in omega arith;
 }
 
 pub ballots_of-blank : (ns : List ℕ) → ballots_of (map blank_record ns) ≡ map blank ns

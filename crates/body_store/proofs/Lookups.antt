@@ -10,7 +10,7 @@ use Rattle.std.specs.declared.cmp.Ordering.TheVariants.{Less, Equal, Greater}
 use Rattle.std.specs.Result.{is_ok}
 use Rattle.ballot_record.specs.declared.record.Record.{Record}
 use Rattle.ballot_record.specs.Record.{ballot}
-use Rattle.store_spec.proofs.BallotNumbers.{no_ballot}
+use Rattle.ballot_record.proofs.BallotNumbers.{no_ballot}
 use Rattle.body_store.specs.Contents.{ballots_of, ballots_without}
 use Rattle.store_spec.specs.Ballot.{Ballot, ballot_of}
 

@@ -7,8 +7,8 @@ use Rattle.std.specs.List.Sorted.{IsNonDecreasing, IsNonDecreasingBy}
 use Rattle.ballot_record.specs.declared.record.Record.{Record}
 use Rattle.ballot_record.specs.Record.{ballot}
 use Rattle.body_store.specs.Contents.{ballots_of}
-use Rattle.store_spec.proofs.BallotNumbers.{no_ballot, pairs_of_numbers}
-use Rattle.store_spec.specs.Ballot.{Ballot, numbers_of}
+use Rattle.ballot_record.proofs.BallotNumbers.{no_ballot}
+use Rattle.store_spec.specs.Ballot.{numbers_of}
 
 pub numbers_of-ballots_of : (records : List Record) → numbers_of (ballots_of records) ≡ map (λ r. r.number) records
 numbers_of-ballots_of [] = refl
@@ -37,10 +37,4 @@ rise_from_ascending records h i j d le within = ⊎_elim
     let less : (get_or (ballots_of records) i no_ballot).number < (get_or (ballots_of records) j no_ballot).number = h i j no_ballot lt (omega arith) in
     omega arith)
     (λ (ge : j ≤ i). let same : i ≡ j = omega arith in let equal : (get_or records i d).number ≡ (get_or records j d).number = ap (λ k. (get_or records k d).number) same in omega arith)
-    (cases_lt i j)
-
-pub rise_from_pairs : (ballots : List Ballot) → AllPairs (λ a b. a.number < b.number) ballots → IsNonDecreasing (numbers_of ballots)
-rise_from_pairs ballots h i j d le within = ⊎_elim
-    (λ (lt : i < j). let less = pairs_of_numbers (λ a b. a < b) ballots h i j d lt within in omega arith)
-    (λ (ge : j ≤ i). let same : i ≡ j = omega arith in let equal : get_or (numbers_of ballots) i d ≡ get_or (numbers_of ballots) j d = ap (λ k. get_or (numbers_of ballots) k d) same in omega arith)
     (cases_lt i j)

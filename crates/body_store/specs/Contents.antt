@@ -1,20 +1,21 @@
 -- What a closed store holds.
-use Rattle.std.specs.Prelude.{ℕ, ◌<◌, ◌==◌, not, List, map, filter, AllPairs}
+use Rattle.std.specs.Prelude.{ℕ, ◌==◌, not, List, map, filter}
 use Rattle.std.specs.List.{list_any}
 use Rattle.ballot_record.specs.declared.record.Record.{Record}
 use Rattle.ballot_record.specs.Record.{ballot}
-use Rattle.store_spec.specs.Ballot.{Ballot, IsBallotSet}
+use Rattle.store_spec.specs.Ballot.{Ballot, IsBallotSet, IsWithinLimit}
 use Rattle.store_spec.specs.Election.{Election, IsElection}
 
+-- its election, and the set of its ballots
 pub record Contents : Type 0 where
   pub election : Election
   pub ballots : List Ballot
 
--- ballots that a store of the election may hold, in ascending order of their numbers
+-- a set that a store of the election may hold
 pub record IsStored (store : Contents) : Type 0 where
   pub election : IsElection store.election
   pub set : IsBallotSet store.election store.ballots
-  pub ascending : AllPairs (λ a b. a.number < b.number) store.ballots
+  pub within_limit : IsWithinLimit store.election store.ballots
 
 abbrev pub ballots_of : List Record → List Ballot
 ballots_of records = map ballot records

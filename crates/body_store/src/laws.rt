@@ -1,10 +1,12 @@
-//! That a set of ballots is kept in one way. The function here states a law and does nothing.
+//! That the cells are those of a set. The function here states a law and does nothing.
 
-ghost use Rattle.std.specs.Prelude.{◌≡◌, ◌<◌, AllPairs, IsPermutation, List};
+ghost use Rattle.std.specs.Prelude.{◌≡◌, IsPermutation, List};
 ghost use Rattle.store_spec.specs.Ballot.{Ballot};
+ghost use Rattle.store_spec.specs.Election.{Election};
+ghost use Rattle.store_spec.specs.Image.{cells_of};
 
-/// A set of ballots has one ascending order of the numbers.
-pub fn one_order()
-    ensures { (xs ys : List Ballot) → AllPairs (λ a b. a.number < b.number) xs
-        → AllPairs (λ a b. a.number < b.number) ys → IsPermutation xs ys → xs ≡ ys }
+/// The cells of ballots do not depend on the order in which they are listed.
+pub fn any_listing()
+    ensures { (e : Election) (xs ys : List Ballot)
+        → IsPermutation xs ys → cells_of e xs ≡ cells_of e ys }
 {}

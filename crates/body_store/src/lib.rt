@@ -9,9 +9,9 @@ mod tests;
 ghost use Rattle.body_store.specs.Contents.{Contents, IsStored, ballots_of, ballots_without};
 ghost use Rattle.std.specs.Prelude.{◌≡◌, ◌++◌, List, [], IfOk, IsPermutation, length, option_map};
 ghost use Rattle.ballot_record.specs.Record.{ballot};
-ghost use Rattle.store_spec.specs.Ballot.{IsBallotSet, ballot_of, numbers_of};
+ghost use Rattle.store_spec.specs.Ballot.{IsListing, IsWithinLimit, ballot_of, numbers_of};
 ghost use Rattle.store_spec.specs.Election.{cell_count};
-ghost use Rattle.store_spec.specs.Home.{home_of};
+ghost use Rattle.store_spec.specs.Home.{home_in};
 ghost use Rattle.store_spec.specs.Image.{cells_of};
 ghost use Rattle.store_spec.specs.Layout.{IsLayout};
 
@@ -60,9 +60,11 @@ impl Closed {
         election: &Election,
         mut ballots: Vec<Record>,
     ) -> Result<Closed, Memory>
-        requires { IsBallotSet election.now (ballots_of ballots.items) }
+        requires listing { IsListing election.now (ballots_of ballots.items) }
+        requires within_limit { IsWithinLimit election.now (ballots_of ballots.items) }
         ensures election { IfOk result (λ store. store.election ≡ election.now) }
-        ensures same { IfOk result (λ store. IsPermutation (ballots_of ballots.items) store.ballots) }
+        ensures same { IfOk result
+            (λ store. IsPermutation (ballots_of ballots.items) store.ballots) }
         ensures stored { IfOk result IsStored }
     {
         ballots.sort_unstable_by_key(|ballot| ballot.number);
@@ -101,7 +103,7 @@ impl Closed {
     /// Its cells, each with the number of a ballot, or 0 where it is empty.
     pub fn cells(&self) -> &[u64]
         ensures cells { result.now ≡ cells_of self.now.election self.now.ballots }
-        ensures layout { IsLayout (home_of self.now.election.bits self.now.election.salt)
+        ensures layout { IsLayout (home_in self.now.election)
             (cell_count self.now.election) (numbers_of self.now.ballots) result.now }
         ensures stored { IsStored self.now }
     {
@@ -124,8 +126,11 @@ impl Closed {
         cells: Vec<u64>,
     ) -> Result<Closed, Memory>
         requires own { election.now ≡ self.now.election }
-        requires set { IsBallotSet election.now (self.now.ballots ++ ballots_of ballots.now) }
-        requires layout { cells.items ≡ cells_of election.now (self.now.ballots ++ ballots_of ballots.now) }
+        requires listing { IsListing election.now (self.now.ballots ++ ballots_of ballots.now) }
+        requires within_limit { IsWithinLimit election.now
+            (self.now.ballots ++ ballots_of ballots.now) }
+        requires layout { cells.items
+            ≡ cells_of election.now (self.now.ballots ++ ballots_of ballots.now) }
         ensures election { IfOk result (λ store. store.election ≡ election.now) }
         ensures union { IfOk result
             (λ store. IsPermutation (self.now.ballots ++ ballots_of ballots.now) store.ballots) }
@@ -149,7 +154,8 @@ impl Closed {
         cells: Vec<u64>,
     ) -> Result<Closed, Memory>
         requires own { election.now ≡ self.now.election }
-        requires layout { cells.items ≡ cells_of election.now (ballots_without self.now.ballots numbers.now) }
+        requires layout { cells.items
+            ≡ cells_of election.now (ballots_without self.now.ballots numbers.now) }
         ensures { IfOk result
             (λ store. store ≡ record {
               election = election.now;

@@ -5,7 +5,7 @@ ghost use Rattle.body_store.specs.Contents.{ballots_of, ballots_without};
 ghost use Rattle.std.specs.List.{list_any};
 ghost use Rattle.std.specs.List.Sorted.{IsNonDecreasing, IsNonDecreasingBy};
 ghost use Rattle.std.specs.Prelude.{◌≡◌, ◌==◌, ◌++◌, ◌<◌, AllPairs, IfOk, option_map};
-ghost use Rattle.store_spec.specs.Ballot.{IsBallotSet, ballot_of, numbers_of};
+ghost use Rattle.store_spec.specs.Ballot.{IsListing, IsWithinLimit, ballot_of, numbers_of};
 ghost use Rattle.store_spec.specs.Election.{IsElection};
 ghost use Rattle.store_spec.specs.Image.{cells_of};
 
@@ -17,8 +17,10 @@ use std::alloc::Global;
 
 /// The cells of a store that holds these ballots.
 pub fn layout(alloc: Global, election: &Election, records: &[Record]) -> Result<Vec<u64>, Memory>
-    requires { IsBallotSet election.now (ballots_of records.now) }
-    ensures cells { IfOk result (λ cells. cells.items ≡ cells_of election.now (ballots_of records.now)) }
+    requires listing { IsListing election.now (ballots_of records.now) }
+    requires within_limit { IsWithinLimit election.now (ballots_of records.now) }
+    ensures cells { IfOk result
+        (λ cells. cells.items ≡ cells_of election.now (ballots_of records.now)) }
     ensures election { IsElection election.now }
 {
     let order = Salted {

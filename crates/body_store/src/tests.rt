@@ -2,22 +2,22 @@
 
 ghost use Rattle.body_store.specs.Contents.{ballots_of};
 ghost use Rattle.std.specs.Prelude.{◌≡◌, ◌≢◌, ◌≤◌, All, AllPairs, IfOk, length, map, replicate};
-ghost use Rattle.store_spec.specs.Ballot.{IsBallotSet};
+ghost use Rattle.store_spec.specs.Ballot.{IsListing, IsWithinLimit, MARK_SETS};
 ghost use Rattle.store_spec.specs.Election.{example};
 
 use crate::{Closed, records};
-use ballot_record::{Election, Record};
+use ballot_record::{Election, MAX_MARK_SETS, Record};
 use outside_io::Memory;
 use std::alloc::Global;
 use std::process::Abort;
 
 fn blank(number: u64) -> Record
-    ensures { result ≡ record { number = number; style = 1; marks = replicate 16 0 } }
+    ensures { result ≡ record { number = number; style = 1; marks = replicate MARK_SETS 0 } }
 {
     Record {
         number,
         style: 1,
-        marks: [0; 16],
+        marks: [0; MAX_MARK_SETS],
     }
 }
 
@@ -25,10 +25,11 @@ fn blanks(alloc: Global, numbers: &[u64]) -> Result<Vec<Record>, Memory>
     requires some { All (λ number. number ≢ 0) numbers.now }
     requires distinct { AllPairs (λ a b. a ≢ b) numbers.now }
     requires few { length numbers.now ≤ 8 }
-    ensures set { IfOk result (λ v. IsBallotSet example (ballots_of v.items)) }
+    ensures listing { IfOk result (λ v. IsListing example (ballots_of v.items)) }
+    ensures within_limit { IfOk result (λ v. IsWithinLimit example (ballots_of v.items)) }
     ensures blank { IfOk result
         (λ v. ballots_of v.items
-        ≡ map (λ number. record { number = number; style = 1; marks = replicate 16 0 }) numbers.now) }
+        ≡ map (λ n. record { number = n; style = 1; marks = replicate MARK_SETS 0 }) numbers.now) }
 {
     let mut ballots = Vec::new(alloc);
     for number in numbers {

@@ -1,2 +1,5 @@
 pub mod Elapsed
+pub mod Histories
+pub mod Moments
 pub mod Record
+pub mod TornBytes

@@ -4,12 +4,12 @@ use Rattle.crash_disk.specs.History.{left_at}
 use Rattle.crash_disk.specs.History.Event.{Wrote, Synced}
 
 -- after the write of 167 over 0: the old byte, the new one, or any other
-pub record HasThreeImages : Type 0 where
+pub record HasThreeCrashImages : Type 0 where
   pub old : left_at (0 ∷ []) (Wrote 0 (167 ∷ []) ∷ []) 2 (0 ∷ [])
   pub new : left_at (0 ∷ []) (Wrote 0 (167 ∷ []) ∷ []) 2 (167 ∷ [])
   pub other : left_at (0 ∷ []) (Wrote 0 (167 ∷ []) ∷ []) 2 (60 ∷ [])
 
 -- after the sync: the new byte, and nothing else
-pub record HasOneImage : Type 0 where
+pub record HasOneCrashImage : Type 0 where
   pub new : left_at (0 ∷ []) (Wrote 0 (167 ∷ []) ∷ Synced ∷ []) 4 (167 ∷ [])
   pub only : (c : List ℕ) → left_at (0 ∷ []) (Wrote 0 (167 ∷ []) ∷ Synced ∷ []) 4 c → c ≡ 167 ∷ []

@@ -1,8 +1,6 @@
-pub mod Entries
+pub mod Calls
 pub mod Figures
-pub mod Fused
 pub mod History
-pub mod Laws
-pub mod Members
-pub mod Memory
+pub mod Recorded
 pub mod Notes
+pub mod SeenIsImage

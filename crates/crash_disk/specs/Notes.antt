@@ -1,27 +1,32 @@
 -- What a call leaves in the record of a disk in memory.
-use Rattle.std.specs.Prelude.{◌≡◌, ℕ, ◌≤◌, if◌then◌else◌, List}
-use Rattle.store_spec.specs.Disk.{next_count}
-use Rattle.crash_disk.specs.Entries.{Line, lines_in, events_of, with_one_more}
+use Rattle.std.specs.Prelude.{◌≡◌, ℕ, ◌+◌, ◌≤◌, nat_le, Bool, ◌&&◌, if◌then◌else◌, List, length}
+use Rattle.store_spec.specs.Fault.{next_count}
+use Rattle.crash_disk.specs.Calls.{MadeCall, made_calls_in, events_of, with_one_more}
 use Rattle.crash_disk.specs.History.{Event, left_at}
-use Rattle.crash_disk.specs.declared.medium.Medium.{Medium}
+use Rattle.crash_disk.specs.declared.recording.Recording.{Recording}
 
 -- the record of all calls, in order
-abbrev pub lines_of : Medium → List Line
-lines_of medium = lines_in medium.written.items medium.entries.items
+abbrev pub made_calls : Recording → List MadeCall
+made_calls recording = made_calls_in recording.written.items recording.entries.items
 
--- One call more: the record gets its line where there is room for it, and a fault is counted where it failed.
-pub record Notes (line : Line) (old new : Medium) : Type 0 where
+-- whether a write of n bytes at `at` has room
+abbrev pub has_room : Recording → ℕ → ℕ → Bool
+has_room recording at n =
+    nat_le (at + n) recording.room.size && nat_le (length recording.written.items + n) recording.room.written
+
+-- One call more: the record gets it where there is room for it, and a fault is counted where it failed.
+pub record Notes (made : MadeCall) (old new : Recording) : Type 0 where
   pub first : new.first.items ≡ old.first.items
   pub room : new.room ≡ old.room
   pub calls : new.calls ≡ next_count old.calls
-  pub faults : new.faults ≡ (if line.passed then old.faults else next_count old.faults)
+  pub faults : new.faults ≡ (if made.passed then old.faults else next_count old.faults)
   pub never_falls : old.faults ≤ new.faults
-  pub lines : lines_of new ≡ with_one_more old.room.calls (lines_of old) line
+  pub recorded : made_calls new ≡ with_one_more old.room.calls (made_calls old) made
 
 -- what the calls did
-abbrev pub history_of : Medium → List Event
-history_of medium = events_of (lines_of medium)
+abbrev pub history_of : Recording → List Event
+history_of recording = events_of (made_calls recording)
 
 -- what a crash at a moment may leave
-abbrev pub left_of : Medium → ℕ → List ℕ → Type 0
-left_of medium m image = left_at medium.first.items (history_of medium) m image
+abbrev pub left_of : Recording → ℕ → List ℕ → Type 0
+left_of recording m image = left_at recording.first.items (history_of recording) m image

@@ -18,7 +18,7 @@ pub enum DiskCall {
     Sync,
 }
 
-/// A line of the record: a call, whether it succeeded, and where the bytes that it put stand among all that were put.
+/// A call in the record: whether it succeeded, and where the bytes that it put stand among all that were put.
 #[derive(Clone, Copy, Debug)]
 pub(crate) struct Entry {
     pub(crate) call: DiskCall,

@@ -1,11 +1,11 @@
 //! A disk over a file of the system. It tells nothing of its bytes.
 
 ghost use Rattle.std.specs.Prelude.{◌≡◌, ◌≤◌, ℕ, None, is_ok, OnOk, OnErr};
-ghost use Rattle.store_spec.specs.Fault.{Rose};
-ghost use Rattle.store_spec.specs.Disk.{next_count};
+ghost use Rattle.store_spec.specs.Fault.{CountsFault};
+ghost use Rattle.store_spec.specs.Fault.{next_count};
 
 use crate::disk::Disk;
-use outside_io::Failed;
+use outside_io::{Count, Failed};
 use std::fs::{Files, OpenFile, OpenOptions};
 use std::io::{self, ErrorKind, Read, Seek, SeekFrom, Write};
 use std::path::Path;
@@ -19,23 +19,23 @@ pub struct FileDisk<'a, F: Files> {
     file: Option<F::File>,
     /// The file was made here, and its folder was not synced since.
     is_new: bool,
-    calls: u64,
-    faults: u64,
+    calls: Count,
+    faults: Count,
 }
 
 impl<'a, F: Files> FileDisk<'a, F> {
     /// A disk over the file of this path. It opens nothing yet.
     pub fn new(rt: &'a F, path: &'a str) -> FileDisk<'a, F>
-        ensures no_calls { result.calls ≡ 0 }
-        ensures no_faults { result.faults ≡ 0 }
+        ensures no_calls { result.calls.value ≡ 0 }
+        ensures no_faults { result.faults.value ≡ 0 }
     {
         FileDisk {
             files: rt,
             path,
             file: None,
             is_new: false,
-            calls: 0,
-            faults: 0,
+            calls: Count::zero(),
+            faults: Count::zero(),
         }
     }
 
@@ -133,21 +133,13 @@ impl<'a, F: Files> FileDisk<'a, F> {
         Ok(())
     }
 
-    /// Counts a call and what came of it.
+    /// Counts a call, and hands on what came of it.
     fn count<T: Drop>(&mut self, outcome: io::Result<T>) -> Result<T, Failed>
-        ensures calls { self.new.calls ≡ next_count self.old.calls }
-        ensures never_falls { self.old.faults ≤ self.new.faults }
-        ensures steady { OnOk result (self.new.faults ≡ self.old.faults) }
-        ensures cause { OnErr result (Rose self.old.faults self.new.faults) }
+        ensures calls { self.new.calls.value ≡ next_count self.old.calls.value }
+        ensures fault { CountsFault result self.old.faults.value self.new.faults.value }
     {
-        self.calls = self.calls.saturating_add(1);
-        match outcome {
-            Ok(value) => Ok(value),
-            Err(_) => {
-                self.faults = self.faults.saturating_add(1);
-                Err(Failed)
-            }
-        }
+        self.calls.add_one();
+        self.faults.counted(outcome)
     }
 }
 
@@ -167,13 +159,17 @@ impl<'a, F: Files> Disk for FileDisk<'a, F> {
 
     ghost may_leave = { λ _ _ _. ⊥ };
 
-    ghost calls = { λ disk. disk.calls };
+    ghost calls = { λ disk. disk.calls.value };
 
-    ghost faults = { λ disk. disk.faults };
+    ghost faults = { λ disk. disk.faults.value };
 
-    ghost seen_is_image = { λ disk bytes is. Prim.cc };
+    ghost counted_calls = { λ disk. disk.calls.within };
 
-    ghost told_images = { λ disk m image left. absurd left };
+    ghost counted_faults = { λ disk. disk.faults.within };
+
+    ghost seen_is_crash_image = { λ disk bytes is. Prim.cc };
+
+    ghost crash_images_told = { λ disk m image left. absurd left };
 
     fn size(&mut self) -> Result<u64, Failed> {
         let outcome = self.find_size();
@@ -196,6 +192,6 @@ impl<'a, F: Files> Disk for FileDisk<'a, F> {
     }
 
     fn calls(&self) -> u64 {
-        self.calls
+        self.calls.value()
     }
 }

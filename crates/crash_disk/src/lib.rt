@@ -3,18 +3,19 @@
 
 mod disk;
 mod entry;
+mod failing;
 mod file;
-mod fused;
-mod laws;
-mod medium;
-mod memory;
+pub mod laws;
+mod recorded;
+mod recording;
+mod sure;
 
 pub use disk::Disk;
 pub use entry::{DiskCall, Room};
+pub use failing::{Failing, LaterCalls, ListedCalls};
 pub use file::FileDisk;
-pub use fused::FusedDisk;
-pub use laws::{only_image, three_images_and_one, two_writes_and_a_sync, untold_is_settled};
-pub use memory::MemoryDisk;
+pub use recorded::{FusedDisk, MemoryDisk, RecordedDisk};
+pub use sure::SureDisk;
 
 #[cfg(test)]
 mod tests;

@@ -3,4 +3,4 @@ mod Salts
 mod Styles
 mod Zips
 mod Arrays
-mod One
+pub mod One

@@ -7,7 +7,7 @@ use Rattle.serde_json.specs.Find.{get, as_array, as_str}
 use Rattle.serde_json.specs.Read.{read}
 use Rattle.store_spec.specs.Election.{Contest, Election}
 use Rattle.election_def.proofs.Salts.{one_salt}
-use Rattle.election_def.specs.Text.{listed, number_in, number_at, contest_set, IsArrayOf, IsContestIn, IsStyleIn, IsSaltText, IsElectionIn, DescribeOne}
+use Rattle.election_def.specs.Text.{listed, number_in, number_at, contest_set, IsArrayOf, IsContestIn, IsStyleIn, IsSaltText, IsElectionIn, Describes}
 use Rattle.ballot_record.specs.Contest.{contests_of}
 use Rattle.ballot_record.specs.declared.contest.Contest as program
 use Rattle.election_def.proofs.Zips.{one_list}
@@ -23,8 +23,8 @@ one_array R one d xs ys all more = both (as_array d) _ _ all more (λ items a b.
 same_number : (o : Option ℕ) (m n : ℕ) → o ≡ Some m → o ≡ Some n → m ≡ n
 same_number o m n p q = same_Some m n (sym p ∙ q)
 
-pub one_contest : (d : Data) (a b : Contest) → IsContestIn d a → IsContestIn d b → a ≡ b
-one_contest d a b x y =
+pub one_contest : (most : ℕ) (d : Data) (a b : Contest) → IsContestIn most d a → IsContestIn most d b → a ≡ b
+one_contest most d a b x y =
     let make : ℕ → ℕ → Contest = λ choices allowed. record { choices = choices; allowed = allowed } in
     ap₂ make (same_number (number_at (codes "choices") d) a.choices b.choices x.choices y.choices) (same_number (number_at (codes "allowed") d) a.allowed b.allowed x.allowed y.allowed)
 
@@ -32,12 +32,12 @@ pub one_style : (contests : ℕ) (d : Data) (s t : ℕ) → IsStyleIn contests d
 one_style contests d s t x y =
     x.set ∙ ap contest_set (one_array (λ item k. number_in item ≡ Some k) (λ item j k p q. same_number (number_in item) j k p q) d x.numbers y.numbers x.are y.are) ∙ sym y.set
 
-pub same_contests : (d : Data) (xs ys : List Contest) → IsSomeAnd (get (codes "contests") d) (IsArrayOf IsContestIn xs) → IsSomeAnd (get (codes "contests") d) (IsArrayOf IsContestIn ys) → xs ≡ ys
-same_contests d xs ys x y = both (get (codes "contests") d) _ _ x y (λ v a b. one_array IsContestIn one_contest v xs ys a b)
+pub same_contests : (d : Data) (xs ys : List Contest) → IsSomeAnd (get (codes "contests") d) (IsArrayOf (IsContestIn 32) xs) → IsSomeAnd (get (codes "contests") d) (IsArrayOf (IsContestIn 32) ys) → xs ≡ ys
+same_contests d xs ys x y = both (get (codes "contests") d) _ _ x y (λ v a b. one_array (IsContestIn 32) (one_contest 32) v xs ys a b)
 
 -- what a value says of the parts of an election, whether that is valid or not
 pub record AreParts (d : Data) (e : Election) : Type 0 where
-  pub contests : IsSomeAnd (get (codes "contests") d) (IsArrayOf IsContestIn e.contests)
+  pub contests : IsSomeAnd (get (codes "contests") d) (IsArrayOf (IsContestIn 32) e.contests)
   pub styles : IsSomeAnd (get (codes "styles") d) (IsArrayOf (IsStyleIn (length e.contests)) e.styles)
   pub limit : number_at (codes "limit") d ≡ Some e.limit
   pub bits : number_at (codes "bits") d ≡ Some e.bits
@@ -58,14 +58,14 @@ same_parts d e f x y =
     let step_2 : ◌≡◌ {A = Election} (record e { contests = f.contests; styles = f.styles }) (record f { salt = e.salt }) = ap₂ (λ (l b : ℕ). let g : Election = record f { limit = l; bits = b; salt = e.salt } in g) limit bits in
     step_1 ∙ step_2 ∙ ap (λ (s : ℕ). let g : Election = record f { salt = s } in g) salt
 
-pub no_styles : (d : Data) (xs : List Contest) → IsSomeAnd (get (codes "contests") d) (IsArrayOf IsContestIn xs) → IsSomeAnd (get (codes "styles") d) (λ v. (ss : List ℕ) → IsArrayOf (IsStyleIn (length xs)) ss v → ⊥)
+pub no_styles : (d : Data) (xs : List Contest) → IsSomeAnd (get (codes "contests") d) (IsArrayOf (IsContestIn 32) xs) → IsSomeAnd (get (codes "styles") d) (λ v. (ss : List ℕ) → IsArrayOf (IsStyleIn (length xs)) ss v → ⊥)
     → (e : Election) → IsElectionIn d e → ⊥
 no_styles d xs are none e is =
     let contests : e.contests ≡ xs = same_contests d e.contests xs is.contests are in
     let P : List Contest → Type 0 = λ contests. IsSomeAnd (get (codes "styles") d) (IsArrayOf (IsStyleIn (length contests)) e.styles) in
     both (get (codes "styles") d) _ _ none (subst P contests is.styles) (λ v no some. no e.styles some)
 
-pub one_election : DescribeOne
+pub one_election : (bytes : List ℕ) (e f : Election) → Describes bytes e → Describes bytes f → e ≡ f
 one_election bytes e f x y = both (read bytes) _ _ x.value y.value (λ d a b. same_parts d e f (parts_of d e a) (parts_of d f b))
 
 pub are_styles : (d v : Data) (count contests : ℕ) (ss : List ℕ) → Some v ≡ get (codes "styles") d → count ≡ contests → IsArrayOf (IsStyleIn count) ss v → IsSomeAnd (get (codes "styles") d) (IsArrayOf (IsStyleIn contests) ss)

@@ -7,8 +7,8 @@ use Rattle.std.proofs.lemmas.Bool.{le-leb, lt-leb, leb-false, leb-true}
 use Rattle.std.proofs.lemmas.Nat.{or_comm, or_shifted, pow_below}
 use Rattle.std.proofs.lemmas.List.Sums.{sum_by-cons}
 use Rattle.std.proofs.lemmas.Option.{none-some, same_Some, option_and_then_some}
-use Rattle.store_spec.proofs.LineNumbers.{chosen}
-use Rattle.store_spec.proofs.LineGroups.{option_map_some}
+use Rattle.ballot_record.proofs.LineNumbers.{chosen}
+use Rattle.ballot_record.proofs.LineGroups.{option_map_some}
 use Rattle.std.proofs.Math.ListN.{length-map}
 use Rattle.std.proofs.lemmas.List.{drop_all}
 use Rattle.serde_json.specs.Data.{Data}

@@ -7,7 +7,7 @@ use Rattle.std.specs.List.Sorted.{IsStrictlyIncreasing}
 use Rattle.serde_json.specs.Data.{Data, Items, no_items, item}
 use Rattle.serde_json.specs.Read.{read}
 use Rattle.serde_json.specs.Find.{get, as_number, as_array, as_str, as_u64}
-use Rattle.store_spec.specs.Election.{Contest, Election, IsContest, IsElection}
+use Rattle.store_spec.specs.Election.{Contest, Election, IsContestUpTo, IsElection, most_choices}
 
 -- ---- parts of a value
 
@@ -36,11 +36,12 @@ IsArrayOf R xs d = IsSomeAnd (as_array d) (λ items. AllZip R (listed items) xs)
 abbrev pub contest_keys : List (List ℕ)
 contest_keys = codes "choices" ∷ codes "allowed" ∷ []
 
-pub record IsContestIn (d : Data) (contest : Contest) : Type 0 where
+-- a contest of so many choices at most
+pub record IsContestIn (most : ℕ) (d : Data) (contest : Contest) : Type 0 where
   pub no_other_key : HasNoKeyBut contest_keys d
   pub choices : number_at (codes "choices") d ≡ Some contest.choices
   pub allowed : number_at (codes "allowed") d ≡ Some contest.allowed
-  pub valid : IsContest contest
+  pub valid : IsContestUpTo most contest
 
 -- the set of some contests: bit k - 1 stands for contest k
 abbrev pub contest_set : List ℕ → ℕ
@@ -77,7 +78,7 @@ election_keys = codes "contests" ∷ codes "styles" ∷ codes "limit" ∷ codes 
 
 pub record IsElectionIn (d : Data) (e : Election) : Type 0 where
   pub no_other_key : HasNoKeyBut election_keys d
-  pub contests : IsSomeAnd (get (codes "contests") d) (IsArrayOf IsContestIn e.contests)
+  pub contests : IsSomeAnd (get (codes "contests") d) (IsArrayOf (IsContestIn (most_choices e)) e.contests)
   pub styles : IsSomeAnd (get (codes "styles") d) (IsArrayOf (IsStyleIn (length e.contests)) e.styles)
   pub limit : number_at (codes "limit") d ≡ Some e.limit
   pub bits : number_at (codes "bits") d ≡ Some e.bits
@@ -92,7 +93,3 @@ pub record Describes (bytes : List ℕ) (e : Election) : Type 0 where
 -- the bytes describe an election
 abbrev pub IsElectionText : List ℕ → Type 0
 IsElectionText bytes = (e : Election) × Describes bytes e
-
--- no bytes describe two
-abbrev pub DescribeOne : Type 0
-DescribeOne = (bytes : List ℕ) (e f : Election) → Describes bytes e → Describes bytes f → e ≡ f

@@ -2,11 +2,12 @@
 #![tactic(auto)]
 
 mod fault;
+pub mod laws;
 mod parts;
 mod read;
 
 pub use fault::ElectionFault;
-pub use read::{one_election, read_election};
+pub use read::read_election;
 
 #[cfg(test)]
 mod tests;

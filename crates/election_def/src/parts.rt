@@ -6,7 +6,7 @@ ghost use Rattle.store_spec.specs.Election as definition;
 ghost use Rattle.ballot_record.specs.Contest.{contest_of};
 ghost use Rattle.election_def.specs.Text.{HasNoKeyBut, IsContestIn, IsStyleIn, IsSaltText, IsSaltDigit, contest_keys, salt_digit, number_in, number_at};
 
-use ballot_record::{Contest, MAX_CHOICES};
+use ballot_record::{Contest, MAX_CHOICES, MAX_CONTESTS};
 use serde_json::{Map, Value};
 
 const CONTEST_KEYS: [&str; 2] = ["choices", "allowed"];
@@ -18,7 +18,9 @@ fn is_among(key: &str, keys: &[&str]) -> bool
 }
 
 fn all_among(members: &Map<String, Value>, keys: &[&str]) -> bool
-    ensures { result ≡ list_all (λ key. list_any (λ k. bytes_eq k.now (string_bytes key)) keys.now) (keys_of members.now.entries) }
+    ensures { result
+        ≡ list_all (λ key. list_any (λ k. bytes_eq k.now (string_bytes key)) keys.now)
+        (keys_of members.now.entries) }
 {
     members.keys().all(|key| is_among(key.as_str(), keys))
 }
@@ -35,8 +37,8 @@ pub fn has_no_key_but(value: &Value, keys: &[&str]) -> bool
 
 /// The number that a value is, where it is at most so much.
 pub fn number(value: &Value, most: u64) -> Option<u64>
-    ensures some { IfSome result (λ n. (number_in (view value.now) ≡ Some n) × (n ≤ most)) }
-    ensures none { IsNone result → (n : ℕ) → number_in (view value.now) ≡ Some n → most < n }
+    ensures value { IfSome result (λ n. (number_in (view value.now) ≡ Some n) × (n ≤ most)) }
+    ensures refused { IsNone result → (n : ℕ) → number_in (view value.now) ≡ Some n → most < n }
 {
     match value.as_u64() {
         Some(n) if n <= most => Some(n),
@@ -46,16 +48,18 @@ pub fn number(value: &Value, most: u64) -> Option<u64>
 
 /// The number at a key of a value, where it is at most so much.
 pub fn number_at(value: &Value, key: &str, most: u64) -> Option<u64>
-    ensures some { IfSome result (λ n. (number_at key.now (view value.now) ≡ Some n) × (n ≤ most)) }
-    ensures none { IsNone result → (n : ℕ) → number_at key.now (view value.now) ≡ Some n → most < n }
+    ensures value { IfSome result (λ n. (number_at key.now (view value.now) ≡ Some n) × (n ≤ most)) }
+    ensures refused { IsNone result
+        → (n : ℕ) → number_at key.now (view value.now) ≡ Some n → most < n }
 {
     number(value.get(key)?, most)
 }
 
 /// The contest that a value describes.
 pub fn contest(value: &Value) -> Option<Contest>
-    ensures some { IfSome result (λ c. IsContestIn (view value.now) (contest_of c)) }
-    ensures none { IsNone result → (c : definition.Contest) → ¬ IsContestIn (view value.now) c }
+    ensures value { IfSome result (λ c. IsContestIn MAX_CHOICES (view value.now) (contest_of c)) }
+    ensures refused { IsNone result
+        → (c : definition.Contest) → ¬ IsContestIn MAX_CHOICES (view value.now) c }
 {
     if !has_no_key_but(value, &CONTEST_KEYS) {
         return None;
@@ -75,9 +79,9 @@ pub fn contest(value: &Value) -> Option<Contest>
 
 /// The style over so many contests that a value describes.
 pub fn style(value: &Value, contests: usize) -> Option<u32>
-    requires { contests ≤ 16 }
-    ensures some { IfSome result (λ s. IsStyleIn contests (view value.now) s) }
-    ensures none { IsNone result → (s : ℕ) → ¬ IsStyleIn contests (view value.now) s }
+    requires { contests ≤ MAX_CONTESTS }
+    ensures value { IfSome result (λ s. IsStyleIn contests (view value.now) s) }
+    ensures refused { IsNone result → (s : ℕ) → ¬ IsStyleIn contests (view value.now) s }
 {
     let mut style: u32 = 0;
     let mut last = 0;
@@ -93,8 +97,8 @@ pub fn style(value: &Value, contests: usize) -> Option<u32>
 }
 
 fn salt_digit(digit: u8) -> Option<u8>
-    ensures some { IfSome result (λ d. IsSaltDigit digit × (d ≡ salt_digit digit)) }
-    ensures none { IsNone result → ¬ IsSaltDigit digit }
+    ensures value { IfSome result (λ d. IsSaltDigit digit × (d ≡ salt_digit digit)) }
+    ensures refused { IsNone result → ¬ IsSaltDigit digit }
 {
     match digit {
         b'0'..=b'9' => Some(digit - b'0'),
@@ -105,8 +109,8 @@ fn salt_digit(digit: u8) -> Option<u8>
 
 /// The salt that a text spells.
 pub fn salt(text: &str) -> Option<u64>
-    ensures some { IfSome result (λ s. IsSaltText text.now s) }
-    ensures none { IsNone result → (s : ℕ) → ¬ IsSaltText text.now s }
+    ensures value { IfSome result (λ s. IsSaltText text.now s) }
+    ensures refused { IsNone result → (s : ℕ) → ¬ IsSaltText text.now s }
 {
     if text.len() != 16 {
         return None;

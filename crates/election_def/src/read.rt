@@ -2,11 +2,11 @@ ghost use Rattle.std.specs.Prelude.{◌≡◌, ◌<◌, ◌≤◌, ℕ, List, le
 ghost use Rattle.serde_json.specs.View.{view};
 ghost use Rattle.store_spec.specs.Election as definition;
 ghost use Rattle.ballot_record.specs.Contest.{contests_of};
-ghost use Rattle.election_def.specs.Text.{IsArrayOf, IsContestIn, IsStyleIn, IsElectionIn, Describes, IsElectionText, DescribeOne};
+ghost use Rattle.election_def.specs.Text.{IsArrayOf, IsContestIn, IsStyleIn, IsElectionIn, Describes, IsElectionText};
 
 use crate::ElectionFault;
 use crate::parts::{contest, has_no_key_but, number_at, salt, style};
-use ballot_record::{Contest, Election, MAX_BITS, MAX_CONTESTS, MAX_LIMIT};
+use ballot_record::{Contest, Election, MAX_BITS, MAX_CHOICES, MAX_CONTESTS, MAX_LIMIT};
 use serde_json::Value;
 use std::alloc::Global;
 
@@ -14,8 +14,11 @@ const ELECTION_KEYS: [&str; 5] = ["contests", "styles", "limit", "bits", "salt"]
 
 /// The contests that an array describes.
 fn contests(alloc: Global, value: &Value) -> Result<Vec<Contest>, ElectionFault>
-    ensures contests { IfOk result (λ v. IsArrayOf IsContestIn (contests_of v.items) (view value.now)) }
-    ensures none { result ≡ Err ElectionFault.NotElection → (cs : List definition.Contest) → ¬ IsArrayOf IsContestIn cs (view value.now) }
+    ensures contests { IfOk result
+        (λ v. IsArrayOf (IsContestIn MAX_CHOICES) (contests_of v.items) (view value.now)) }
+    ensures refused { result ≡ Err ElectionFault.NotElection
+        → (cs : List definition.Contest)
+        → ¬ IsArrayOf (IsContestIn MAX_CHOICES) cs (view value.now) }
 {
     let Some(items) = value.as_array() else {
         return Err(ElectionFault::NotElection);
@@ -32,9 +35,10 @@ fn contests(alloc: Global, value: &Value) -> Result<Vec<Contest>, ElectionFault>
 
 /// The styles over so many contests that an array describes.
 fn styles(alloc: Global, value: &Value, count: usize) -> Result<Vec<u32>, ElectionFault>
-    requires { count ≤ 16 }
+    requires { count ≤ MAX_CONTESTS }
     ensures styles { IfOk result (λ v. IsArrayOf (IsStyleIn count) v.items (view value.now)) }
-    ensures none { result ≡ Err ElectionFault.NotElection → (ss : List ℕ) → ¬ IsArrayOf (IsStyleIn count) ss (view value.now) }
+    ensures refused { result ≡ Err ElectionFault.NotElection
+        → (ss : List ℕ) → ¬ IsArrayOf (IsStyleIn count) ss (view value.now) }
 {
     let Some(items) = value.as_array() else {
         return Err(ElectionFault::NotElection);
@@ -52,7 +56,8 @@ fn styles(alloc: Global, value: &Value, count: usize) -> Result<Vec<u32>, Electi
 /// The election that a value describes.
 fn election_in(alloc: Global, value: &Value) -> Result<Election, ElectionFault>
     ensures election { IfOk result (λ e. IsElectionIn (view value.now) e) }
-    ensures none { result ≡ Err ElectionFault.NotElection → (e : definition.Election) → ¬ IsElectionIn (view value.now) e }
+    ensures refused { result ≡ Err ElectionFault.NotElection
+        → (e : definition.Election) → ¬ IsElectionIn (view value.now) e }
 {
     if !has_no_key_but(value, &ELECTION_KEYS) {
         return Err(ElectionFault::NotElection);
@@ -76,16 +81,11 @@ fn election_in(alloc: Global, value: &Value) -> Result<Election, ElectionFault>
     )
 }
 
-/// No bytes describe two elections.
-pub fn one_election()
-    ensures { DescribeOne }
-{}
-
 /// The election that the bytes describe. `NotElection` comes exactly where they describe none, but for want of memory,
 /// which may come in place of any answer.
 pub fn read_election(alloc: Global, bytes: &[u8]) -> Result<Election, ElectionFault>
     ensures election { IfOk result (λ e. Describes bytes.now e) }
-    ensures none { result ≡ Err ElectionFault.NotElection → ¬ IsElectionText bytes.now }
+    ensures refused { result ≡ Err ElectionFault.NotElection → ¬ IsElectionText bytes.now }
 {
     let Ok(text) = str::from_utf8(bytes) else {
         return Err(ElectionFault::NotElection);

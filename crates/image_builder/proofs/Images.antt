@@ -6,11 +6,11 @@ use Rattle.std.proofs.lemmas.List.Elements.{All-contains}
 use Rattle.std.specs.List.{All, flat_map}
 use Rattle.std.specs.Int.{to_be_bytes, w32}
 use Rattle.std.specs.Option.{option_map_or}
-use Rattle.body_store.proofs.BallotSets.{has_room}
+use Rattle.body_store.proofs.BallotSets.{MayHold, has_room}
 use borrow.Rule.Slice.PartMut.{put_mid, post_of}
-use Rattle.store_spec.proofs.LaidOut.{layout_of_is}
-use Rattle.store_spec.proofs.Lookups.{option_cases, found_in}
-use Rattle.store_spec.specs.Ballot.{Ballot, IsBallotSet, IsValid, ballot_of}
+use Rattle.layout_def.proofs.LaidOut.{layout_of_is}
+use Rattle.ballot_record.proofs.Lookups.{option_cases, found_in}
+use Rattle.store_spec.specs.Ballot.{Ballot, IsValid, ballot_of}
 use Rattle.store_spec.specs.Election.{Election, IsElection, bank_size, cell_count, cell_size}
 use Rattle.store_spec.specs.Image.{ballot_bytes, cell_bytes, cells_of, header_of, image_of}
 
@@ -47,7 +47,7 @@ length-sets sets = length_pieces (to_be_bytes w32) 4 sets (λ x. refl)
 
 pub length-ballot_bytes : (e : Election) (b : Ballot) → IsElection e → IsValid e b → length (ballot_bytes e b) ≡ cell_size e
 length-ballot_bytes e b election valid =
-    omega (arith, length-sets (take (length e.contests) b.marks), length-take (length e.contests) b.marks, valid.sixteen, election.few_contests)
+    omega (arith, length-sets (take (length e.contests) b.marks), length-take (length e.contests) b.marks, valid.every_set, election.few_contests)
 
 pub cell_of_found : (e : Election) (ballots : List Ballot) (number : ℕ) (b : Ballot) → ballot_of ballots number ≡ Some b → cell_bytes e ballots number ≡ ballot_bytes e b
 cell_of_found e ballots number b found = ap (λ o. option_map_or (ballot_bytes e) o (replicate (cell_size e) 0)) found
@@ -68,15 +68,15 @@ length-cell_bytes e ballots number election valid = ⊎_elim
 pub length-header_of : (e : Election) → length (header_of e) ≡ 32
 length-header_of e = refl
 
-pub length-cells_of : (e : Election) (ballots : List Ballot) → IsElection e → IsBallotSet e ballots → length (cells_of e ballots) ≡ cell_count e
-length-cells_of e ballots election set = let layout = layout_of_is _ _ _ _ (has_room e ballots election set) in layout.size
+pub length-cells_of : (e : Election) (ballots : List Ballot) → IsElection e → MayHold e ballots → length (cells_of e ballots) ≡ cell_count e
+length-cells_of e ballots election held = let layout = layout_of_is _ _ _ _ (has_room e ballots election held) in layout.size
 
-pub length-image_of : (e : Election) (ballots : List Ballot) → IsElection e → IsBallotSet e ballots → length (image_of e ballots) ≡ bank_size e
-length-image_of e ballots election set =
+pub length-image_of : (e : Election) (ballots : List Ballot) → IsElection e → MayHold e ballots → length (image_of e ballots) ≡ bank_size e
+length-image_of e ballots election held =
     let cells = cells_of e ballots in
-    let pieces = length_pieces (cell_bytes e ballots) (cell_size e) cells (λ x. length-cell_bytes e ballots x election set.valid) in
+    let pieces = length_pieces (cell_bytes e ballots) (cell_size e) cells (λ x. length-cell_bytes e ballots x election held.listing.valid) in
     length-append (header_of e) (flat_map (cell_bytes e ballots) cells)
-    ∙ ap (λ n. 32 + n) (pieces ∙ ap (λ n. n * cell_size e) (length-cells_of e ballots election set))
+    ∙ ap (λ n. 32 + n) (pieces ∙ ap (λ n. n * cell_size e) (length-cells_of e ballots election held))
 
 -- what is written piece after piece
 pub written_more : (out new image : List ℕ) (from done more k : ℕ) → done ≤ length out → more ≤ length new → take done out ≡ take done (drop from image)

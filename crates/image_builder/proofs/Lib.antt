@@ -1,6 +1,8 @@
+pub mod FourTests
 pub mod Images
+pub mod Listings
+pub mod OneSet
+pub mod Reaches
 pub mod Reading
 pub mod Steps
 pub mod Wrong
-pub mod OneSet
-pub mod Reaches

@@ -1,77 +1,24 @@
 -- An image is that of one set of ballots alone.
-use Rattle.std.proofs.Common.{◌≡◌, ℕ, zero, suc, ◌*◌, ◌-◌, ◌%◌, ◌^◌, ◌<◌, ◌⊎◌, inl, inr, ⊎_elim, List, [], ◌∷◌, ◌++◌, length, get_or, take, drop, replicate, refl, sym, ap, subst, ◌∙◌, arith}
+use Rattle.std.proofs.Common.{◌≡◌, ℕ, suc, ◌*◌, ◌-◌, ◌%◌, ◌^◌, ◌<◌, List, [], ◌∷◌, ◌++◌, length, get_or, take, drop, replicate, refl, sym, ap, subst, ◌∙◌, arith}
 use Rattle.std.proofs.Math.Nat.{mod-eq_of_lt}
 use Rattle.std.proofs.lemmas.List.{drop_at, take_at, length-take, get_or-take}
 use Rattle.std.proofs.lemmas.List.Concat.{flat_map-cons}
 use Rattle.std.proofs.lemmas.Nat.{from_be_bytes-to_be_bytes_4, from_be_bytes-to_be_bytes_8}
 use Rattle.std.specs.Int.{from_be_bytes, to_be_bytes, w8, w32, w64}
 use Rattle.std.proofs.lemmas.List.Elements.{All-contains}
-use Rattle.std.specs.List.{AllPairs, Contains, flat_map}
+use Rattle.std.specs.List.{Contains, flat_map}
+use Rattle.body_store.proofs.BallotSets.{MayHold, may_hold_set}
 use Rattle.image_builder.proofs.Images.{cell_of_found, drop_pieces, length-cell_bytes}
-use Rattle.store_spec.proofs.BallotNumbers.{ballot_with, contains_number}
-use Rattle.store_spec.proofs.Lookups.{found_once}
+use Rattle.ballot_record.proofs.BallotSets.{same_members}
+use Rattle.ballot_record.proofs.BallotNumbers.{ballot_with, contains_number}
+use Rattle.ballot_record.proofs.Lookups.{found_once}
 use Rattle.image_builder.proofs.Reading.{layout_read, number_in_cell, same_numbers, split_same}
 use Rattle.image_builder.proofs.Wrong.{known_cell}
-use Rattle.store_spec.proofs.ValidMarks.{marks_kept, small_set}
-use Rattle.store_spec.proofs.OrderedCells.{place_from_contains, contains_from_place}
-use Rattle.store_spec.specs.Ballot.{Ballot, IsBallotSet, IsValid, numbers_of}
+use Rattle.ballot_record.proofs.ValidMarks.{marks_kept, small_set}
+use Rattle.layout_def.proofs.OrderedCells.{place_from_contains, contains_from_place}
+use Rattle.store_spec.specs.Ballot.{Ballot, IsBallotSet, IsValid, IsWithinLimit, numbers_of}
 use Rattle.store_spec.specs.Election.{Election, IsElection, cell_size}
 use Rattle.store_spec.specs.Image.{ballot_bytes, cell_bytes, cells_of, header_of, image_of}
-
-abbrev pub Ascend : List Ballot → Type 0
-Ascend ballots = AllPairs (λ a b. a.number < b.number) ballots
-
--- ---- lists in order with the same members
-
--- what is in a list after its first ballot is greater
-greater_behind : (x b : Ballot) (xs : List Ballot) → Ascend (x ∷ xs) → Contains xs b → x.number < b.number
-greater_behind x b xs up c =
-    let less = up 0 (suc c.0) b (omega arith) (omega (arith, c.1)) in
-    let at : (get_or xs c.0 b).number ≡ b.number = ap (λ (b : Ballot). b.number) c.2 in
-    omega arith
-
-first_or_behind : (x b : Ballot) (xs : List Ballot) → Contains (x ∷ xs) b → (x ≡ b) ⊎ Contains xs b
-first_or_behind x b xs (zero, lt, e) = inl e
-first_or_behind x b xs (suc i, lt, e) = inr (i, omega arith, e)
-
-behind_more : (x b : Ballot) (xs : List Ballot) → Contains xs b → Contains (x ∷ xs) b
-behind_more x b xs c = (suc c.0, omega (arith, c.1), c.2)
-
-first_in : (x : Ballot) (xs : List Ballot) → Contains (x ∷ xs) x
-first_in x xs = (0, omega arith, refl)
-
-ascend_behind : (x : Ballot) (xs : List Ballot) → Ascend (x ∷ xs) → Ascend xs
-ascend_behind x xs up = λ i j d less within. up (suc i) (suc j) d (omega arith) (omega arith)
-
-same_first : (x y : Ballot) (xs ys : List Ballot) → Ascend (x ∷ xs) → Ascend (y ∷ ys) → Contains (y ∷ ys) x → Contains (x ∷ xs) y → x ≡ y
-same_first x y xs ys up_x up_y x_in y_in = ⊎_elim
-    (λ (e : y ≡ x). sym e)
-    (λ behind_y. ⊎_elim
-    (λ (e : x ≡ y). e)
-    (λ behind_x.
-    let one = greater_behind y x ys up_y behind_y in
-    let other = greater_behind x y xs up_x behind_x in
-    absurd (omega arith))
-    (first_or_behind x y xs y_in))
-    (first_or_behind y x ys x_in)
-
-rest_in : (x y : Ballot) (xs ys : List Ballot) → x ≡ y → Ascend (x ∷ xs) → ((b : Ballot) → Contains (x ∷ xs) b → Contains (y ∷ ys) b) → (b : Ballot) → Contains xs b → Contains ys b
-rest_in x y xs ys same up all b c = ⊎_elim
-    (λ (e : y ≡ b).
-    let less = greater_behind x b xs up c in
-    let equal : x.number ≡ b.number = ap (λ (b : Ballot). b.number) (same ∙ e) in
-    absurd (omega arith))
-    (λ behind. behind)
-    (first_or_behind y b ys (all b (behind_more x b xs c)))
-
-pub same_members : (xs ys : List Ballot) → Ascend xs → Ascend ys → ((b : Ballot) → Contains xs b → Contains ys b) → ((b : Ballot) → Contains ys b → Contains xs b) → xs ≡ ys
-same_members [] [] up_x up_y there back = refl
-same_members [] (y ∷ ys) up_x up_y there back = let c = back y (first_in y ys) in absurd (omega (arith, c.1))
-same_members (x ∷ xs) [] up_x up_y there back = let c = there x (first_in x xs) in absurd (omega (arith, c.1))
-same_members (x ∷ xs) (y ∷ ys) up_x up_y there back =
-    let first = same_first x y xs ys up_x up_y (there x (first_in x xs)) (back y (first_in y ys)) in
-    let rest = same_members xs ys (ascend_behind x xs up_x) (ascend_behind y ys up_y) (rest_in x y xs ys first up_x there) (rest_in y x ys xs (sym first) up_y back) in
-    ap (λ b. b ∷ xs) first ∙ ap (λ bs. y ∷ bs) rest
 
 -- ---- the ballots of one cell
 
@@ -102,7 +49,7 @@ same_ballot e a b election valid_a valid_b same =
     let byte : a.style % 256 ≡ b.style % 256 = ap (λ bytes. get_or bytes 0 0) front.1 in
     let style : a.style ≡ b.style =
     sym (mod-eq_of_lt (omega (arith, valid_a.known_style, election.few_styles))) ∙ byte ∙ mod-eq_of_lt (omega (arith, valid_b.known_style, election.few_styles)) in
-    let long : length sets_a ≡ length sets_b = omega (arith, length-take n a.marks, length-take n b.marks, valid_a.sixteen, valid_b.sixteen) in
+    let long : length sets_a ≡ length sets_b = omega (arith, length-take n a.marks, length-take n b.marks, valid_a.every_set, valid_b.every_set) in
     let sets : sets_a ≡ sets_b = same_sets sets_a sets_b long (front_small e a election valid_a) (front_small e b election valid_b) parts.1 in
     let marks : a.marks ≡ b.marks = marks_kept e a election valid_a ∙ ap (λ sets. sets ++ replicate (16 - n) 0) sets ∙ sym (marks_kept e b election valid_b) in
     let made : ℕ → ℕ → List ℕ → Ballot = λ number style marks. record { number = number; style = style; marks = marks } in
@@ -110,50 +57,52 @@ same_ballot e a b election valid_a valid_b same =
 
 -- ---- the sets of one image
 
-same_cells : (e : Election) (xs ys : List Ballot) → IsElection e → IsBallotSet e xs → IsBallotSet e ys → flat_map (cell_bytes e xs) (cells_of e xs) ≡ flat_map (cell_bytes e ys) (cells_of e ys) → cells_of e xs ≡ cells_of e ys
+same_cells : (e : Election) (xs ys : List Ballot) → IsElection e → MayHold e xs → MayHold e ys → flat_map (cell_bytes e xs) (cells_of e xs) ≡ flat_map (cell_bytes e ys) (cells_of e ys) → cells_of e xs ≡ cells_of e ys
 same_cells e xs ys election set_x set_y same =
     let layout_x = layout_read e xs election set_x in
     let layout_y = layout_read e ys election set_y in
     same_numbers (cell_bytes e xs) (cell_bytes e ys) (cells_of e xs) (cells_of e ys) (layout_x.size ∙ sym layout_y.size)
-    (λ x y. length-cell_bytes e xs x election set_x.valid ∙ sym (length-cell_bytes e ys y election set_y.valid))
-    (λ i lt. number_in_cell e xs (get_or (cells_of e xs) i 0) set_x.valid (known_cell e xs i layout_x))
-    (λ i lt. number_in_cell e ys (get_or (cells_of e ys) i 0) set_y.valid (known_cell e ys i layout_y))
+    (λ x y. length-cell_bytes e xs x election set_x.listing.valid ∙ sym (length-cell_bytes e ys y election set_y.listing.valid))
+    (λ i lt. number_in_cell e xs (get_or (cells_of e xs) i 0) set_x.listing.valid (known_cell e xs i layout_x))
+    (λ i lt. number_in_cell e ys (get_or (cells_of e ys) i 0) set_y.listing.valid (known_cell e ys i layout_y))
     same
 
-piece_at : (f : ℕ → List ℕ) (width : ℕ) (xs : List ℕ) (i : ℕ) → ((x : ℕ) → length (f x) ≡ width) → i < length xs → take width (drop (i * width) (flat_map f xs)) ≡ f (get_or xs i 0)
+pub piece_at : (f : ℕ → List ℕ) (width : ℕ) (xs : List ℕ) (i : ℕ) → ((x : ℕ) → length (f x) ≡ width) → i < length xs → take width (drop (i * width) (flat_map f xs)) ≡ f (get_or xs i 0)
 piece_at f width xs i each lt = ap (take width) (drop_pieces f width xs i each lt) ∙ take_at (f (get_or xs i 0)) (flat_map f (drop (suc i) xs)) width (each (get_or xs i 0))
 
 -- a ballot of one set is in the other
-in_other : (e : Election) (xs ys : List Ballot) → IsElection e → IsBallotSet e xs → IsBallotSet e ys → flat_map (cell_bytes e xs) (cells_of e xs) ≡ flat_map (cell_bytes e ys) (cells_of e ys) → (b : Ballot) → Contains xs b → Contains ys b
+in_other : (e : Election) (xs ys : List Ballot) → IsElection e → MayHold e xs → MayHold e ys → flat_map (cell_bytes e xs) (cells_of e xs) ≡ flat_map (cell_bytes e ys) (cells_of e ys) → (b : Ballot) → Contains xs b → Contains ys b
 in_other e xs ys election set_x set_y same b c =
     let f = cell_bytes e xs in
     let g = cell_bytes e ys in
     let size = cell_size e in
     let layout_x = layout_read e xs election set_x in
     let layout_y = layout_read e ys election set_y in
-    let valid = All-contains (IsValid e) xs b set_x.valid c in
+    let valid = All-contains (IsValid e) xs b set_x.listing.valid c in
     let cells : cells_of e xs ≡ cells_of e ys = same_cells e xs ys election set_x set_y same in
     let place = place_from_contains (cells_of e xs) b.number (layout_x.exactly.each b.number (contains_number xs b b.number c refl)) in
     let at : get_or (cells_of e ys) place.0 0 ≡ b.number = ap (λ ns. get_or ns place.0 0) (sym cells) ∙ place.2 in
     let there : place.0 < length (cells_of e ys) = omega (arith, place.1, ap length cells) in
     let number : Contains (numbers_of ys) b.number = layout_y.exactly.only b.number (λ z. omega (arith, valid.some_number)) (contains_from_place (cells_of e ys) b.number place.0 there at) in
     let other = ballot_with ys b.number number in
-    let valid_other = All-contains (IsValid e) ys other.0 set_y.valid other.1 in
-    let left : f b.number ≡ ballot_bytes e b = cell_of_found e xs b.number b (found_once xs b.number b set_x.distinct c refl) in
-    let right : g b.number ≡ ballot_bytes e other.0 = cell_of_found e ys b.number other.0 (found_once ys b.number other.0 set_y.distinct other.1 other.2) in
+    let valid_other = All-contains (IsValid e) ys other.0 set_y.listing.valid other.1 in
+    let left : f b.number ≡ ballot_bytes e b = cell_of_found e xs b.number b (found_once xs b.number b set_x.listing.distinct c refl) in
+    let right : g b.number ≡ ballot_bytes e other.0 = cell_of_found e ys b.number other.0 (found_once ys b.number other.0 set_y.listing.distinct other.1 other.2) in
     let bytes : f b.number ≡ g b.number =
     ap f (sym place.2)
-    ∙ sym (piece_at f size (cells_of e xs) place.0 (λ x. length-cell_bytes e xs x election set_x.valid) place.1)
+    ∙ sym (piece_at f size (cells_of e xs) place.0 (λ x. length-cell_bytes e xs x election set_x.listing.valid) place.1)
     ∙ ap (λ bytes. take size (drop (place.0 * size) bytes)) same
-    ∙ piece_at g size (cells_of e ys) place.0 (λ x. length-cell_bytes e ys x election set_y.valid) there
+    ∙ piece_at g size (cells_of e ys) place.0 (λ x. length-cell_bytes e ys x election set_y.listing.valid) there
     ∙ ap g at in
     let is : b ≡ other.0 =
     same_ballot e b other.0 election valid valid_other (sym left ∙ bytes ∙ right) in
     subst (λ (x : Ballot). Contains ys x) (sym is) other.1
 
-pub one_set : (e : Election) (xs ys : List Ballot) → IsElection e → IsBallotSet e xs → IsBallotSet e ys → Ascend xs → Ascend ys → image_of e xs ≡ image_of e ys → xs ≡ ys
-one_set e xs ys election set_x set_y up_x up_y same =
+pub one_set : (e : Election) (xs ys : List Ballot) → IsElection e → IsBallotSet e xs → IsWithinLimit e xs → IsBallotSet e ys → IsWithinLimit e ys → image_of e xs ≡ image_of e ys → xs ≡ ys
+one_set e xs ys election set_x few_x set_y few_y same =
+    let held_x = may_hold_set e xs set_x few_x in
+    let held_y = may_hold_set e ys set_y few_y in
     let bytes_x = flat_map (cell_bytes e xs) (cells_of e xs) in
     let bytes_y = flat_map (cell_bytes e ys) (cells_of e ys) in
     let cells : bytes_x ≡ bytes_y = sym (drop_at (header_of e) bytes_x 32 refl) ∙ ap (drop 32) same ∙ drop_at (header_of e) bytes_y 32 refl in
-    same_members xs ys up_x up_y (in_other e xs ys election set_x set_y cells) (in_other e ys xs election set_y set_x (sym cells))
+    same_members xs ys set_x.ascending set_y.ascending (in_other e xs ys election held_x held_y cells) (in_other e ys xs election held_y held_x (sym cells))

@@ -7,21 +7,20 @@ use Rattle.std.proofs.lemmas.List.Elements.{All-contains}
 use Rattle.std.proofs.lemmas.Nat.{from_be_bytes-to_be_bytes_8}
 use Rattle.std.specs.List.{All, AllPairs, Contains, flat_map}
 use Rattle.std.specs.Int.{to_be_bytes, from_be_bytes, w8, w32, w64}
-use Rattle.body_store.proofs.BallotSets.{has_room}
+use Rattle.body_store.proofs.BallotSets.{MayHold, has_room, limit-IsPermutation}
+use Rattle.ballot_record.proofs.BallotSets.{in_order, in_order-IsPermutation, set_of_listing}
+use Rattle.image_builder.proofs.Listings.{image_of-IsPermutation}
 use Rattle.image_builder.proofs.Images.{take-add, length-cell_bytes, cell_of_found, cell_of_none}
-use Rattle.store_spec.proofs.Lookups.{option_cases, found_in, missing_from}
-use Rattle.store_spec.proofs.BallotNumbers.{ballot_with, pairs_of_ballots}
-use Rattle.store_spec.proofs.Fronts.{distinct_in, front_is_layout}
-use Rattle.store_spec.proofs.LaidOut.{layout_of_is}
-use Rattle.store_spec.specs.Ballot.{Ballot, IsBallotSet, IsValid, ballot_of, numbers_of}
-use Rattle.store_spec.specs.Damage.{BeginsAnImage, first_cells}
+use Rattle.ballot_record.proofs.Lookups.{option_cases, found_in, missing_from}
+use Rattle.ballot_record.proofs.BallotNumbers.{ballot_with, pairs_of_ballots}
+use Rattle.layout_def.proofs.Fronts.{distinct_in, front_is_layout}
+use Rattle.layout_def.proofs.LaidOut.{layout_of_is}
+use Rattle.store_spec.specs.Ballot.{Ballot, IsValid, ballot_of, numbers_of}
+use Rattle.store_spec.specs.Damage.{BeginsAnImage, cell_at, first_cells, number_at}
 use Rattle.store_spec.specs.Election.{Election, IsElection, cell_count, cell_size}
-use Rattle.store_spec.specs.Home.{home_of}
+use Rattle.store_spec.specs.Home.{home_in}
 use Rattle.store_spec.specs.Image.{ballot_bytes, cell_bytes, cells_of, header_of, image_of}
 use Rattle.store_spec.specs.Layout.{HasRoom, IsLayout, IsOrdered, layout_of, numbers_in}
-
-abbrev pub home_in : Election → ℕ → ℕ
-home_in e = home_of e.bits e.salt
 
 -- ---- lists of pieces
 
@@ -53,9 +52,6 @@ same_pieces f g (x ∷ xs) same =
     ∙ ap (λ bytes. g x ++ bytes) (same_pieces f g xs (λ i lt. same (suc i) (omega arith))) ∙ sym (flat_map-cons g x xs)
 
 -- ---- the number at the front of a cell
-
-abbrev pub number_at : List ℕ → ℕ
-number_at bytes = from_be_bytes w64 (take 8 bytes)
 
 pub number_of_bytes : (e : Election) (b : Ballot) → b.number < 2 ^ 64 → number_at (ballot_bytes e b) ≡ b.number
 number_of_bytes e b short =
@@ -100,10 +96,6 @@ same_numbers f g (x ∷ xs) (y ∷ ys) long wide first second same =
 
 -- ---- the first cells of a bank
 
--- the bytes of one cell
-abbrev pub cell_at : Election → ℕ → List ℕ → List ℕ
-cell_at e place bank = take (cell_size e) (drop (32 + place * cell_size e) bank)
-
 pub one_cell_more : (e : Election) (place : ℕ) (bank : List ℕ) → first_cells e (place + 1) bank ≡ first_cells e place bank ++ cell_at e place bank
 one_cell_more e place bank =
     let size = cell_size e in
@@ -124,7 +116,8 @@ begins_fewer e n m bank le begins =
     let image = image_of e begins.0 in (
       begins.0,
       begins.1,
-      sym (take-take (n * size) (m * size) (drop 32 bank) less) ∙ ap (take (n * size)) begins.2 ∙ take-take (n * size) (m * size) (drop 32 image) less,
+      begins.2,
+      sym (take-take (n * size) (m * size) (drop 32 bank) less) ∙ ap (take (n * size)) begins.3 ∙ take-take (n * size) (m * size) (drop 32 image) less,
     )
 
 -- ---- what was read so far
@@ -138,29 +131,34 @@ pub record AreRead (e : Election) (bank : List ℕ) (place : ℕ) (numbers : Lis
   pub few : length ballots ≤ e.limit
   pub bytes : first_cells e place bank ≡ flat_map (cell_bytes e ballots) numbers
 
-pub set_read : (e : Election) (bank : List ℕ) (place : ℕ) (numbers : List ℕ) (ballots : List Ballot) → AreRead e bank place numbers ballots → IsBallotSet e ballots
-set_read e bank place numbers ballots read = record {
-  valid = read.valid;
-  distinct = pairs_of_ballots (λ a b. a ≢ b) ballots (subst (λ (ns : List ℕ). AllPairs (λ a b. a ≢ b) ns) (sym read.same) (distinct_in (home_in e) numbers read.ordered));
+pub listing_read : (e : Election) (bank : List ℕ) (place : ℕ) (numbers : List ℕ) (ballots : List Ballot) → AreRead e bank place numbers ballots → MayHold e ballots
+listing_read e bank place numbers ballots read = record {
+  listing = record {
+    valid = read.valid;
+    distinct = pairs_of_ballots (λ a b. a ≢ b) ballots (subst (λ (ns : List ℕ). AllPairs (λ a b. a ≢ b) ns) (sym read.same) (distinct_in (home_in e) numbers read.ordered));
+  };
   within_limit = read.few;
 }
 
 pub front_read : (e : Election) (bank : List ℕ) (place : ℕ) (numbers : List ℕ) (ballots : List Ballot) → IsElection e → place ≤ cell_count e → AreRead e bank place numbers ballots → take place (cells_of e ballots) ≡ numbers
 front_read e bank place numbers ballots election le read =
-    let room = subst (λ (ns : List ℕ). HasRoom (home_in e) (2 ^ e.bits) (cell_count e) ns) read.same (has_room e ballots election (set_read e bank place numbers ballots read)) in
+    let room = subst (λ (ns : List ℕ). HasRoom (home_in e) (2 ^ e.bits) (cell_count e) ns) read.same (has_room e ballots election (listing_read e bank place numbers ballots read)) in
     ap (λ ns. take place (layout_of (home_in e) (cell_count e) ns)) read.same
     ∙ ap (λ k. take k (layout_of (home_in e) (cell_count e) (numbers_in numbers))) (sym read.size)
     ∙ front_is_layout (home_in e) (2 ^ e.bits) (cell_count e) numbers room read.ordered (omega (arith, read.size))
 
-pub layout_read : (e : Election) (ballots : List Ballot) → IsElection e → IsBallotSet e ballots → IsLayout (home_in e) (cell_count e) (numbers_of ballots) (cells_of e ballots)
-layout_read e ballots election set = layout_of_is _ _ _ _ (has_room e ballots election set)
+pub layout_read : (e : Election) (ballots : List Ballot) → IsElection e → MayHold e ballots → IsLayout (home_in e) (cell_count e) (numbers_of ballots) (cells_of e ballots)
+layout_read e ballots election held = layout_of_is _ _ _ _ (has_room e ballots election held)
 
 pub begins_read : (e : Election) (bank : List ℕ) (place : ℕ) (numbers : List ℕ) (ballots : List Ballot) → IsElection e → place ≤ cell_count e → AreRead e bank place numbers ballots → BeginsAnImage e place bank
 begins_read e bank place numbers ballots election le read =
-    let set = set_read e bank place numbers ballots read in
-    let layout = layout_read e ballots election set in (
-      ballots,
-      set,
+    let held = listing_read e bank place numbers ballots read in
+    let layout = layout_read e ballots election held in
+    let ordered = in_order-IsPermutation ballots in (
+      in_order ballots,
+      set_of_listing e ballots held.listing,
+      limit-IsPermutation e ballots (in_order ballots) ordered held.within_limit,
       read.bytes ∙ ap (flat_map (cell_bytes e ballots)) (sym (front_read e bank place numbers ballots election le read))
-          ∙ sym (front_of_image e ballots place election read.valid (omega (arith, layout.size))),
+          ∙ sym (front_of_image e ballots place election read.valid (omega (arith, layout.size)))
+          ∙ ap (first_cells e place) (image_of-IsPermutation e ballots (in_order ballots) held.listing.distinct ordered),
     )

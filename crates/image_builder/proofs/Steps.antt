@@ -7,12 +7,14 @@ use Rattle.std.proofs.lemmas.List.Folds.{find-append}
 use Rattle.std.specs.List.{All, Contains, flat_map}
 use Rattle.std.specs.Option.{option_map_or, option_or}
 use Rattle.image_builder.proofs.Images.{cell_of_found, cell_of_none}
-use Rattle.store_spec.proofs.Lookups.{option_cases, found_in}
-use Rattle.image_builder.proofs.Reading.{AreRead, IsKnown, cell_at, home_in, one_cell_more, piece_more, same_pieces}
-use Rattle.store_spec.proofs.BallotNumbers.{contains_number}
-use Rattle.store_spec.proofs.Fronts.{holds_own}
-use Rattle.store_spec.proofs.OrderedCells.{place_from_contains, contains_from_place, place_within}
+use Rattle.ballot_record.proofs.Lookups.{option_cases, found_in}
+use Rattle.image_builder.proofs.Reading.{AreRead, IsKnown, one_cell_more, piece_more, same_pieces}
+use Rattle.store_spec.specs.Home.{home_in}
+use Rattle.ballot_record.proofs.BallotNumbers.{contains_number}
+use Rattle.layout_def.proofs.Fronts.{holds_own}
+use Rattle.layout_def.proofs.OrderedCells.{place_from_contains, contains_from_place, place_within}
 use Rattle.store_spec.specs.Ballot.{Ballot, IsValid, ballot_of, numbers_of}
+use Rattle.store_spec.specs.Damage.{cell_at}
 use Rattle.store_spec.specs.Election.{Election, cell_size}
 use Rattle.store_spec.specs.Image.{ballot_bytes, cell_bytes}
 use Rattle.store_spec.specs.Layout.{IsOrdered, MayStand, numbers_in}

@@ -4,25 +4,26 @@ use Rattle.std.proofs.lemmas.Bool.{cases_eq, cond-true, cond-false, eq-eqb, ne_e
 use Rattle.std.proofs.lemmas.List.{length-take, length-drop, take_more, get_or-take, take_all, take-append-drop}
 use Rattle.std.proofs.lemmas.List.Elements.{All-contains}
 use Rattle.std.specs.List.{flat_map}
-use Rattle.body_store.proofs.BallotSets.{has_room}
+use Rattle.body_store.proofs.BallotSets.{MayHold, has_room, may_hold_set}
 use Rattle.image_builder.proofs.Images.{length_pieces, length-cell_bytes, cell_of_found, cell_of_none}
-use Rattle.store_spec.proofs.Lookups.{option_cases, found_in}
-use Rattle.image_builder.proofs.Reading.{AreRead, IsKnown, begins_fewer, begins_read, cell_at, front_of_image, front_read, home_in, layout_read, number_at, number_in_cell, number_of_bytes, one_cell_more, piece_more, same_numbers, set_read, split_same}
+use Rattle.ballot_record.proofs.Lookups.{option_cases, found_in}
+use Rattle.image_builder.proofs.Reading.{AreRead, IsKnown, begins_fewer, begins_read, front_of_image, front_read, layout_read, number_in_cell, number_of_bytes, one_cell_more, piece_more, same_numbers, listing_read, split_same}
+use Rattle.store_spec.specs.Home.{home_in}
 use Rattle.image_builder.proofs.Steps.{known_read}
-use Rattle.store_spec.proofs.Ascending.{length-ascending}
-use Rattle.store_spec.proofs.BallotNumbers.{length-numbers_of}
-use Rattle.store_spec.proofs.LaidOut.{layout_of_laid_out}
-use Rattle.store_spec.proofs.OrderedCells.{contains_from_place, place_within}
-use Rattle.store_spec.proofs.Placing.{filled}
-use Rattle.store_spec.specs.Ballot.{Ballot, IsBallotSet, IsValid, ballot_of, numbers_of}
-use Rattle.store_spec.specs.Damage.{BeginsAnImage, IsFirstWrong}
+use Rattle.layout_def.proofs.Ascending.{length-ascending}
+use Rattle.ballot_record.proofs.BallotNumbers.{length-numbers_of}
+use Rattle.layout_def.proofs.LaidOut.{layout_of_laid_out}
+use Rattle.layout_def.proofs.OrderedCells.{contains_from_place, place_within}
+use Rattle.layout_def.proofs.Placing.{filled}
+use Rattle.store_spec.specs.Ballot.{Ballot, IsValid, ballot_of, numbers_of}
+use Rattle.store_spec.specs.Damage.{BeginsAnImage, IsFirstWrong, cell_at, number_at}
 use Rattle.store_spec.specs.Election.{Election, IsElection, cell_count, cell_size}
 use Rattle.store_spec.specs.Image.{ballot_bytes, cell_bytes, cells_of, header_of, image_of}
 use Rattle.store_spec.specs.Layout.{IsLayout, MayStand, numbers_in}
 
 -- the bank begins the image of this set, which goes on with one cell more
 record GoesOn (e : Election) (bank : List ℕ) (place : ℕ) (numbers : List ℕ) (ballots : List Ballot) : Type 0 where
-  set : IsBallotSet e ballots
+  held : MayHold e ballots
   layout : IsLayout (home_in e) (cell_count e) (numbers_of ballots) (cells_of e ballots)
   front : numbers ≡ take place (cells_of e ballots)
   next : cell_at e place bank ≡ cell_bytes e ballots (get_or (cells_of e ballots) place 0)
@@ -36,33 +37,33 @@ goes_on : (e : Election) (bank : List ℕ) (place : ℕ) (numbers : List ℕ) (b
     → (begins : BeginsAnImage e (place + 1) bank) → GoesOn e bank place numbers begins.0
 goes_on e bank place numbers ballots election lt read begins =
     let own = begins.0 in
-    let set = begins.1 in
-    let layout = layout_read e own election set in
+    let held = may_hold_set e own begins.1 begins.2 in
+    let layout = layout_read e own election held in
     let cells = cells_of e own in
     let size = cell_size e in
     let f = cell_bytes e ballots in
     let g = cell_bytes e own in
     let width_f = λ (x : ℕ). length-cell_bytes e ballots x election read.valid in
-    let width_g = λ (x : ℕ). length-cell_bytes e own x election set.valid in
+    let width_g = λ (x : ℕ). length-cell_bytes e own x election held.listing.valid in
     let short : length (take place cells) ≡ place = omega (arith, length-take place cells, layout.size) in
     let all : flat_map f numbers ++ cell_at e place bank ≡ flat_map g (take place cells) ++ g (get_or cells place 0) =
     ap (λ bytes. bytes ++ cell_at e place bank) (sym read.bytes)
     ∙ sym (one_cell_more e place bank)
-    ∙ begins.2
-    ∙ front_of_image e own (place + 1) election set.valid (omega (arith, layout.size))
+    ∙ begins.3
+    ∙ front_of_image e own (place + 1) election held.listing.valid (omega (arith, layout.size))
     ∙ ap (flat_map g) (take_more cells place 0 (omega (arith, layout.size)))
     ∙ piece_more g (take place cells) (get_or cells place 0) in
     let long : length (flat_map f numbers) ≡ length (flat_map g (take place cells)) =
     length_pieces f size numbers width_f ∙ ap (λ k. k * size) (read.size ∙ sym short) ∙ sym (length_pieces g size (take place cells) width_g) in
     let parts = split_same (flat_map f numbers) (flat_map g (take place cells)) (cell_at e place bank) (g (get_or cells place 0)) long all in
     record {
-      set = set;
+      held = held;
       layout = layout;
       front = same_numbers f g numbers (take place cells) (read.size ∙ sym short) (λ x y. width_f x ∙ sym (width_g y))
           (λ i lt. number_in_cell e ballots (get_or numbers i 0) read.valid (known_read e bank place numbers ballots read i lt))
           (λ i lt.
           let same = get_or-take place cells i 0 (omega (arith, short)) in
-          subst (λ (v : ℕ). number_at (g v) ≡ v) (sym same) (number_in_cell e own (get_or cells i 0) set.valid (known_cell e own i layout)))
+          subst (λ (v : ℕ). number_at (g v) ≡ v) (sym same) (number_in_cell e own (get_or cells i 0) held.listing.valid (known_cell e own i layout)))
           parts.0;
       next = parts.1;
     }
@@ -79,14 +80,14 @@ bad_bytes e bank place numbers ballots election lt read not_empty not_held begin
     (λ (none : ballot_of begins.0 v ≡ None). not_empty (goes.next ∙ cell_of_none e begins.0 v none))
     (λ some.
     let found = found_in begins.0 v some.0 some.1 in
-    not_held some.0 (All-contains (IsValid e) begins.0 some.0 goes.set.valid found.0) (goes.next ∙ cell_of_found e begins.0 v some.0 some.1))
+    not_held some.0 (All-contains (IsValid e) begins.0 some.0 goes.held.listing.valid found.0) (goes.next ∙ cell_of_found e begins.0 v some.0 some.1))
     (option_cases (ballot_of begins.0 v))
 
 -- the number of a cell whose bytes are a ballot's
 next_number : (e : Election) (bank : List ℕ) (place : ℕ) (numbers : List ℕ) (ballots : List Ballot) (b : Ballot) → GoesOn e bank place numbers ballots → IsValid e b → cell_at e place bank ≡ ballot_bytes e b → get_or (cells_of e ballots) place 0 ≡ b.number
 next_number e bank place numbers ballots b goes valid is =
     let v = get_or (cells_of e ballots) place 0 in
-    sym (number_in_cell e ballots v goes.set.valid (known_cell e ballots place goes.layout)) ∙ ap number_at (sym goes.next ∙ is) ∙ number_of_bytes e b valid.short_number
+    sym (number_in_cell e ballots v goes.held.listing.valid (known_cell e ballots place goes.layout)) ∙ ap number_at (sym goes.next ∙ is) ∙ number_of_bytes e b valid.short_number
 
 -- the ballot may not stand there
 pub misplaced : (e : Election) (bank : List ℕ) (place : ℕ) (numbers : List ℕ) (ballots : List Ballot) (b : Ballot) → IsElection e → place < cell_count e → AreRead e bank place numbers ballots
@@ -138,7 +139,7 @@ too_many e bank place numbers ballots b election lt read valid is full begins =
     let cells = cells_of e own in
     let same = next_number e bank place numbers own b goes valid is in
     let some : get_or cells place 0 ≢ 0 = (λ z. omega (arith, valid.some_number)) in
-    let laid = layout_of_laid_out (home_in e) (2 ^ e.bits) (cell_count e) (numbers_of own) (has_room e own election goes.set) in
+    let laid = layout_of_laid_out (home_in e) (2 ^ e.bits) (cell_count e) (numbers_of own) (has_room e own election goes.held) in
     let most : filled cells ≤ length own = omega (arith, laid.few, length-ascending (numbers_of own), length-numbers_of own) in
     let whole : filled cells ≡ filled (take (place + 1) cells) + filled (drop (place + 1) cells) =
     ap filled (sym (take-append-drop (place + 1) cells)) ∙ filled-append (take (place + 1) cells) (drop (place + 1) cells) in
@@ -146,14 +147,13 @@ too_many e bank place numbers ballots b election lt read valid is full begins =
     ap filled (take_more cells place 0 (omega (arith, goes.layout.size)) ∙ ap (λ ns. ns ++ get_or cells place 0 ∷ []) (sym goes.front))
     ∙ filled-append numbers (get_or cells place 0 ∷ []) ∙ ap (λ k. filled numbers + k) (filled_one (get_or cells place 0) some) in
     let count : filled numbers ≡ length ballots = sym (filled-numbers_in numbers) ∙ ap length (sym read.same) ∙ length-numbers_of ballots in
-    omega (arith, goes.set.within_limit)
+    omega (arith, goes.held.within_limit)
 
 -- ---- a bank that is read whole
 
 pub whole_bank : (e : Election) (bank numbers : List ℕ) (ballots : List Ballot) → IsElection e → length bank ≡ 32 + cell_count e * cell_size e → take 32 bank ≡ header_of e → AreRead e bank (cell_count e) numbers ballots → bank ≡ image_of e ballots
 whole_bank e bank numbers ballots election long header read =
-    let set = set_read e bank (cell_count e) numbers ballots read in
-    let layout = layout_read e ballots election set in
+    let layout = layout_read e ballots election (listing_read e bank (cell_count e) numbers ballots read) in
     let cells : numbers ≡ cells_of e ballots =
     sym (front_read e bank (cell_count e) numbers ballots election (omega arith) read) ∙ take_all (cell_count e) (cells_of e ballots) (omega (arith, layout.size)) in
     sym (take-append-drop 32 bank)

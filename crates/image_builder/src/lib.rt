@@ -1,6 +1,7 @@
 //! Images of ballot sets: the bytes of a bank, written from a store and read back.
 #![tactic(auto)]
 
+pub mod laws;
 mod read;
 mod write;
 

@@ -2,12 +2,13 @@
 
 ghost use Rattle.body_store.specs.Contents.{IsStored, ballots_of};
 ghost use Rattle.image_builder.specs.Reaches.{AreReaches, IsReach};
-ghost use Rattle.image_builder.specs.Reading.{BankReadsAs};
-ghost use Rattle.std.specs.Prelude.{◌≡◌, ◌≢◌, ◌+◌, ◌*◌, ◌<◌, ◌≤◌, ◌↔◌, List, drop, length, take, AllPairs, IfOk, IfErr, IfSome, IsSome, MatchResult};
-ghost use Rattle.store_spec.specs.Ballot.{Ballot, IsBallotSet};
-ghost use Rattle.store_spec.specs.Election.{bank_size, cell_count, cell_size};
-ghost use Rattle.store_spec.specs.Home.{home_of};
-ghost use Rattle.store_spec.specs.Image.{header_of, image_of};
+ghost use Rattle.image_builder.specs.Reading.{IsRefusedBank};
+ghost use Rattle.std.specs.Prelude.{◌≡◌, ◌≢◌, ◌+◌, ◌*◌, ◌<◌, ◌≤◌, ◌↔◌, List, drop, length, take, IfOk, IfErr, IfSome, IsSome, MatchResult};
+ghost use Rattle.store_spec.specs.Ballot.{Ballot, IsListing, IsWithinLimit};
+ghost use Rattle.store_spec.specs.Damage.{cell_at};
+ghost use Rattle.store_spec.specs.Election.{bank_size, cell_count, cell_size, header_size};
+ghost use Rattle.store_spec.specs.Home.{home_in};
+ghost use Rattle.store_spec.specs.Image.{IsImageOf, header_of, image_of};
 ghost use Rattle.store_spec.specs.Layout.{MayStand};
 
 use crate::write::{HEADER_BYTES, header};
@@ -64,13 +65,15 @@ impl<T: Drop> From<AllocFailed<T>> for ImageFault {
 /// The store whose image the bytes of a bank are. It is never the empty store where they are the image of none.
 pub fn read_image(alloc: Global, bytes: &[u8], election: &Election) -> Result<Closed, ImageFault>
     requires { length bytes.now ≡ bank_size election.now }
-    ensures reads { BankReadsAs (λ store. store.ballots) election.now bytes.now result }
+    ensures image { IfOk result (λ store. IsImageOf election.now bytes.now store.ballots) }
+    ensures refused { IfErr result (IsRefusedBank election.now bytes.now) }
     ensures election { IfOk result (λ store. store.election ≡ election.now) }
     ensures stored { IfOk result IsStored }
 
     // The image of a set is read as that set and as no other.
-    ensures back { (ballots : List Ballot) → IsBallotSet election.now ballots → AllPairs (λ a b. a.number < b.number) ballots
-        → bytes.now ≡ image_of election.now ballots → MatchResult result (λ store. store.ballots ≡ ballots) (λ fault. fault ≡ ImageFault.Memory) }
+    ensures back { (ballots : List Ballot) → IsImageOf election.now bytes.now ballots
+        → MatchResult result
+        (λ store. store.ballots ≡ ballots) (λ fault. fault ≡ ImageFault.Memory) }
 {
     check_header(bytes, election)?;
     let records = read_cells(alloc, bytes, election)?;
@@ -78,10 +81,11 @@ pub fn read_image(alloc: Global, bytes: &[u8], election: &Election) -> Result<Cl
 }
 
 fn check_header(bytes: &[u8], election: &Election) -> Result<(), ImageFault>
-    requires { 32 ≤ length bytes.now }
-    ensures own { IfOk result (λ _. take 32 bytes.now ≡ header_of election.now) }
-    ensures other { IfErr result
-        (λ fault. (take 32 bytes.now ≢ header_of election.now) × (fault ≡ ImageFault.OtherElection (take 32 bytes.now))) }
+    requires { header_size ≤ length bytes.now }
+    ensures own { IfOk result (λ _. take header_size bytes.now ≡ header_of election.now) }
+    ensures other { IfErr result (λ _. take header_size bytes.now ≢ header_of election.now) }
+    ensures told { IfErr result
+        (λ fault. fault ≡ ImageFault.OtherElection (take header_size bytes.now)) }
 {
     let mut found = [0; HEADER_BYTES];
     found.copy_from_slice(&bytes[..HEADER_BYTES]);
@@ -95,8 +99,13 @@ fn check_header(bytes: &[u8], election: &Election) -> Result<(), ImageFault>
 /// The records in the cells of a bank, in the order of the cells.
 fn read_cells(alloc: Global, bank: &[u8], election: &Election) -> Result<Vec<Record>, ImageFault>
     requires long { length bank.now ≡ bank_size election.now }
-    requires header { take 32 bank.now ≡ header_of election.now }
-    ensures { BankReadsAs (λ records. ballots_of records.items) election.now bank.now result }
+    requires header { take header_size bank.now ≡ header_of election.now }
+    ensures listing { IfOk result (λ records. IsListing election.now (ballots_of records.items)) }
+    ensures within_limit { IfOk result
+        (λ records. IsWithinLimit election.now (ballots_of records.items)) }
+    ensures image { IfOk result
+        (λ records. bank.now ≡ image_of election.now (ballots_of records.items)) }
+    ensures refused { IfErr result (IsRefusedBank election.now bank.now) }
 {
     let limit = election.limit() as usize;
     let mut numbers = Vec::with_capacity(alloc, election.cells())?;
@@ -130,7 +139,7 @@ fn cell_bytes<'a>(bank: &'a [u8], election: &Election, place: usize) -> &'a [u8]
     requires long { length bank.now ≡ bank_size election.now }
     requires within { place < cell_count election.now }
     ensures size { length result.now ≡ cell_size election.now }
-    ensures bytes { result.now ≡ take (cell_size election.now) (drop (32 + place * cell_size election.now) bank.now) }
+    ensures bytes { result.now ≡ cell_at election.now place bank.now }
 {
     let size = election.cell_bytes();
     let (_, rest) = bank.split_at(HEADER_BYTES + place * size);
@@ -143,7 +152,8 @@ fn cell_bytes<'a>(bank: &'a [u8], election: &Election, place: usize) -> &'a [u8]
 /// reaches over is passed at once, so that judging all cells of a bank takes each of them twice at most.
 fn reach_of(election: &Election, cells: &[u64], reaches: &[usize], number: u64) -> Option<usize>
     requires { AreReaches cells.now reaches.now }
-    ensures stands { IsSome result ↔ MayStand (home_of election.now.bits election.now.salt) cells.now number (length cells.now) }
+    ensures stands { IsSome result
+        ↔ MayStand (home_in election.now) cells.now number (length cells.now) }
     ensures reach { IfSome result (IsReach cells.now number (length cells.now)) }
 {
     let order = Salted {

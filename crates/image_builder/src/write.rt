@@ -40,7 +40,8 @@ pub fn image(alloc: Global, closed: &Closed, election: &Election) -> Result<Vec<
 pub fn image_part(closed: &Closed, election: &Election, from: usize, out: &mut [u8])
     requires own { election.now ≡ closed.now.election }
     requires within { from + length out.old ≤ bank_size election.now }
-    ensures part { out.new ≡ take (length out.old) (drop from (image_of election.now closed.now.ballots)) }
+    ensures part { out.new
+        ≡ take (length out.old) (drop from (image_of election.now closed.now.ballots)) }
     ensures whole { length (image_of election.now closed.now.ballots) ≡ bank_size election.now }
     ensures stored { IsStored closed.now }
 {
@@ -64,10 +65,11 @@ fn put_piece(
     requires stored { IsStored closed.now }
     requires held { cells.now ≡ cells_of election.now closed.now.ballots }
     requires within { at < bank_size election.now }
-    requires some { 0 < length out.old }
-    ensures some { 0 < result }
-    ensures few { result ≤ length out.old }
-    ensures bytes { take result out.new ≡ take result (drop at (image_of election.now closed.now.ballots)) }
+    requires some_room { 0 < length out.old }
+    ensures progress { 0 < result }
+    ensures within_room { result ≤ length out.old }
+    ensures bytes { take result out.new
+        ≡ take result (drop at (image_of election.now closed.now.ballots)) }
 {
     if at < HEADER_BYTES {
         return put_from(&header(election), at, out);
@@ -88,11 +90,12 @@ fn put_cell_from(
     requires own { election.now ≡ closed.now.election }
     requires stored { IsStored closed.now }
     requires within { from < cell_size election.now }
-    requires some { 0 < length out.old }
-    ensures some { 0 < result }
-    ensures few { result ≤ length out.old }
-    ensures there { from + result ≤ cell_size election.now }
-    ensures bytes { take result out.new ≡ take result (drop from (cell_bytes election.now closed.now.ballots number)) }
+    requires some_room { 0 < length out.old }
+    ensures progress { 0 < result }
+    ensures within_room { result ≤ length out.old }
+    ensures within_cell { from + result ≤ cell_size election.now }
+    ensures bytes { take result out.new
+        ≡ take result (drop from (cell_bytes election.now closed.now.ballots number)) }
 {
     let size = election.cell_bytes();
     let mut cell = [0; MAX_CELL_BYTES];
@@ -116,10 +119,10 @@ fn put_cell(closed: &Closed, election: &Election, number: u64, out: &mut [u8])
 /// Writes bytes from a place on, as far as there is room for them. It answers how many it wrote.
 fn put_from(bytes: &[u8], from: usize, out: &mut [u8]) -> usize
     requires within { from < length bytes.now }
-    requires some { 0 < length out.old }
-    ensures some { 0 < result }
-    ensures few { result ≤ length out.old }
-    ensures there { from + result ≤ length bytes.now }
+    requires some_room { 0 < length out.old }
+    ensures progress { 0 < result }
+    ensures within_room { result ≤ length out.old }
+    ensures within_bytes { from + result ≤ length bytes.now }
     ensures bytes { take result out.new ≡ take result (drop from bytes.now) }
 {
     let count = out.len().min(bytes.len() - from);

@@ -5,8 +5,8 @@ use Rattle.std.proofs.lemmas.Bool.{true≢false, eq-eqb, ne_eqb, cases_eq, cond-
 use Rattle.std.proofs.lemmas.List.{take-replicate}
 use Rattle.std.proofs.lemmas.List.Elements.{All-weaker, Contains-get_or, filter_passes}
 use Rattle.std.specs.List.{All}
-use Rattle.store_spec.proofs.Fronts.{distinct_in, front_is_layout, holds_own}
-use Rattle.store_spec.proofs.OrderedCells.{home_before, place_from_contains}
+use Rattle.layout_def.proofs.Fronts.{distinct_in, front_is_layout, holds_own}
+use Rattle.layout_def.proofs.OrderedCells.{home_before, place_from_contains}
 use Rattle.store_spec.specs.Layout.{HasRoom, IsOrdered, ascending, laid_out, layout_of, numbers_in, placed}
 
 placed_in_front : (v place n : ℕ) (cells : List ℕ) → placed v place (take n cells) ≡ take n (placed v place cells)

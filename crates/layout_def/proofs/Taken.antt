@@ -2,7 +2,7 @@
 use Rattle.std.proofs.Common.{◌≡◌, ℕ, ◌+◌, ◌<◌, ◌≤◌, List, [], ◌∷◌, ◌++◌, length, get_or, set, take, drop, refl, sym, ap, ◌∙◌, subst, arith}
 use Rattle.std.proofs.lemmas.List.{length_push, get_or_push, get_or-take, take-take, take_at, length-take}
 use Rattle.std.specs.List.Sorted.{IsNonDecreasing}
-use Rattle.store_spec.proofs.LaidOut.{next_finds, next_placed}
+use Rattle.layout_def.proofs.LaidOut.{next_finds, next_placed}
 use Rattle.store_spec.specs.Layout.{HasRoom, laid_out}
 use Rattle.store_spec.specs.Probe.{IsFirstEmpty}
 

@@ -40,7 +40,8 @@ pub fn build<O: Order>(
 /// Places numbers that rise into empty cells, the greatest first.
 fn place_all<O: Order>(order: &O, mut waiting: Vec<u64>, cells: &mut [u64], onward: &mut [usize])
     requires rising { IsNonDecreasing waiting.items }
-    requires fits { HasRoom (O.home order.now) (O.homes order.now) (length cells.old) waiting.items }
+    requires fits { HasRoom (O.home order.now) (O.homes order.now)
+        (length cells.old) waiting.items }
     requires empty { cells.old ≡ replicate (length cells.old) 0 }
     requires sound { AreSound cells.old onward.old }
     ensures { cells.new ≡ layout_of (O.home order.now) (length cells.old) waiting.items }

@@ -9,7 +9,8 @@ use probe_order::Order;
 pub fn place_of<O: Order>(order: &O, cells: &[u64], v: u64) -> Option<usize>
     requires some { v ≢ 0 }
     requires ordered { IsOrdered (O.home order.now) cells.now }
-    ensures { MatchOption result (¬ Contains cells.now v) (λ place. slice_index cells.now place ≡ v) }
+    ensures { MatchOption result
+        (¬ Contains cells.now v) (λ place. slice_index cells.now place ≡ v) }
 {
     let mut place = order.home(v);
     while place < cells.len() && cells[place] > v {
@@ -34,8 +35,10 @@ pub fn is_ordered<O: Order>(order: &O, cells: &[u64]) -> bool
 /// that is greater and that number is greater too, so that it is passed at once.
 fn stands_in_order<O: Order>(order: &O, cells: &[u64], place: usize) -> bool
     requires within { place < length cells.now }
-    requires before { (k : ℕ) → k < place → slice_index cells.now k ≢ 0 → MayStand (O.home order.now) cells.now (slice_index cells.now k) k }
-    ensures { IsTrue result ↔ MayStand (O.home order.now) cells.now (slice_index cells.now place) place }
+    requires before { (k : ℕ) → k < place → slice_index cells.now k ≢ 0
+        → MayStand (O.home order.now) cells.now (slice_index cells.now k) k }
+    ensures { IsTrue result
+        ↔ MayStand (O.home order.now) cells.now (slice_index cells.now place) place }
 {
     let v = cells[place];
     let home = order.home(v);

@@ -1,24 +1,21 @@
 -- What a call of `next_line` answers, from what its parts do.
-use Rattle.std.proofs.Common.{◌≡◌, ℕ, ◌+◌, ◌<◌, ◌≤◌, cond, List, [], ◌∷◌, ◌++◌, length, take, drop, map, Option, Some, None, Ok, Err, refl, ap, sym, ◌∙◌, subst, inl, inr, arith, append_assoc, length-append, length-drop, length-take}
+use Rattle.std.proofs.Common.{◌≡◌, ℕ, ◌+◌, ◌<◌, ◌≤◌, List, [], ◌∷◌, ◌++◌, length, take, drop, map, Option, Some, None, Ok, Err, refl, ap, sym, ◌∙◌, subst, inl, inr, arith, append_assoc, length-append, length-drop, length-take}
 use Rattle.std.proofs.lemmas.List.{take-append-le, drop-append-le, drop_all, drop_at, drop-drop, nil_from_length, append-nil, take_all}
-use Rattle.std.specs.Option.{option_map, IfSome}
-use Rattle.std.proofs.Common.{le-leb}
-use Rattle.std.proofs.lemmas.Bool.{cases_lt, lt-leb}
-use Rattle.outside_io.specs.declared.lines.LineEndFault.TheVariants.{TooLong}
-use Rattle.outside_io.specs.Lines.{HandsOut, LooksLike, Answers, AnswersTold, IfTold, CutsOff, StaysSame, TakesLast}
+use Rattle.std.specs.Option.{IfSome}
+use Rattle.std.specs.Prelude.{Result, IsErrAnd}
+use Rattle.std.proofs.lemmas.Bool.{cases_lt}
+use Rattle.outside_io.specs.declared.lines.LineEndFault.TheVariants.{TooLong, ReadFault}
+use Rattle.outside_io.specs.declared.lines.LineEndFault.{LineEndFault}
+use Rattle.outside_io.specs.Lines.{HandsOut, LooksLike, Answers, AnswersTold, CutsOff, StaysSame, TakesLast}
 use Rattle.outside_io.specs.declared.lines.NextLine.{NextLine}
 use Rattle.outside_io.specs.declared.lines.NextLine.TheVariants.{Whole, TooWide, End}
+use Rattle.outside_io.specs.Stream.{Gives}
+use Rattle.outside_io.specs.Told.{IfTold}
 use Rattle.outside_io.specs.Window.{Kept}
-use Rattle.store_spec.proofs.FirstLine.{first_width-le, first_width-append, first_width-more, first_width-same, lines_within-first, lines_within-none, lines_within-too_long}
-use Rattle.store_spec.specs.Input.{LINE_LIMIT, first_width, taken_line, taken_within, IsTooLong}
-
--- ---- lines as they are taken
-
-pub taken_line-narrow : (line : List ℕ) → length line ≤ LINE_LIMIT → taken_line line ≡ Some line
-taken_line-narrow line narrow = ap (λ test. cond test (Some line) None) (le-leb (length line) LINE_LIMIT narrow)
-
-pub taken_line-wide : (line : List ℕ) → LINE_LIMIT < length line → taken_line line ≡ None
-taken_line-wide line wide = ap (λ test. cond test (Some line) None) (lt-leb (length line) LINE_LIMIT wide)
+use Rattle.outside_io.proofs.TakenLines.{taken_line-narrow, taken_line-wide}
+use Rattle.outside_io.proofs.Told.{told_still, told_as, told_on, told_given, told_holds}
+use Rattle.outside_io.proofs.FirstLine.{first_width-le, first_width-append, first_width-more, first_width-same, lines_within-first, lines_within-none, lines_within-too_long}
+use Rattle.store_spec.specs.Input.{line_limit, first_width, taken_line, taken_within, IsTooLong}
 
 -- ---- texts that look alike
 
@@ -34,8 +31,8 @@ looks_on a b c ab bc = record {
 }
 
 -- the first line with a wide front is too wide
-wide_line : (front rest : List ℕ) (n : ℕ) → LINE_LIMIT < length front → n ≡ length front + first_width rest → taken_line (take n (front ++ rest)) ≡ None
-wide_line front rest n wide is =
+wide_first : (front rest : List ℕ) (n : ℕ) → line_limit < length front → n ≡ length front + first_width rest → taken_line (take n (front ++ rest)) ≡ None
+wide_first front rest n wide is =
     taken_line-wide (take n (front ++ rest)) (omega (arith, length-take n (front ++ rest), length-append front rest, first_width-le rest))
 
 behind_front : (front rest : List ℕ) (n : ℕ) → n ≡ length front + first_width rest → drop n (front ++ rest) ≡ drop (first_width rest) rest
@@ -43,14 +40,14 @@ behind_front front rest n is =
     ap (λ k. drop k (front ++ rest)) is ∙ sym (drop-drop (first_width rest) (length front) (front ++ rest))
     ∙ ap (λ others. drop (first_width rest) others) (drop_at front rest (length front) refl)
 
-pub looks_forgotten : (a b rest : List ℕ) → first_width a ≡ length a → first_width b ≡ length b → length b ≡ length a → (length a ≤ LINE_LIMIT → b ≡ a) → LooksLike (a ++ rest) (b ++ rest)
-looks_forgotten a b rest none_a none_b same narrow = elim (cases_lt LINE_LIMIT (length a)) [
+pub looks_forgotten : (a b rest : List ℕ) → first_width a ≡ length a → first_width b ≡ length b → length b ≡ length a → (length a ≤ line_limit → b ≡ a) → LooksLike (a ++ rest) (b ++ rest)
+looks_forgotten a b rest none_a none_b same narrow = elim (cases_lt line_limit (length a)) [
   | inl wide ↦
       let width_a = first_width-append a rest none_a in
       let width_b = first_width-append b rest none_b in
       record {
         width = omega arith;
-        line = wide_line b rest (first_width (a ++ rest)) (omega arith) (omega arith) ∙ sym (wide_line a rest (first_width (a ++ rest)) wide width_a);
+        line = wide_first b rest (first_width (a ++ rest)) (omega arith) (omega arith) ∙ sym (wide_first a rest (first_width (a ++ rest)) wide width_a);
         behind = behind_front b rest (first_width (a ++ rest)) (omega arith) ∙ sym (behind_front a rest (first_width (a ++ rest)) width_a);
         size = omega (arith, length-append a rest, length-append b rest);
       }
@@ -71,49 +68,29 @@ too_long_more text rest room long = record {
   no_end = omega (arith, first_width-more text rest, long.no_end);
 }
 
--- ---- what is told
-
-pub told_start : (left : Option (List ℕ)) (text : List ℕ) → IfTold left left (λ before after. LooksLike (text ++ before) (text ++ after))
-told_start None text = tt
-told_start (Some left) text = looks_same (text ++ left)
-
-pub told_more : (a b c : Option (List ℕ)) (s t u : List ℕ) → IfTold a b (λ x y. LooksLike (s ++ x) (t ++ y)) → IfTold b c (λ x y. LooksLike (t ++ x) (u ++ y)) → IfTold a c (λ x y. LooksLike (s ++ x) (u ++ y))
-told_more None None None s t u ab bc = tt
-told_more None None (Some z) s t u ab bc = bc
-told_more None (Some y) c s t u ab bc = absurd ab
-told_more (Some x) None c s t u ab bc = absurd ab
-told_more (Some x) (Some y) None s t u ab bc = absurd bc
-told_more (Some x) (Some y) (Some z) s t u ab bc = looks_on (s ++ x) (t ++ y) (u ++ z) ab bc
+-- ---- what is kept and left, where the source tells its bytes
 
 -- a piece came behind what was kept, of which a front may have been forgotten
-pub filled : (before after : Option (List ℕ)) (old mid now piece : List ℕ) → first_width old ≡ length old → first_width mid ≡ length mid → length mid ≡ length old → (length old ≤ LINE_LIMIT → mid ≡ old) → now ≡ mid ++ piece → before ≡ option_map (λ rest. piece ++ rest) after → IfTold before after (λ x y. LooksLike (old ++ x) (now ++ y))
-filled None None old mid now piece none_old none_mid same narrow is gives = tt
-filled None (Some y) old mid now piece none_old none_mid same narrow is gives = absurd cc
-filled (Some x) None old mid now piece none_old none_mid same narrow is gives = absurd cc
-filled (Some x) (Some y) old mid now piece none_old none_mid same narrow is gives =
-    let given : x ≡ piece ++ y = cc in
+pub filled : {before after : Option (List ℕ)} (old mid now piece : List ℕ) → first_width old ≡ length old → first_width mid ≡ length mid → length mid ≡ length old → (length old ≤ line_limit → mid ≡ old) → now ≡ mid ++ piece → Gives before piece after → IfTold before after (λ x y. LooksLike (old ++ x) (now ++ y))
+filled old mid now piece none_old none_mid same narrow is gives =
+    told_given piece gives (λ x y given.
     let joined : mid ++ x ≡ now ++ y = ap (λ rest. mid ++ rest) given ∙ sym (append_assoc mid piece y) ∙ ap (λ front. front ++ y) (sym is) in
     let P : List ℕ → Type 0 = λ text. LooksLike (old ++ x) text in
-    subst P joined (looks_forgotten old mid x none_old none_mid same narrow)
+    subst P joined (looks_forgotten old mid x none_old none_mid same narrow))
 
 -- nothing came behind what was kept, of which a front may have been forgotten
-pub not_filled : (before after : Option (List ℕ)) (old mid now : List ℕ) → first_width old ≡ length old → first_width mid ≡ length mid → length mid ≡ length old → (length old ≤ LINE_LIMIT → mid ≡ old) → now ≡ mid → after ≡ before → IfTold before after (λ x y. LooksLike (old ++ x) (now ++ y))
-not_filled None None old mid now none_old none_mid same narrow is still = tt
-not_filled None (Some y) old mid now none_old none_mid same narrow is still = absurd cc
-not_filled (Some x) None old mid now none_old none_mid same narrow is still = absurd cc
-not_filled (Some x) (Some y) old mid now none_old none_mid same narrow is still =
-    let left : y ≡ x = cc in
+pub not_filled : {before after : Option (List ℕ)} (old mid now : List ℕ) → first_width old ≡ length old → first_width mid ≡ length mid → length mid ≡ length old → (length old ≤ line_limit → mid ≡ old) → now ≡ mid → after ≡ before → IfTold before after (λ x y. LooksLike (old ++ x) (now ++ y))
+not_filled old mid now none_old none_mid same narrow is still =
+    told_still still (λ x.
     let P : List ℕ → Type 0 = λ text. LooksLike (old ++ x) text in
-    subst P (ap (λ front. front ++ x) (sym is) ∙ ap (λ rest. now ++ rest) (sym left)) (looks_forgotten old mid x none_old none_mid same narrow)
+    subst P (ap (λ front. front ++ x) (sym is)) (looks_forgotten old mid x none_old none_mid same narrow))
 
 -- an empty piece came from a source that has ended
-pub still_ended : (before after : Option (List ℕ)) (piece : List ℕ) → before ≡ option_map (λ rest. piece ++ rest) after → piece ≡ [] → IfSome before (λ left. left ≡ []) → IfSome after (λ left. left ≡ [])
-still_ended None None piece gives nothing ended = tt
-still_ended None (Some y) piece gives nothing ended = absurd cc
-still_ended (Some x) None piece gives nothing ended = tt
-still_ended (Some x) (Some y) piece gives nothing ended =
-    let given : x ≡ piece ++ y = cc in
-    sym (ap (λ front. front ++ y) nothing) ∙ sym given ∙ ended
+pub still_ended : (before after : Option (List ℕ)) (piece : List ℕ) → Gives before piece after → piece ≡ [] → IfSome before (λ left. left ≡ []) → IfSome after (λ left. left ≡ [])
+still_ended before None piece gives nothing ended = tt
+still_ended before (Some y) piece gives nothing ended =
+    let all : piece ++ y ≡ [] = told_holds (λ left. left ≡ []) (piece ++ y) gives ended in
+    sym (ap (λ front. front ++ y) nothing) ∙ all
 
 -- ---- the answers
 
@@ -186,17 +163,22 @@ answers_last answer old now text left room alike same none within ended last =
 
 -- ---- the same, where the source tells its bytes
 
-pub told_line : (answer : NextLine) (before left : Option (List ℕ)) (old mid now : Kept) → IfTold before left (λ x y. LooksLike (old.text ++ x) (mid.text ++ y)) → mid.room ≡ old.room → CutsOff answer mid now → AnswersTold (Ok answer) old before now left
-told_line answer None None old mid now alike same cut = tt
-told_line answer None (Some y) old mid now alike same cut = absurd alike
-told_line answer (Some x) None old mid now alike same cut = absurd alike
-told_line answer (Some x) (Some y) old mid now alike same cut = answers_line answer mid now (old.text ++ x) y old.room alike same cut
+-- what was kept and left before looks like what is kept and left
+abbrev pub Alike : Kept → Kept → Option (List ℕ) → Option (List ℕ) → Type 0
+Alike old now before left = IfTold before left (λ x y. LooksLike (old.text ++ x) (now.text ++ y))
 
-pub told_too_long : (before left : Option (List ℕ)) (old mid now : Kept) → IfTold before left (λ x y. LooksLike (old.text ++ x) (mid.text ++ y)) → mid.room ≡ old.room → IsTooLong mid.text mid.room → StaysSame mid now → AnswersTold (Err TooLong) old before now left
-told_too_long None None old mid now alike same long still = tt
-told_too_long None (Some y) old mid now alike same long still = absurd alike
-told_too_long (Some x) None old mid now alike same long still = absurd alike
-told_too_long (Some x) (Some y) old mid now alike same long still =
+-- and a further piece was read
+pub alike_more : {a b c : Option (List ℕ)} (old mid cut now : Kept) → Alike old mid a b → cut.text ≡ mid.text → IfTold b c (λ x y. LooksLike (cut.text ++ x) (now.text ++ y)) → Alike old now a c
+alike_more {b} {c} old mid cut now alike still filled =
+    let P : List ℕ → Type 0 = λ text. IfTold b c (λ x y. LooksLike (text ++ x) (now.text ++ y)) in
+    told_on alike (subst P still filled) (λ x y z. looks_on (old.text ++ x) (mid.text ++ y) (now.text ++ z))
+
+pub told_line : (answer : NextLine) (before left : Option (List ℕ)) (old mid now : Kept) → Alike old mid before left → mid.room ≡ old.room → CutsOff answer mid now → AnswersTold (Ok answer) old before now left
+told_line answer before left old mid now alike same cut =
+    record { told = told_as alike (λ x y looks. answers_line answer mid now (old.text ++ x) y old.room looks same cut) }
+
+too_long_now : (old mid now : Kept) (x y : List ℕ) → mid.room ≡ old.room → IsTooLong mid.text mid.room → StaysSame mid now → LooksLike (old.text ++ x) (mid.text ++ y) → Answers (Err TooLong) (old.text ++ x) old.room now (now.text ++ y)
+too_long_now old mid now x y same long still alike =
     let P : List ℕ → Type 0 = λ text. LooksLike (old.text ++ x) (text ++ y) in
     let R : ℕ → Type 0 = λ room. IsTooLong mid.text room in
     let T : List ℕ → Type 0 = λ text. IsTooLong text now.room in
@@ -205,8 +187,21 @@ told_too_long (Some x) (Some y) old mid now alike same long still =
     let too_long = too_long_alike (old.text ++ x) (mid.text ++ y) old.room alike (too_long_more mid.text y old.room long_old) in
     (record { lines = ap (map taken_line) (lines_within-too_long old.room (old.text ++ x) too_long); too_long = too_long }, subst P (sym still.text) alike, subst T (sym still.text) long_now, still.room ∙ same)
 
-pub told_last : (answer : NextLine) (before left : Option (List ℕ)) (old mid now : Kept) → IfTold before left (λ x y. LooksLike (old.text ++ x) (mid.text ++ y)) → mid.room ≡ old.room → first_width mid.text ≡ length mid.text → length mid.text ≤ mid.room → IfSome left (λ rest. rest ≡ []) → TakesLast answer mid now → AnswersTold (Ok answer) old before now left
-told_last answer None None old mid now alike same none within ended last = tt
-told_last answer None (Some y) old mid now alike same none within ended last = absurd alike
-told_last answer (Some x) None old mid now alike same none within ended last = absurd alike
-told_last answer (Some x) (Some y) old mid now alike same none within ended last = answers_last answer mid now (old.text ++ x) y old.room alike same none within ended last
+pub told_too_long : (before left : Option (List ℕ)) (old mid now : Kept) → Alike old mid before left → mid.room ≡ old.room → IsTooLong mid.text mid.room → StaysSame mid now → AnswersTold (Err TooLong) old before now left
+told_too_long before left old mid now alike same long still =
+    record { told = told_as alike (λ x y looks. too_long_now old mid now x y same long still looks) }
+
+pub told_last : (answer : NextLine) (before left : Option (List ℕ)) (old mid now : Kept) → Alike old mid before left → mid.room ≡ old.room → first_width mid.text ≡ length mid.text → length mid.text ≤ mid.room → IfSome left (λ rest. rest ≡ []) → TakesLast answer mid now → AnswersTold (Ok answer) old before now left
+told_last answer before left old mid now alike same none within ended last = record {
+  told = record {
+    told = alike.told;
+    related = λ x y was is. answers_last answer mid now (old.text ++ x) y old.room (alike.related x y was is) same none within (told_holds (λ rest. rest ≡ []) y is ended) last;
+  };
+}
+
+-- the source failed
+pub told_fault : (answer : Result NextLine LineEndFault) (before left : Option (List ℕ)) (old now : Kept) → IsErrAnd answer (λ fault. fault ≡ ReadFault) → Alike old now before left → now.room ≡ old.room → AnswersTold answer old before now left
+told_fault (Ok line) before left old now failed alike same = absurd failed
+told_fault (Err fault) before left old now failed alike same =
+    let P : LineEndFault → Type 0 = λ fault. AnswersTold (Err fault) old before now left in
+    subst P (sym failed) (record { told = told_as alike (λ x y looks. (looks, same)) })

@@ -1,3 +1,9 @@
 mod Answered
+pub mod EndedLines
+pub mod FirstLine
 mod Pieces
+pub mod Reading
+pub mod Readings
+pub mod TakenLines
+pub mod Told
 mod Windows

@@ -8,7 +8,7 @@ use Rattle.std.specs.declared.alloc.Global.{Global}
 use Rattle.std.proofs.Math.Seq.{take-add}
 use Rattle.outside_io.specs.declared.lines.Lines.TheInside.{Inside}
 use Rattle.outside_io.specs.Window.{window_of, kept_of, IsWindow}
-use Rattle.store_spec.proofs.FirstLine.{first_width-le, first_width-append, first_width-zeros}
+use Rattle.outside_io.proofs.FirstLine.{first_width-le, first_width-append, first_width-zeros}
 use Rattle.store_spec.specs.Input.{first_width}
 
 -- no line end was found

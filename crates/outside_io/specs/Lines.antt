@@ -6,8 +6,9 @@ use Rattle.outside_io.specs.declared.lines.LineEndFault.{LineEndFault}
 use Rattle.outside_io.specs.declared.lines.LineEndFault.TheVariants.{TooLong, ReadFault}
 use Rattle.outside_io.specs.declared.lines.NextLine.{NextLine}
 use Rattle.outside_io.specs.declared.lines.NextLine.TheVariants.{Whole, TooWide, End}
+use Rattle.outside_io.specs.Told.{IfTold}
 use Rattle.outside_io.specs.Window.{Kept}
-use Rattle.store_spec.specs.Input.{LINE_LIMIT, first_width, taken_line, taken_within, IsTooLong}
+use Rattle.store_spec.specs.Input.{line_limit, first_width, taken_line, taken_within, IsTooLong}
 
 -- The first line of a text was handed out: it is none where it is too wide. What is left of the text and of the room
 -- stands behind it and its end.
@@ -42,24 +43,16 @@ Answers (Ok End) text room now rest = HandsNothing text room × (rest ≡ []) ×
 Answers (Err TooLong) text room now rest = HasNoFurtherLine text room × LooksLike text rest × IsTooLong now.text now.room × (now.room ≡ room)
 Answers (Err ReadFault) text room now rest = LooksLike text rest × (now.room ≡ room)
 
--- a relation of the bytes that a source has left before and after, which it tells both times or never
-abbrev pub IfTold : Option (List ℕ) → Option (List ℕ) → (List ℕ → List ℕ → Type 0) → Type 0
-IfTold None None Related = Unit {0}
-IfTold None (Some left) Related = ⊥
-IfTold (Some before) None Related = ⊥
-IfTold (Some before) (Some left) Related = Related before left
-
 -- the same, where the source tells its bytes
-abbrev pub AnswersTold : Result NextLine LineEndFault → Kept → Option (List ℕ) → Kept → Option (List ℕ) → Type 0
-AnswersTold answer old before now left =
-    IfTold before left (λ before left. Answers answer (old.text ++ before) old.room now (now.text ++ left))
+pub record AnswersTold (answer : Result NextLine LineEndFault) (old : Kept) (before : Option (List ℕ)) (now : Kept) (left : Option (List ℕ)) : Type 0 where
+  pub told : IfTold before left (λ before left. Answers answer (old.text ++ before) old.room now (now.text ++ left))
 
 -- ---- what the parts of a call do
 
 -- the answer for a line, of which the last argument is kept
 abbrev pub IsAnswerFor : NextLine → List ℕ → List ℕ → Type 0
-IsAnswerFor Whole line kept = (length line ≤ LINE_LIMIT) × (kept ≡ line)
-IsAnswerFor TooWide line kept = LINE_LIMIT < length line
+IsAnswerFor Whole line kept = (length line ≤ line_limit) × (kept ≡ line)
+IsAnswerFor TooWide line kept = line_limit < length line
 IsAnswerFor End line kept = ⊥
 
 -- a line that ends within the room is cut off

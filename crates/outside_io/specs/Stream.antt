@@ -6,6 +6,10 @@ use Rattle.std.specs.Option.{option_map}
 abbrev pub Gives : Option (List ℕ) → List ℕ → Option (List ℕ) → Type 0
 Gives before bytes now = before ≡ option_map (λ rest. bytes ++ rest) now
 
+-- the bytes that a source has left are the last of those that it had
+abbrev pub GivesFront : List ℕ → List ℕ → Type 0
+GivesFront before left = (bytes : List ℕ) × (before ≡ bytes ++ left)
+
 -- of the bytes that a source had left it gave so many
 abbrev pub GivesExactly : ℕ → List ℕ → List ℕ → Type 0
 GivesExactly count before left = length before ≡ length left + count

@@ -1,7 +1,7 @@
 -- What a reader of lines keeps of its source.
 use Rattle.std.specs.Prelude.{◌≡◌, ℕ, ◌+◌, ◌-◌, ◌<◌, ◌≤◌, List, ◌++◌, take, replicate, vec_len, slice_range}
 use Rattle.outside_io.specs.declared.lines.Lines.TheInside.{Inside}
-use Rattle.store_spec.specs.Input.{LINE_LIMIT, SCRIPT_LIMIT, first_width}
+use Rattle.store_spec.specs.Input.{line_limit, script_limit, first_width}
 
 -- `text` is what was read and not handed out; the bytes of a line that is too wide already stand as zeros. Of the source,
 -- counted from the front of `text` on, so many bytes as `room` may still be handed out. `line` is the last whole line, and
@@ -32,6 +32,6 @@ pub record IsWindow (a : Inside) : Type 0 where
   pub line_within : a.line_end ≤ 65536
   pub searched : a.searched ≤ a.end - a.start
   pub no_end : first_width (take a.searched (window_of a)) ≡ a.searched
-  pub wide : 0 < a.skipped → LINE_LIMIT < a.skipped
+  pub wide : 0 < a.skipped → line_limit < a.skipped
   pub counted : a.skipped + (a.end - a.start) ≤ a.room + 1
-  pub limited : a.room ≤ SCRIPT_LIMIT
+  pub limited : a.room ≤ script_limit

@@ -1,7 +1,9 @@
 //! Where bytes come from and go to: sources, sinks, and the lines of a source.
 #![tactic(auto)]
 
+mod count;
 mod error;
+pub mod laws;
 mod lines;
 mod memory;
 mod sink;
@@ -9,6 +11,7 @@ mod source;
 mod standard;
 mod sure;
 
+pub use count::Count;
 pub use error::{Failed, Memory};
 pub use lines::{LineEndFault, Lines, NextLine};
 pub use memory::{MemorySink, MemorySource};

@@ -1,7 +1,8 @@
 ghost use Rattle.std.specs.Prelude.{◌≡◌, ◌≢◌, ◌==◌, ℕ, ◌+◌, position, ◌≤◌, ◌<◌, [], ◌++◌, length, take, slice_range, Some, Err, IfOk, IfSome, OnErr};
-ghost use Rattle.store_spec.specs.Fault.{Rose};
-ghost use Rattle.outside_io.specs.Stream.{Gives};
-ghost use Rattle.store_spec.specs.Input.{first_width, IsTooLong, SCRIPT_LIMIT};
+ghost use Rattle.store_spec.specs.Fault.{CountsFault, CountsFaultIf};
+ghost use Rattle.outside_io.specs.Stream.{GivesFront};
+ghost use Rattle.outside_io.specs.Told.{AsTold};
+ghost use Rattle.store_spec.specs.Input.{first_width, IsTooLong, script_limit};
 
 use crate::{Failed, Memory, Source, read_piece};
 use std::alloc::Global;
@@ -121,13 +122,13 @@ fn answer_for(width: usize) -> NextLine
 }
 
 impl Lines {
-    ghost use Rattle.outside_io.specs.Lines.{AnswersTold, Finds, IfTold, TakesLast, LooksLike};
+    ghost use Rattle.outside_io.specs.Lines.{AnswersTold, Finds, TakesLast, LooksLike};
     ghost use Rattle.outside_io.specs.Window.{Kept};
 
     /// Takes its buffer, and reads nothing yet.
     pub fn new(alloc: Global) -> Result<Lines, Memory>
         ensures text { IfOk result (λ lines. lines.text ≡ []) }
-        ensures room { IfOk result (λ lines. lines.room ≡ SCRIPT_LIMIT) }
+        ensures room { IfOk result (λ lines. lines.room ≡ script_limit) }
     {
         Ok(Lines {
             buffer: vec![in alloc; 0; BUFFER]?,
@@ -151,7 +152,7 @@ impl Lines {
     // Cuts off the next line where all of it is kept.
     fn cut(&mut self) -> Found
         ensures finds { Finds result self.old self.new }
-        ensures kept { length self.old.text ≤ self.old.room + 1 }
+        ensures within_room { length self.old.text ≤ self.old.room + 1 }
     {
         let window = &self.buffer[self.start..self.end];
         let kept = window.len();
@@ -221,7 +222,9 @@ impl Lines {
     fn fill<S: Source>(&mut self, source: &mut S) -> Result<usize, Failed>
         requires no_end { first_width self.old.text ≡ length self.old.text }
         requires within { length self.old.text ≤ self.old.room }
-        ensures text { IfTold (S.left source.old) (S.left source.new) (λ before left. LooksLike (self.old.text ++ before) (self.new.text ++ left)) }
+        ensures text { AsTold S.left source.old source.new
+            (λ before left. LooksLike (self.old.text ++ before) (self.new.text ++ left)) }
+        ensures gives { AsTold S.left source.old source.new GivesFront }
         ensures size { IfOk result (λ count. length self.new.text ≡ length self.old.text + count) }
         ensures end { IfOk result (λ count. count ≡ 0 → IfSome (S.left source.new) (λ left. left ≡ [])) }
         ensures kept { OnErr result (length self.new.text ≡ length self.old.text) }
@@ -229,8 +232,7 @@ impl Lines {
         ensures still_none { IfOk result (λ count. count ≡ 0 → first_width self.new.text ≡ length self.new.text) }
         ensures within { length self.new.text ≤ self.new.room + 1 }
         ensures room { self.new.room ≡ self.old.room }
-        ensures failed { OnErr result (Rose (S.faults source.old) (S.faults source.new)) }
-        ensures faults { S.faults source.old ≤ S.faults source.new }
+        ensures fault { CountsFault result (S.faults source.old) (S.faults source.new) }
     {
         self.make_space();
         let end = self.end;
@@ -249,13 +251,14 @@ impl Lines {
     /// source no more is read than one byte past the room.
     pub fn next_line<S: Source>(&mut self, source: &mut S) -> Result<NextLine, LineEndFault>
         ensures answers { AnswersTold result self.old (S.left source.old) self.new (S.left source.new) }
+        ensures gives { AsTold S.left source.old source.new GivesFront }
         ensures over { result ≡ Err LineEndFault.TooLong → IsTooLong self.new.text self.new.room }
         ensures still_over { IsTooLong self.old.text self.old.room → result ≡ Err LineEndFault.TooLong }
-        ensures none_whole { result ≡ Err LineEndFault.ReadFault → (first_width self.new.text ≡ length self.new.text) × (length self.new.text ≤ self.new.room) }
+        ensures none_whole { result ≡ Err LineEndFault.ReadFault
+            → (first_width self.new.text ≡ length self.new.text) × (length self.new.text ≤ self.new.room) }
         ensures progress { IfOk result (λ answer. answer ≢ NextLine.End → self.new.room < self.old.room) }
-        ensures kept { length self.new.text ≤ self.new.room + 1 }
-        ensures failed { result ≡ Err LineEndFault.ReadFault → Rose (S.faults source.old) (S.faults source.new) }
-        ensures faults { S.faults source.old ≤ S.faults source.new }
+        ensures within_room { length self.new.text ≤ self.new.room + 1 }
+        ensures fault { CountsFaultIf (result ≡ Err LineEndFault.ReadFault) (S.faults source.old) (S.faults source.new) }
     {
         'lines: loop {
             match self.cut() {

@@ -1,8 +1,8 @@
 ghost use Rattle.std.specs.Prelude.{◌≡◌, ℕ, ◌+◌, ◌<◌, ◌≤◌, ◌↔◌, List, [], length, take, min, vec_len, vec_capacity, Some, IsTrue, IsErr, IfOk, IfSome, OnErr, OnOk, Contains};
-ghost use Rattle.store_spec.specs.Fault.{Rose};
+ghost use Rattle.store_spec.specs.Fault.{next_count, CountsFault};
 ghost use Rattle.outside_io.specs.Stream.{Gives, TakesAll, TakesSome};
 
-use crate::{Failed, Memory, Sink, Source};
+use crate::{Count, Failed, Memory, Sink, Source};
 use std::alloc::Global;
 
 fn is_listed(numbers: &[u64], number: u64) -> bool
@@ -17,8 +17,8 @@ pub struct MemorySource {
     bytes: Vec<u8>,
     at: usize,
     failing: Vec<u64>,
-    calls: u64,
-    faults: u64,
+    calls: Count,
+    faults: Count,
     ghost within: { at ≤ vec_len bytes },
 }
 
@@ -36,35 +36,35 @@ impl MemorySource {
             bytes,
             at: 0,
             failing,
-            calls: 0,
-            faults: 0,
+            calls: Count::zero(),
+            faults: Count::zero(),
         }
     }
 }
 
 impl Source for MemorySource {
-    ghost use Rattle.outside_io.specs.Memory.{source_left, source_calls, source_failing, source_faults, next_call};
+    ghost use Rattle.outside_io.specs.Memory.{source_left, source_calls, source_failing, source_faults};
 
     ghost left = { λ source. Some (source_left source) };
 
     ghost faults = { source_faults };
 
+    ghost counted = { λ source. source.faults.within };
+
     fn read(&mut self, buf: &mut [u8]) -> Result<usize, Failed>
         ensures within { IfOk result (λ n. n ≡ min (length buf.old) (length (source_left self.old))) }
         ensures gives { IfOk result (λ n. Gives (Some (source_left self.old)) (take n buf.new) (Some (source_left self.new))) }
         ensures unmoved { OnErr result (source_left self.new ≡ source_left self.old) }
-        ensures failed { OnErr result (Rose (source_faults self.old) (source_faults self.new)) }
-        ensures steady { OnOk result (source_faults self.new ≡ source_faults self.old) }
-        ensures faults { source_faults self.old ≤ source_faults self.new }
+        ensures fault { CountsFault result (source_faults self.old) (source_faults self.new) }
 
         // It fails exactly at the calls that it was told.
-        ensures fails { IsErr result ↔ Contains (source_failing self.old) (next_call (source_calls self.old)) }
+        ensures fails { IsErr result ↔ Contains (source_failing self.old) (next_count (source_calls self.old)) }
         ensures failing { source_failing self.new ≡ source_failing self.old }
-        ensures calls { source_calls self.new ≡ next_call (source_calls self.old) }
+        ensures calls { source_calls self.new ≡ next_count (source_calls self.old) }
     {
-        self.calls = self.calls.saturating_add(1);
-        if is_listed(&self.failing, self.calls) {
-            self.faults = self.faults.saturating_add(1);
+        self.calls.add_one();
+        if is_listed(&self.failing, self.calls.value()) {
+            self.faults.add_one();
             return Err(Failed);
         }
         let count = buf.len().min(self.bytes.len() - self.at);
@@ -81,8 +81,8 @@ pub struct MemorySink {
     taken: Vec<u8>,
     room: usize,
     failing: Vec<u64>,
-    calls: u64,
-    faults: u64,
+    calls: Count,
+    faults: Count,
     ghost within: { vec_len taken ≤ room },
     ghost reserved: { room ≤ vec_capacity taken },
 }
@@ -102,8 +102,8 @@ impl MemorySink {
             taken: Vec::with_capacity(alloc, room)?,
             room,
             failing,
-            calls: 0,
-            faults: 0,
+            calls: Count::zero(),
+            faults: Count::zero(),
         })
     }
 
@@ -113,41 +113,34 @@ impl MemorySink {
     {
         &self.taken
     }
-
-    fn fault(&mut self) -> Failed
-        ensures taken { sink_taken self.new ≡ sink_taken self.old }
-        ensures faults { sink_faults self.old ≤ sink_faults self.new }
-        ensures rose { Rose (sink_faults self.old) (sink_faults self.new) }
-        ensures same { (sink_room self.new ≡ sink_room self.old) × (sink_failing self.new ≡ sink_failing self.old) × (sink_calls self.new ≡ sink_calls self.old) }
-    {
-        self.faults = self.faults.saturating_add(1);
-        Failed
-    }
 }
 
 impl Sink for MemorySink {
-    ghost use Rattle.outside_io.specs.Memory.{sink_taken, sink_room, sink_calls, sink_failing, sink_faults, next_call, IsFailing};
+    ghost use Rattle.outside_io.specs.Memory.{sink_taken, sink_room, sink_calls, sink_failing, sink_faults, IsFailing};
 
     ghost taken = { λ sink. Some (sink_taken sink) };
 
     ghost faults = { sink_faults };
 
+    ghost counted = { λ sink. sink.faults.within };
+
     fn write_all(&mut self, bytes: &[u8]) -> Result<(), Failed>
         ensures all { OnOk result (TakesAll (Some (sink_taken self.old)) bytes.now (Some (sink_taken self.new))) }
         ensures none { OnErr result (sink_taken self.new ≡ sink_taken self.old) }
-        ensures failed { OnErr result (Rose (sink_faults self.old) (sink_faults self.new)) }
-        ensures steady { OnOk result (sink_faults self.new ≡ sink_faults self.old) }
-        ensures faults { sink_faults self.old ≤ sink_faults self.new }
+        ensures fault { CountsFault result (sink_faults self.old) (sink_faults self.new) }
 
         // It fails exactly at the calls that it was told, and where there is no room.
         ensures fails { IsErr result ↔ IsFailing self.old bytes.now }
         ensures room { sink_room self.new ≡ sink_room self.old }
         ensures failing { sink_failing self.new ≡ sink_failing self.old }
-        ensures calls { sink_calls self.new ≡ next_call (sink_calls self.old) }
+        ensures calls { sink_calls self.new ≡ next_count (sink_calls self.old) }
     {
-        self.calls = self.calls.saturating_add(1);
-        if is_listed(&self.failing, self.calls) || bytes.len() > self.room - self.taken.len() {
-            return Err(self.fault());
+        self.calls.add_one();
+        if is_listed(&self.failing, self.calls.value())
+            || bytes.len() > self.room - self.taken.len()
+        {
+            self.faults.add_one();
+            return Err(Failed);
         }
         match self.taken.extend_from_slice(bytes) {
             Ok(()) => Ok(()),

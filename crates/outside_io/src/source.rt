@@ -1,5 +1,5 @@
-ghost use Rattle.std.specs.Prelude.{◌≡◌, ℕ, ◌+◌, ◌<◌, ◌≤◌, List, [], length, take, drop, slice_range, Option, IfOk, IfSome, OnOk, OnErr};
-ghost use Rattle.store_spec.specs.Fault.{Rose};
+ghost use Rattle.std.specs.Prelude.{◌≡◌, ℕ, ◌+◌, ◌<◌, ◌≤◌, List, [], length, take, drop, slice_range, Option, IfOk, IfSome, OnErr};
+ghost use Rattle.store_spec.specs.Fault.{last_count, CountsFault};
 ghost use Rattle.outside_io.specs.Stream.{Gives};
 
 use crate::Failed;
@@ -9,7 +9,7 @@ pub trait Source {
     /// The bytes that it has left, where it tells them. Whether it does never changes.
     ghost left: { Self → Option (List ℕ) };
 
-    /// How often it has failed: a count that rises at each failure and at nothing else, and stays at 2 ^ 64 - 1.
+    /// How often it has failed: a count that rises at each failure and at nothing else, and stays at 2^64 - 1.
     ghost faults: { Self → ℕ };
 
     /// Puts the next bytes at the front of `buf`, and answers how many. None, where there is room for one, is the end.
@@ -19,9 +19,10 @@ pub trait Source {
         ensures gives { IfOk result (λ n. Gives (left self.old) (take n buf.new) (left self.new)) }
         ensures end { IfOk result (λ n. n ≡ 0 → 0 < length buf.old → IfSome (left self.old) (λ rest. rest ≡ [])) }
         ensures unmoved { OnErr result (left self.new ≡ left self.old) }
-        ensures failed { OnErr result (Rose (faults self.old) (faults self.new)) }
-        ensures steady { OnOk result (faults self.new ≡ faults self.old) }
-        ensures faults { faults self.old ≤ faults self.new };
+        ensures fault { CountsFault result (faults self.old) (faults self.new) };
+
+    /// The count is one.
+    ghost counted: { (source : Self) → faults source ≤ last_count };
 }
 
 /// Reads at most so many bytes into a buffer, from a place on.
@@ -38,9 +39,7 @@ pub fn read_piece<S: Source>(
     ensures end { IfOk result (λ count. count ≡ 0 → 0 < asked → IfSome (S.left source.old) (λ left. left ≡ [])) }
     ensures unmoved { OnErr result (S.left source.new ≡ S.left source.old) }
     ensures behind { drop (at + asked) buffer.new ≡ drop (at + asked) buffer.old }
-    ensures failed { OnErr result (Rose (S.faults source.old) (S.faults source.new)) }
-    ensures steady { OnOk result (S.faults source.new ≡ S.faults source.old) }
-    ensures faults { S.faults source.old ≤ S.faults source.new }
+    ensures fault { CountsFault result (S.faults source.old) (S.faults source.new) }
 {
     source.read(&mut buffer[at..at + asked])
 }

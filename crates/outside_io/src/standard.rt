@@ -1,6 +1,6 @@
 ghost use Rattle.std.specs.Prelude.{◌≡◌, ◌≤◌, ℕ, List, length, None, IfOk};
 
-use crate::{Failed, Sink, Source};
+use crate::{Count, Failed, Sink, Source};
 use std::io::{ErrorKind, Read};
 use std::rt::Files;
 use std::{fs, io};
@@ -22,17 +22,17 @@ pub fn read_again<R: Read>(reader: &mut R, buf: &mut [u8]) -> io::Result<usize>
 #[derive(Drop)]
 pub struct StdinSource<'a, I> {
     input: &'a I,
-    faults: u64,
+    faults: Count,
 }
 
 impl<'a, I: Input> StdinSource<'a, I> {
     /// Reads nothing yet.
     pub fn new(rt: &'a I) -> StdinSource<'a, I>
-        ensures { result.faults ≡ 0 }
+        ensures { result.faults.value ≡ 0 }
     {
         StdinSource {
             input: rt,
-            faults: 0,
+            faults: Count::zero(),
         }
     }
 }
@@ -40,16 +40,13 @@ impl<'a, I: Input> StdinSource<'a, I> {
 impl<I: Input> Source for StdinSource<'_, I> {
     ghost left = { λ _. None };
 
-    ghost faults = { λ source. source.faults };
+    ghost faults = { λ source. source.faults.value };
+
+    ghost counted = { λ source. source.faults.within };
 
     fn read(&mut self, buf: &mut [u8]) -> Result<usize, Failed> {
-        match read_again(&mut self.input.reader(), buf) {
-            Ok(count) => Ok(count),
-            Err(_) => {
-                self.faults = self.faults.saturating_add(1);
-                Err(Failed)
-            }
-        }
+        let outcome = read_again(&mut self.input.reader(), buf);
+        self.faults.counted(outcome)
     }
 }
 
@@ -60,20 +57,20 @@ pub struct FileSource<'a, F: Files> {
     files: &'a F,
     path: &'a str,
     file: Option<F::File>,
-    faults: u64,
+    faults: Count,
 }
 
 impl<'a, F: Files> FileSource<'a, F> {
     /// Opens nothing yet. A file that is missing, or that cannot be read, is a fault of the first read; the next read
     /// then tries to open it again.
     pub fn new(rt: &'a F, path: &'a str) -> FileSource<'a, F>
-        ensures { result.faults ≡ 0 }
+        ensures { result.faults.value ≡ 0 }
     {
         FileSource {
             files: rt,
             path,
             file: None,
-            faults: 0,
+            faults: Count::zero(),
         }
     }
 
@@ -95,16 +92,13 @@ impl<'a, F: Files> FileSource<'a, F> {
 impl<F: Files> Source for FileSource<'_, F> {
     ghost left = { λ _. None };
 
-    ghost faults = { λ source. source.faults };
+    ghost faults = { λ source. source.faults.value };
+
+    ghost counted = { λ source. source.faults.within };
 
     fn read(&mut self, buf: &mut [u8]) -> Result<usize, Failed> {
-        match self.read_file(buf) {
-            Ok(count) => Ok(count),
-            Err(_) => {
-                self.faults = self.faults.saturating_add(1);
-                Err(Failed)
-            }
-        }
+        let outcome = self.read_file(buf);
+        self.faults.counted(outcome)
     }
 }
 
@@ -112,17 +106,17 @@ impl<F: Files> Source for FileSource<'_, F> {
 #[derive(Drop)]
 pub struct StdoutSink<'a, P> {
     output: &'a P,
-    faults: u64,
+    faults: Count,
 }
 
 impl<'a, P: Print> StdoutSink<'a, P> {
     /// Writes nothing yet.
     pub fn new(rt: &'a P) -> StdoutSink<'a, P>
-        ensures { result.faults ≡ 0 }
+        ensures { result.faults.value ≡ 0 }
     {
         StdoutSink {
             output: rt,
-            faults: 0,
+            faults: Count::zero(),
         }
     }
 }
@@ -130,15 +124,12 @@ impl<'a, P: Print> StdoutSink<'a, P> {
 impl<P: Print> Sink for StdoutSink<'_, P> {
     ghost taken = { λ _. None };
 
-    ghost faults = { λ sink. sink.faults };
+    ghost faults = { λ sink. sink.faults.value };
+
+    ghost counted = { λ sink. sink.faults.within };
 
     fn write_all(&mut self, bytes: &[u8]) -> Result<(), Failed> {
-        match self.output.write_all(bytes) {
-            Ok(()) => Ok(()),
-            Err(_) => {
-                self.faults = self.faults.saturating_add(1);
-                Err(Failed)
-            }
-        }
+        let outcome = self.output.write_all(bytes);
+        self.faults.counted(outcome)
     }
 }

@@ -22,11 +22,14 @@ impl SureSource {
 }
 
 impl Source for SureSource {
+    ghost use Rattle.std.proofs.Common.{arith};
     ghost use Rattle.outside_io.specs.Sure.{sure_left};
 
     ghost left = { λ source. Some (sure_left source) };
 
     ghost faults = { λ _. 0 };
+
+    ghost counted = { λ _. Prim.omega arith };
 
     fn read(&mut self, buf: &mut [u8]) -> Result<usize, Failed> {
         let count = buf.len().min(self.bytes.len() - self.at);
@@ -47,9 +50,13 @@ impl SureSink {
 }
 
 impl Sink for SureSink {
+    ghost use Rattle.std.proofs.Common.{arith};
+
     ghost taken = { λ _. None };
 
     ghost faults = { λ _. 0 };
+
+    ghost counted = { λ _. Prim.omega arith };
 
     fn write_all(&mut self, _bytes: &[u8]) -> Result<(), Failed> {
         Ok(())

@@ -16,19 +16,21 @@ struct Pieces {
     most: usize,
     calls: u64,
     failing: u64,
-    faults: u64,
+    faults: Count,
     ghost within: { at ≤ vec_len bytes },
 }
 
 impl Source for Pieces {
     ghost left = { λ _. None };
 
-    ghost faults = { λ source. source.faults };
+    ghost faults = { λ source. source.faults.value };
+
+    ghost counted = { λ source. source.faults.within };
 
     fn read(&mut self, buf: &mut [u8]) -> Result<usize, Failed> {
         self.calls = self.calls.saturating_add(1);
         if self.calls == self.failing {
-            self.faults = self.faults.saturating_add(1);
+            self.faults.add_one();
             return Err(Failed);
         }
         let left = self.bytes.len() - self.at;
@@ -46,7 +48,7 @@ fn in_pieces(bytes: Vec<u8>, most: usize, failing: u64) -> Pieces {
         most,
         calls: 0,
         failing,
-        faults: 0,
+        faults: Count::zero(),
     }
 }
 

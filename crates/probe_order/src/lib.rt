@@ -5,7 +5,7 @@ mod claim;
 pub mod laws;
 
 ghost use Rattle.std.specs.Prelude.{◌≡◌, ℕ, ◌^◌, ◌<◌, ◌≤◌};
-ghost use Rattle.store_spec.specs.Home.{home_of, MULTIPLIER};
+ghost use Rattle.store_spec.specs.Home.{home_of};
 ghost use Rattle.probe_order.specs.Below.{home_of-lt};
 
 pub use claim::claim_place;

@@ -1,6 +1,6 @@
 -- Claim words: a number is claimed in one word and once, and those that are tried or were met stay what they were.
 -- Nothing here asks for the cells.
-use Rattle.std.proofs.Common.{◌≡◌, ◌≢◌, ℕ, suc, ◌+◌, ◌<◌, ◌≤◌, ⊎_elim, Some, List, [], ◌∷◌, ◌++◌, length, get_or, set, refl, sym, ap, ◌∙◌, subst, arith, below_more}
+use Rattle.std.proofs.Common.{◌≡◌, ◌≢◌, ℕ, ◌+◌, ◌<◌, ◌≤◌, ⊎_elim, Some, List, [], ◌∷◌, ◌++◌, length, get_or, set, sym, ap, ◌∙◌, subst, arith}
 use Rattle.probe_order.proofs.ClaimOrder.{once, reached, within}
 use Rattle.std.proofs.lemmas.Bool.{cases_eq, cases_lt, cases_order}
 use Rattle.std.proofs.lemmas.List.{get_or_default, get_or-set_other, get_or-set_same}
@@ -9,8 +9,8 @@ use Rattle.std.proofs.lemmas.List.Sums.{sum_by-append, sum_by-set, sum_by_push}
 use Rattle.std.proofs.lemmas.Option.{get_or_from_slice_get}
 use Rattle.std.specs.List.{All, Contains, sum_by}
 use Rattle.std.specs.Prelude.{slice_get}
-use Rattle.step_core.proofs.Sets.{All-flat_map, All-from_flat_map, at_place, contains-set, counted, none_counted, stands_within, sum_by-flat_map, is_one, is_one-other, is_one-same, is_one-zero}
-use Rattle.store_spec.specs.CastInvariant.{AreClaimed, AreInOrder, EachOnce, HasMet, HoldSame, HoldsOther, IsClaimed, IsProbing, IsTried, accepted_of, count_of}
+use Rattle.step_core.proofs.Sets.{All-flat_map, All-from_flat_map, at_place, contains-set, none_counted, stands_within, sum_by-flat_map, is_one, is_one-other, is_one-same, is_one-zero}
+use Rattle.store_spec.specs.CastInvariant.{AreClaimed, AreInOrder, EachOnce, HasMet, HoldsOther, IsClaimed, IsProbing, IsTried, accepted_of, count_of}
 use Rattle.store_spec.specs.CastStep.{CastState, CastView, claim_place}
 use Rattle.store_spec.specs.CastStep.CastState.{Rest, Probing, Carrying, Ready}
 

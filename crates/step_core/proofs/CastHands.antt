@@ -1,15 +1,15 @@
 -- Numbers in hand: how they weigh, that their places are cells, and that no cell holds them.
-use Rattle.std.proofs.Common.{◌≡◌, ◌≢◌, ◌==◌, ℕ, zero, suc, ◌+◌, ◌-◌, ◌*◌, ◌<◌, ◌≤◌, ⊎_elim, Some, List, [], ◌∷◌, ◌++◌, cond, length, get_or, set, take, drop, map, refl, sym, ap, ◌∙◌, subst, arith}
+use Rattle.std.proofs.Common.{◌≡◌, ◌≢◌, ◌==◌, ℕ, zero, suc, ◌+◌, ◌<◌, ◌≤◌, ⊎_elim, Some, List, [], ◌∷◌, cond, length, get_or, set, take, drop, refl, ap, ◌∙◌, arith}
 use Rattle.std.proofs.lemmas.Bool.{cases_eq, cases_lt, cond-true, cond-false, eq-eqb, ne_eqb}
 use Rattle.std.proofs.lemmas.List.{get_or-map, get_or-take, get_or_past, length-drop, length-map, length-take-le, map-set}
+use Rattle.std.proofs.lemmas.List.Elements.{All-head, All-tail}
 use Rattle.std.proofs.lemmas.List.Sums.{get_or-le-sum_by, sum_by-append, sum_by-cons, sum_by-le, sum_by-set, sum_by-take-le}
 use Rattle.std.proofs.lemmas.Option.{get_or_from_slice_get}
 use Rattle.std.specs.List.{All, Contains, sum_by}
-use Rattle.std.specs.Prelude.{slice_get, slice_index}
-use Rattle.step_core.proofs.Sets.{at_place, counted, is_one, is_one-same, is_one-zero, stands_within}
-use Rattle.store_spec.specs.CastInvariant.{CastInvariant, HasRoomFor, IsHand, count_of, hands_of, in_hand}
-use Rattle.store_spec.specs.CastStep.{CastState, CastView, Table}
-use Rattle.store_spec.specs.CastStep.CastState.{Rest, Probing, Carrying, Ready}
+use Rattle.std.specs.Prelude.{slice_get}
+use Rattle.step_core.proofs.Sets.{counted, is_one, is_one-same, is_one-zero, stands_within}
+use Rattle.store_spec.specs.CastInvariant.{CastInvariant, HasRoomFor, hands_of, in_hand}
+use Rattle.store_spec.specs.CastStep.{CastView, Table}
 use Rattle.store_spec.specs.Layout.{MayStand}
 
 hand_at : (views : List CastView) (id : ℕ) (view : CastView) → slice_get views id ≡ Some view → get_or (hands_of views) id 0 ≡ in_hand view.state
@@ -32,10 +32,10 @@ hands-set weight views id view now stands =
 -- ---- a place in range
 
 -- 1 for a number, and nothing for 0
-abbrev is_some : ℕ → ℕ
+abbrev pub is_some : ℕ → ℕ
 is_some x = cond (x == 0) 0 1
 
-some-one : (x : ℕ) → x ≢ 0 → is_some x ≡ 1
+pub some-one : (x : ℕ) → x ≢ 0 → is_some x ≡ 1
 some-one x some = cond-false _ 0 1 (ne_eqb x 0 some)
 
 some-le : (x : ℕ) → is_some x ≤ 1
@@ -44,8 +44,14 @@ some-le x = ⊎_elim
     (λ (d : x ≢ 0). omega (arith, some-one x d))
     (cases_eq x 0)
 
-counts_few : (xs : List ℕ) → sum_by is_some xs ≤ length xs
+pub counts_few : (xs : List ℕ) → sum_by is_some xs ≤ length xs
 counts_few xs = omega (arith, sum_by-le is_some 1 xs (λ k d within. some-le (get_or xs k d)))
+
+-- where no number is 0, all count
+pub all_count : (xs : List ℕ) → All (λ v. v ≢ 0) xs → sum_by is_some xs ≡ length xs
+all_count [] some = refl
+all_count (x ∷ xs) some =
+    omega (arith, sum_by-cons is_some x xs, some-one x (All-head (λ v. v ≢ 0) x xs some), all_count xs (All-tail (λ v. v ≢ 0) x xs some))
 
 -- cells that are filled from a place on are many
 filled_counts : (from : ℕ) (cells : List ℕ) → ((k : ℕ) → from ≤ k → k < length cells → get_or cells k 0 ≢ 0) → length cells ≤ sum_by is_some cells + from

@@ -1,20 +1,20 @@
 -- The casting invariant at the opening, and where seats are made and taken in.
-use Rattle.std.proofs.Common.{◌≡◌, ◌≢◌, ℕ, zero, suc, ◌+◌, ◌<◌, ◌≤◌, ⊎_elim, inl, inr, Some, List, [], ◌∷◌, ◌++◌, length, get_or, set, take, drop, replicate, refl, sym, ap, ◌∙◌, subst, arith}
+use Rattle.std.proofs.Common.{◌≡◌, ◌≢◌, ℕ, ◌+◌, ◌<◌, ◌≤◌, ⊎_elim, inl, inr, Some, List, [], ◌∷◌, ◌++◌, length, set, take, drop, replicate, refl, sym, ap, ◌∙◌, subst, arith}
 use Rattle.std.proofs.lemmas.Bool.{cases_lt}
-use Rattle.std.proofs.lemmas.List.{append-nil, drop_at, map-append, get_or-set_other, length-set, length-append, length-replicate, take_at}
-use Rattle.std.proofs.lemmas.List.Elements.{All-append, All-get_or, All-nil, All-push, All-replicate, All-set, All-weaker}
+use Rattle.std.proofs.lemmas.List.{drop_at, map-append, get_or-set_other, length-set, length-append, length-replicate, take_at}
+use Rattle.std.proofs.lemmas.List.Elements.{All-append, All-nil, All-push, All-replicate, All-set, All-weaker}
 use Rattle.std.proofs.lemmas.List.Folds.{sum_by-replicate}
 use Rattle.std.proofs.lemmas.List.Sums.{sum_by-append, sum_by-cons, sum_by-le, sum_by-set, sum_by_push}
 use Rattle.std.proofs.lemmas.Option.{get_or_from_slice_get, slice_get-get_or}
-use Rattle.std.specs.List.{All, Contains, sum_by}
+use Rattle.std.specs.List.{All, sum_by}
 use Rattle.std.specs.Prelude.{slice_get}
-use Rattle.store_spec.proofs.LaidOut.{AreHomed, empty_cell, homed_ascending, laid_out_is, place_of_next}
-use Rattle.store_spec.proofs.Ascending.{IsRising, ascending_distinct, length-ascending, put_first, put_later}
-use Rattle.store_spec.proofs.Placing.{placed_at}
-use Rattle.store_spec.specs.CastInvariant.{AreClaimed, AreInOrder, ArePlaced, CastInvariant, EachOnce, HasMet, HasRoomFor, HasSeen, HoldSame, HoldsOther, IsClaimed, IsHand, IsProbing, accepted_of, hands_of, in_hand}
-use Rattle.store_spec.specs.CastStep.{CastState, CastView, Table, claim_place, fresh_view, joined_view}
-use Rattle.store_spec.specs.CastStep.CastState.{Rest, Probing, Carrying, Ready}
-use Rattle.store_spec.specs.Layout.{HasRoom, IsOrdered, ascending, laid_out, layout_of, placed, put_in_order}
+use Rattle.layout_def.proofs.LaidOut.{AreHomed, empty_cell, homed_ascending, laid_out_is, place_of_next}
+use Rattle.layout_def.proofs.Ascending.{IsRising, ascending_distinct, length-ascending, put_first, put_later}
+use Rattle.layout_def.proofs.Placing.{placed_at}
+use Rattle.store_spec.specs.CastInvariant.{AreClaimed, ArePlaced, CastInvariant, EachOnce, HasMet, HasSeen, HoldSame, HoldsOther, IsClaimed, IsHand, IsProbing, hands_of, in_hand}
+use Rattle.store_spec.specs.CastStep.{CastView, Table, claim_place, fresh_view, joined_view}
+use Rattle.store_spec.specs.CastStep.CastState.{Rest}
+use Rattle.store_spec.specs.Layout.{HasRoom, IsOrdered, ascending, laid_out, layout_of, put_in_order}
 use Rattle.step_core.proofs.CastClaims.{accepted-set}
 use Rattle.step_core.proofs.CastHands.{hands-set}
 use Rattle.step_core.proofs.Sets.{at_place, stands_within, All-flat_map, All-from_flat_map, is_one, is_one-zero, sum_by-flat_map, sum_by-map}
@@ -30,7 +30,7 @@ weighs_put weight v (x ∷ xs) = ⊎_elim
     (λ (above : v ≤ x). ap (sum_by weight) (put_first v x xs above) ∙ sum_by-cons weight v (x ∷ xs))
     (cases_lt x v)
 
-weighs_ascending : (weight : ℕ → ℕ) (xs : List ℕ) → sum_by weight (ascending xs) ≡ sum_by weight xs
+pub weighs_ascending : (weight : ℕ → ℕ) (xs : List ℕ) → sum_by weight (ascending xs) ≡ sum_by weight xs
 weighs_ascending weight [] = refl
 weighs_ascending weight (x ∷ xs) = omega (arith, weighs_put weight x (ascending xs), weighs_ascending weight xs, sum_by-cons weight x xs)
 
@@ -57,8 +57,11 @@ layout_holds home homes count numbers h weight none =
 
 -- ---- the opening
 
-abbrev pub IsFresh : CastView → Type 0
-IsFresh view = view ≡ fresh_view
+-- a tabulator at rest that has accepted nothing, and where anything it met is as it should be
+pub record IsIdle (claims : List ℕ) (view : CastView) : Type 0 where
+  pub rests : view.state ≡ Rest
+  pub no_accepted : view.accepted ≡ []
+  pub met : HasMet claims view
 
 -- what is nothing for each element is nothing in all
 sum_none : {X : Type 0} (f : X → ℕ) (xs : List X) → All (λ x. f x ≡ 0) xs → sum_by f xs ≡ 0
@@ -71,44 +74,55 @@ rest_hands weight none views rest =
     ∙ sum_none (λ (view : CastView). weight (in_hand view.state)) views
     (λ k d within. ap weight (ap in_hand (rest k d within)) ∙ none)
 
-pub opening : (t : Table) (base cells : List ℕ) (views : List CastView) → IsOrdered t.home cells → length cells ≡ t.cells → HoldSame cells base → EachOnce base → All IsFresh views → CastInvariant t base (cells ++ replicate t.claims 0) views
-opening t base cells views ordered size same once fresh =
+pub opening_idle : (t : Table) (base cells : List ℕ) (views : List CastView) → IsOrdered t.home cells → length cells ≡ t.cells → HoldSame cells base → EachOnce base → All (IsIdle (replicate t.claims 0)) views → CastInvariant t base (cells ++ replicate t.claims 0) views
+opening_idle t base cells views ordered size same once idle =
     let words = cells ++ replicate t.claims 0 in
     let front : take t.cells words ≡ cells = take_at cells (replicate t.claims 0) t.cells size in
     let back : drop t.cells words ≡ replicate t.claims 0 = drop_at cells (replicate t.claims 0) t.cells size in
     let free = λ (weight : ℕ → ℕ) (none : weight 0 ≡ 0). sum_none weight (replicate t.claims 0) (All-replicate (λ x. weight x ≡ 0) t.claims 0 none) in
     let no_accepted = λ (weight : ℕ → ℕ).
     sum_by-flat_map weight (λ (view : CastView). view.accepted) views
-    ∙ sum_none (λ (view : CastView). sum_by weight view.accepted) views (λ k d within. ap (λ (view : CastView). sum_by weight view.accepted) (fresh k d within)) in
+    ∙ sum_none (λ (view : CastView). sum_by weight view.accepted) views (λ k d within. ap (sum_by weight) (let own = idle k d within in own.no_accepted)) in
     let claimed : AreClaimed t.claims base (replicate t.claims 0) views = record {
       once = λ v some.
           let all = sum_by-append (is_one v) base (replicate t.claims 0) in
           omega (arith, once v some, free (is_one v) (is_one-zero v some));
       accepted = λ weight none. no_accepted weight ∙ sym (free weight none);
       some = All-flat_map (λ x. x ≢ 0) (λ (view : CastView). view.accepted) views
-          (λ k d within. subst (λ (view : CastView). All (λ x. x ≢ 0) view.accepted) (sym (fresh k d within)) (All-nil (λ x. x ≢ 0)));
+          (λ k d within. let own = idle k d within in subst (All (λ x. x ≢ 0)) (sym own.no_accepted) (All-nil (λ x. x ≢ 0)));
       in_order = λ x tries before some lt fits holds.
           absurd (some (sym holds ∙ empty_cell t.claims (claim_place x tries t.claims)));
-      probing = λ k d within. subst (λ (view : CastView). IsProbing t.claims base (replicate t.claims 0) view.state) (sym (fresh k d within)) tt;
-      met = λ k d within. subst (HasMet (replicate t.claims 0)) (sym (fresh k d within))
-          (record { taken = All-nil (IsClaimed (replicate t.claims 0)); full = λ j e none. absurd (omega arith) });
+      probing = λ k d within. let own = idle k d within in subst (IsProbing t.claims base (replicate t.claims 0)) (sym own.rests) tt;
+      met = λ k d within. let own = idle k d within in own.met;
     } in
     record {
       size = length-append cells (replicate t.claims 0) ∙ (let zeros = length-replicate {A = ℕ} t.claims 0 in omega arith);
       placed = subst (λ (c : List ℕ). ArePlaced t.home c views) (sym front) (record {
         ordered = ordered;
-        hands = λ k d within. subst (λ (view : CastView). IsHand t.home cells view.state) (sym (fresh k d within)) tt;
-        seen = λ k d within. subst (λ (view : CastView). HasSeen cells view.state) (sym (fresh k d within)) tt;
+        hands = λ k d within. let own = idle k d within in subst (IsHand t.home cells) (sym own.rests) tt;
+        seen = λ k d within. let own = idle k d within in subst (HasSeen cells) (sym own.rests) tt;
       });
       owned = λ weight none.
           let left = sum_by-append weight (take t.cells words) (hands_of views) in
           let right = sum_by-append weight base (drop t.cells words) in
-          let hands = rest_hands weight none views (λ k d within. ap (λ (view : CastView). view.state) (fresh k d within)) in
+          let hands = rest_hands weight none views (λ k d within. let own = idle k d within in own.rests) in
           let cells_are = ap (sum_by weight) front in
           let claims_are = ap (sum_by weight) back in
           omega (arith, same weight none, free weight none);
       claimed = subst (λ (c : List ℕ). AreClaimed t.claims base c views) (sym back) claimed;
     }
+
+-- tabulators that are new
+pub fresh_met : (claims : List ℕ) → HasMet claims fresh_view
+fresh_met claims = record { taken = All-nil (IsClaimed claims); full = λ k d none. absurd (omega arith) }
+
+fresh_idle : (claims : List ℕ) (view : CastView) → view ≡ fresh_view → IsIdle claims view
+fresh_idle claims view is = subst (IsIdle claims) (sym is) (record { rests = refl; no_accepted = refl; met = fresh_met claims })
+
+pub opening : (t : Table) (base cells : List ℕ) (views : List CastView) → IsOrdered t.home cells → length cells ≡ t.cells → HoldSame cells base → EachOnce base → All (λ view. view ≡ fresh_view) views → CastInvariant t base (cells ++ replicate t.claims 0) views
+opening t base cells views ordered size same once fresh =
+    opening_idle t base cells views ordered size same once
+    (All-weaker (λ view. view ≡ fresh_view) (IsIdle (replicate t.claims 0)) (fresh_idle (replicate t.claims 0)) views fresh)
 
 -- ---- seats
 
@@ -118,7 +132,6 @@ seat_made t base words views h =
     let cells = take t.cells words in
     let claims = drop t.cells words in
     let all = views ++ fresh_view ∷ [] in
-    let fresh_met : HasMet claims fresh_view = record { taken = All-nil (IsClaimed claims); full = λ j e none. absurd (omega arith) } in
     record {
       size = h.size;
       placed = record {
@@ -143,7 +156,7 @@ seat_made t base words views h =
             (All-from_flat_map (λ x. x ≢ 0) (λ (view : CastView). view.accepted) views h.claimed.some) (All-nil (λ x. x ≢ 0)));
         in_order = h.claimed.in_order;
         probing = All-push (λ view. IsProbing t.claims base claims view.state) views fresh_view h.claimed.probing tt;
-        met = All-push (HasMet claims) views fresh_view h.claimed.met fresh_met;
+        met = All-push (HasMet claims) views fresh_view h.claimed.met (fresh_met claims);
       };
     }
 
@@ -198,6 +211,6 @@ seat_taken_in t base words views id other view gone h apart stands stands_too re
               taken = All-append (IsClaimed claims) view.taken gone.taken own.taken others.taken;
               full = All-append (λ x. (place : ℕ) → place < length claims → HoldsOther claims x place) view.full gone.full own.full others.full;
             })
-            (record { taken = All-nil (IsClaimed claims); full = λ j e none. absurd (omega arith) });
+            (fresh_met claims);
       };
     }

@@ -1,5 +1,5 @@
 -- Each row of the table keeps the casting invariant.
-use Rattle.std.proofs.Common.{◌≡◌, ◌≢◌, ℕ, ◌+◌, ◌-◌, ◌<◌, ◌≤◌, Some, List, [], ◌∷◌, ◌++◌, length, get_or, set, take, drop, refl, sym, ap, ◌∙◌, subst, arith}
+use Rattle.std.proofs.Common.{◌≡◌, ◌≢◌, ℕ, ◌+◌, ◌<◌, Some, List, [], ◌∷◌, ◌++◌, length, get_or, set, take, drop, refl, sym, ap, ◌∙◌, subst, arith}
 use Rattle.probe_order.proofs.ClaimOrder.{within}
 use Rattle.std.proofs.lemmas.List.{drop-set-add, drop-set-lt, get_or-drop, get_or-take, length-set, set-get_or, take-set-le}
 use Rattle.std.proofs.lemmas.List.Sums.{sum_by-append, sum_by-set}
@@ -11,9 +11,9 @@ use Rattle.step_core.proofs.CastClaims.{claimed_still, claimed_won, met_claimed,
 use Rattle.step_core.proofs.CastHands.{cells_size, claims_size, hand_fits, hands-set}
 use Rattle.step_core.proofs.CastPlaces.{placed_over, placed_still}
 use Rattle.step_core.proofs.Sets.{at_place}
-use Rattle.store_spec.proofs.Displaced.{displaced_stands_on, passes_greater, stands_at_home}
+use Rattle.layout_def.proofs.Displaced.{displaced_stands_on, passes_greater, stands_at_home}
 use Rattle.store_spec.specs.CastInvariant.{AreClaimed, AreInOrder, ArePlaced, CastInvariant, HasMet, HasRoomFor, HasSeen, HoldsOther, IsHand, IsProbing, IsTried, hands_of, in_hand}
-use Rattle.store_spec.specs.CastStep.{CastNote, CastRow, CastState, CastView, Table, claim_place, claim_word, number_of, view_after}
+use Rattle.store_spec.specs.CastStep.{CastNote, CastRow, CastState, CastView, Table, claim_place, claim_word, view_after}
 use Rattle.store_spec.specs.CastStep.CastNote.{Quiet, Claimed, Taken, Full, Placed}
 use Rattle.store_spec.specs.CastStep.CastRow.{claim_won, claim_met, claim_passed, claims_full, look_passes, look_ready, takes_empty, displaces, lost_passes, lost_ready}
 use Rattle.store_spec.specs.CastStep.CastState.{Rest, Probing, Carrying, Ready}
@@ -110,22 +110,22 @@ whole_claim t base words views id view now x k h stands tried free empty takes a
 
 -- ---- what a view's state says
 
-hand_is : (t : Table) (base words : List ℕ) (views : List CastView) (id : ℕ) (view : CastView) (from : CastState) → CastInvariant t base words views → slice_get views id ≡ Some view → view.state ≡ from → IsHand t.home (take t.cells words) from
+pub hand_is : (t : Table) (base words : List ℕ) (views : List CastView) (id : ℕ) (view : CastView) (from : CastState) → CastInvariant t base words views → slice_get views id ≡ Some view → view.state ≡ from → IsHand t.home (take t.cells words) from
 hand_is t base words views id view from h stands is =
     subst (λ (s : CastState). IsHand t.home (take t.cells words) s) is
     (at_place (λ (v : CastView). IsHand t.home (take t.cells words) v.state) views id view stands h.placed.hands)
 
-seen_is : (t : Table) (base words : List ℕ) (views : List CastView) (id : ℕ) (view : CastView) (from : CastState) → CastInvariant t base words views → slice_get views id ≡ Some view → view.state ≡ from → HasSeen (take t.cells words) from
+pub seen_is : (t : Table) (base words : List ℕ) (views : List CastView) (id : ℕ) (view : CastView) (from : CastState) → CastInvariant t base words views → slice_get views id ≡ Some view → view.state ≡ from → HasSeen (take t.cells words) from
 seen_is t base words views id view from h stands is =
     subst (λ (s : CastState). HasSeen (take t.cells words) s) is
     (at_place (λ (v : CastView). HasSeen (take t.cells words) v.state) views id view stands h.placed.seen)
 
-probing_is : (t : Table) (base words : List ℕ) (views : List CastView) (id : ℕ) (view : CastView) (from : CastState) → CastInvariant t base words views → slice_get views id ≡ Some view → view.state ≡ from → IsProbing t.claims base (drop t.cells words) from
+pub probing_is : (t : Table) (base words : List ℕ) (views : List CastView) (id : ℕ) (view : CastView) (from : CastState) → CastInvariant t base words views → slice_get views id ≡ Some view → view.state ≡ from → IsProbing t.claims base (drop t.cells words) from
 probing_is t base words views id view from h stands is =
     subst (λ (s : CastState). IsProbing t.claims base (drop t.cells words) s) is
     (at_place (λ (v : CastView). IsProbing t.claims base (drop t.cells words) v.state) views id view stands h.claimed.probing)
 
-met_is : (t : Table) (base words : List ℕ) (views : List CastView) (id : ℕ) (view : CastView) → CastInvariant t base words views → slice_get views id ≡ Some view → HasMet (drop t.cells words) view
+pub met_is : (t : Table) (base words : List ℕ) (views : List CastView) (id : ℕ) (view : CastView) → CastInvariant t base words views → slice_get views id ≡ Some view → HasMet (drop t.cells words) view
 met_is t base words views id view h stands = at_place (HasMet (drop t.cells words)) views id view stands h.claimed.met
 
 -- a word that is left as it was found

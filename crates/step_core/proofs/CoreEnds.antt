@@ -6,7 +6,7 @@ use Rattle.std.proofs.lemmas.Option.{slice_get-get_or}
 use Rattle.std.specs.List.{All}
 use Rattle.std.specs.Option.{option_map_or}
 use Rattle.std.specs.Prelude.{slice_get}
-use Rattle.step_core.proofs.CoreSteps.{done_at, tab_within}
+use Rattle.step_core.proofs.WithdrawCoreSteps.{done_at, tab_within}
 use Rattle.step_core.proofs.WithdrawingEnds.{alone_ends, ends}
 use Rattle.step_core.specs.WithdrawCore.{HasReplyRoom, answers_of, reply_of, tab_of}
 use Rattle.step_core.specs.WithdrawCoreKept.{IsCoreKept, withdrawing_of}

@@ -1,133 +1,91 @@
--- One step of a core is one step of the withdrawing phase that it stands for.
-use Rattle.std.proofs.Common.{◌≡◌, ◌≢◌, ◌^◌, ℕ, ◌+◌, ◌<◌, ◌≤◌, List, [], ◌∷◌, length, get_or, set, map, Option, Some, refl, sym, ap, ◌∙◌, subst, arith}
-use Rattle.std.proofs.lemmas.List.{get_or-drop, get_or-map, length-map, map-set}
-use Rattle.std.proofs.lemmas.Option.{slice_get-get_or}
-use Rattle.std.specs.List.{All}
-use Rattle.std.specs.Option.{IsSomeAnd}
+-- What a step of the code asks is known of a casting phase, and what it leaves is a step of the phase.
+use Rattle.std.proofs.Common.{◌≡◌, ◌≢◌, ℕ, ◌+◌, ◌<◌, Some, List, [], ◌∷◌, length, get_or, set, map, refl, arith}
+use Rattle.probe_order.proofs.ClaimOrder.{within}
+use Rattle.std.proofs.lemmas.Nat.{pow_pos}
 use Rattle.std.specs.Prelude.{slice_get}
-use Rattle.step_core.proofs.WithdrawReady.{may_find, sound_of, within_cells}
-use Rattle.step_core.proofs.WithdrawingBase.{base_layout}
-use Rattle.step_core.proofs.WithdrawingSteps.{steps_fall, steps_keep}
-use Rattle.step_core.specs.WithdrawCore.{MayStep, Moves, TabSteps, base_of, tab_of}
-use Rattle.step_core.specs.WithdrawCoreKept.{IsCoreKept, withdrawing_of}
-use Rattle.step_core.specs.Withdrawing.{FallsAt, IsDone, IsDoneAt, IsWithdrawer, IsWithdrawing, Steps, Withdrawing, next_number, view_of}
-use Rattle.step_core.specs.Withdrawing as phase
-use Rattle.step_core.specs.declared.shape.Shape.{Shape}
-use Rattle.step_core.specs.declared.withdraw_core.WithdrawCore.TheInside.{Inside}
-use Rattle.step_core.specs.declared.withdrawer.Withdrawer.{Withdrawer}
+use Rattle.step_core.proofs.CastSteps.{begins, begun, finds_at, fits_at}
+use Rattle.step_core.proofs.CastingSteps.{has_room}
+use Rattle.step_core.proofs.Sets.{at_place, stands-map, stands-set}
+use Rattle.step_core.specs.CastCore.{HasTried, MayStep, MayTell}
+use Rattle.step_core.specs.CastTables.{FitsIn, MayFind}
+use Rattle.step_core.specs.Casting.{Casting, IsCasting, IsNext, IsTabulator, Tabulator, next_from, table_in, view_of}
 use Rattle.store_spec.specs.Act.{word_of}
-use Rattle.store_spec.specs.Home.{home_of}
-use Rattle.store_spec.specs.Layout.{layout_of}
-use Rattle.store_spec.specs.WithdrawInvariant.{cell_words}
-use Rattle.store_spec.specs.WithdrawStep.{withdraw_act}
-use Rattle.store_spec.specs.WithdrawStep.WithdrawState.{Rest}
+use Rattle.store_spec.specs.CastStep.{CastNote, CastRow, CastState, GoesFrom, Table, cast_act}
+use Rattle.store_spec.specs.CastStep.CastRow.{claim_won, claim_met, claim_passed, claims_full, look_passes, look_ready, takes_empty, displaces, lost_passes, lost_ready}
+use Rattle.store_spec.specs.CastStep.CastState.{Rest, Probing, Carrying, Ready}
 
--- the phase of some words and withdrawers
-abbrev pub phase_of : Shape → ℕ → List ℕ → List ℕ → List Withdrawer → Withdrawing
-phase_of shape limit held words tabs = record { bits = shape.order.bits; salt = shape.order.salt; limit = limit; held = held; words = words; tabs = map tab_of tabs }
+-- a row that answers a number goes from one that is tried
+pub may_tell : (t : Table) (from : CastState) (word found put : ℕ) (new : CastState) (note : CastNote) (left : List ℕ) → CastRow t from word found put new note → HasTried from left → MayTell note left
+may_tell t from word found put new note left (claim_won x k) h = h
+may_tell t from word found put new note left (claim_met x k) h = h
+may_tell t from word found put new note left (claim_passed x k f some other more) h = tt
+may_tell t from word found put new note left (claims_full x k f some other last) h = h
+may_tell t from word found put new note left (look_passes v i f greater) h = tt
+may_tell t from word found put new note left (look_ready v i f less) h = tt
+may_tell t from word found put new note left (takes_empty v i) h = tt
+may_tell t from word found put new note left (displaces v i s some) h = tt
+may_tell t from word found put new note left (lost_passes v i s f lost greater) h = tt
+may_tell t from word found put new note left (lost_ready v i s f lost less) h = tt
 
-module _ (shape : Shape) (limit : ℕ) (held words : List ℕ) (tabs : List Withdrawer) (id : ℕ) (tab : Withdrawer) (cells : shape.cells ≡ 2 ^ shape.order.bits + limit) (lt : id < length tabs) (at : get_or tabs id tab ≡ tab) (h : IsWithdrawing (phase_of shape limit held words tabs)) where
-  abbrev w : Withdrawing
-  w = phase_of shape limit held words tabs
+-- ---- what is known before a step
 
-  has : slice_get (map tab_of tabs) id ≡ Some (tab_of tab)
-  has = slice_get-get_or (map tab_of tabs) id (tab_of tab) (omega (arith, length-map tabs tab_of)) ∙ ap Some (get_or-map tab_of tabs id tab (tab_of tab) lt ∙ ap tab_of at)
+goes_moving : (t : Table) (base : List ℕ) (state : CastState) (left : List ℕ) → IsNext t base state left → next_from state left ≢ Rest → GoesFrom t base state (next_from state left)
+goes_moving t base Rest [] next moving = absurd (moving refl)
+goes_moving t base Rest (x ∷ xs) next moving = (x, next, refl)
+goes_moving t base (Probing x k) left next moving = refl
+goes_moving t base (Carrying v i) left next moving = refl
+goes_moving t base (Ready v i s) left next moving = refl
 
-  has_view : slice_get (map view_of (map tab_of tabs)) id ≡ Some (view_of (tab_of tab))
-  has_view =
-      let within : id < length (map tab_of tabs) = omega (arith, length-map tabs tab_of) in
-      slice_get-get_or (map view_of (map tab_of tabs)) id (view_of (tab_of tab)) (omega (arith, length-map (map tab_of tabs) view_of))
-      ∙ ap Some (get_or-map view_of (map tab_of tabs) id (tab_of tab) (view_of (tab_of tab)) within ∙ ap view_of (get_or-map tab_of tabs id tab (tab_of tab) lt ∙ ap tab_of at))
+has_tried : (t : Table) (base : List ℕ) (state : CastState) (left : List ℕ) → IsNext t base state left → HasTried (next_from state left) left
+has_tried t base Rest [] next = tt
+has_tried t base Rest (x ∷ xs) next = omega arith
+has_tried t base (Probing x k) [] next = absurd next
+has_tried t base (Probing x k) (y ∷ ys) next = omega arith
+has_tried t base (Carrying v i) left next = tt
+has_tried t base (Ready v i s) left next = tt
 
-  base_is : base_of shape held ≡ phase.base_in (phase_of shape limit held words tabs)
-  base_is = ap (λ n. layout_of (home_of shape.order.bits shape.order.salt) n held) cells
+-- a word of a state that fits is one of the words
+word_within : (t : Table) (words : List ℕ) (from : CastState) → length words ≡ t.cells + t.claims → 0 < t.cells → FitsIn t from → word_of (cast_act t from) < length words
+word_within t words Rest size some fits = omega arith
+word_within t words (Probing x k) size some fits = let there = within x k t.claims (omega (arith, fits.1)) in omega arith
+word_within t words (Carrying v i) size some fits = omega (arith, fits.1)
+word_within t words (Ready v i s) size some fits = omega (arith, fits.1)
 
-  pub size_is : length (base_of shape held) ≡ shape.cells
-  size_is = ap length base_is ∙ (base_layout shape.order.bits shape.order.salt limit held h.few_bits h.within_limit h.some h.distinct).size ∙ sym cells
+-- at rest nothing is asked, and else the view at which the step begins tells it
+module _ (c : Casting) (h : IsCasting c) (id : ℕ) (tab : Tabulator) (stands : slice_get c.tabs id ≡ Some tab) where
+  fits_from : next_from tab.state tab.left ≢ Rest → FitsIn (table_in c) (next_from tab.state tab.left) × MayFind (next_from tab.state tab.left) (get_or c.words (word_of (cast_act (table_in c) (next_from tab.state tab.left))) 0)
+  fits_from moving =
+      let t = table_in c in
+      let from = next_from tab.state tab.left in
+      let views = map view_of c.tabs in
+      let view = view_of tab in
+      let view_stands : slice_get views id ≡ Some view = stands-map view_of c.tabs id tab stands in
+      let own = at_place (IsTabulator t c.base) c.tabs id tab stands h.tabs in
+      let goes = goes_moving t c.base tab.state tab.left own.next moving in
+      let now = begun view from in
+      let before = begins t c.base c.words views id view view.state from h.invariant view_stands refl goes in
+      let begun_stands = stands-set views id view now view_stands in
+      let room = has_room c h in (
+        fits_at t c.base c.words (set views id now) id now room before begun_stands from refl,
+        finds_at t c.base c.words (set views id now) id now room before begun_stands from refl moving,
+      )
 
-  pub words_size : length words ≡ shape.cells + shape.cells
-  words_size =
-      let size : length words ≡ length (phase.base_in w) + length (phase.base_in w) = h.invariant.size in
-      let one : length (phase.base_in w) ≡ shape.cells = ap length (sym base_is) ∙ size_is in
-      omega arith
+  fits_any : (from : CastState) → (from ≢ Rest → FitsIn (table_in c) from) → FitsIn (table_in c) from
+  fits_any Rest fits = tt
+  fits_any (Probing x k) fits = fits (λ e. cc)
+  fits_any (Carrying v i) fits = fits (λ e. cc)
+  fits_any (Ready v i s) fits = fits (λ e. cc)
 
-  pub done_at : IsDone (tab_of tab) → IsDoneAt (phase_of shape limit held words tabs) id
-  done_at done = subst (λ (o : Option phase.Withdrawer). IsSomeAnd o IsDone) (sym has) done
-
-  pub done_from : IsDoneAt (phase_of shape limit held words tabs) id → IsDone (tab_of tab)
-  done_from done = subst (λ (o : Option phase.Withdrawer). IsSomeAnd o IsDone) has done
-
-  pub may_step : MayStep (base_of shape held) held words (tab_of tab)
+  pub may_step : MayStep (table_in c) c.words tab
   may_step =
-      let home = home_of shape.order.bits shape.order.salt in
-      let base = phase.base_in w in
-      let views = map view_of (map tab_of tabs) in
-      let view = view_of (tab_of tab) in
-      let sound = sound_of home base words views id view h.invariant has_view view.state refl in
-      let own : IsWithdrawer held (tab_of tab) = subst (IsWithdrawer held) (get_or-map tab_of tabs id tab (tab_of tab) lt ∙ ap tab_of at) (h.tabs id (tab_of tab) (omega (arith, length-map tabs tab_of))) in
-      subst (λ (l : List ℕ). MayStep l held words (tab_of tab)) (sym base_is) (let may : MayStep base held words (tab_of tab) = record {
-        fits = within_cells home base (cell_words base words) views view.state sound;
-        finds = λ moves. may_find home base words views id view h.invariant has_view view.state (get_or words (word_of (withdraw_act view.state)) 0) moves refl refl;
-        flags = λ cell. let flag = sym (get_or-drop (length base) words cell 0) ∙ h.invariant.flags.counted cell in let once = h.invariant.flags.once (get_or base cell 0) in omega arith;
-        some = h.some;
-        next = own.next;
-      } in may)
-
-  pub core_steps : (words_now : List ℕ) (tab_now : Withdrawer) → TabSteps shape held words (tab_of tab) words_now (tab_of tab_now) → Steps (phase_of shape limit held words tabs) id (phase_of shape limit held words_now (set tabs id tab_now))
-  core_steps words_now tab_now s =
-      let base = phase.base_in w in
-      let moves = subst (λ (l : List ℕ). Moves (home_of shape.order.bits shape.order.salt) l words (tab_of tab).state (next_number (tab_of tab).state (tab_of tab).left) words_now s.new s.note) base_is s.moves in
+      let t = table_in c in
+      let from = next_from tab.state tab.left in
+      let own = at_place (IsTabulator t c.base) c.tabs id tab stands h.tabs in
+      let fits = fits_any from (λ moving. (fits_from moving).0) in
+      let some : 0 < t.cells = let homes = pow_pos c.bits in omega arith in
       record {
-        tab = tab_of tab;
-        acts = has;
-        word = moves.word;
-        left = moves.left;
-        new = s.new;
-        note = s.note;
-        move = moves.move;
-        is =
-            ap (λ l. record { bits = shape.order.bits; salt = shape.order.salt; limit = limit; held = held; words = l; tabs = map tab_of (set tabs id tab_now) }) moves.put
-            ∙ ap (λ l. record { bits = shape.order.bits; salt = shape.order.salt; limit = limit; held = held; words = set words moves.word moves.left; tabs = l }) (map-set tab_of tabs id tab_now ∙ ap (λ t. set (map tab_of tabs) id t) s.is);
+        fits = fits;
+        finds = λ moving. (fits_from moving).1;
+        within = word_within t c.words from h.invariant.size some fits;
+        tried = has_tried t c.base tab.state tab.left own.next;
       }
-
-  pub core_keeps : (words_now : List ℕ) (tab_now : Withdrawer) → TabSteps shape held words (tab_of tab) words_now (tab_of tab_now) → IsWithdrawing (phase_of shape limit held words_now (set tabs id tab_now))
-  core_keeps words_now tab_now s = steps_keep w id (phase_of shape limit held words_now (set tabs id tab_now)) h (core_steps words_now tab_now s)
-
-  pub core_falls : (words_now : List ℕ) (tab_now : Withdrawer) → TabSteps shape held words (tab_of tab) words_now (tab_of tab_now) → FallsAt (phase_of shape limit held words tabs) id (phase_of shape limit held words_now (set tabs id tab_now))
-  core_falls words_now tab_now s = steps_fall w id (phase_of shape limit held words_now (set tabs id tab_now)) h (core_steps words_now tab_now s)
-
--- ---- a core as it is kept
-
--- what a step of a core gives
-pub record StepsTo (w : Withdrawing) (id : ℕ) (now : Withdrawing) : Type 0 where
-  pub row : Steps w id now
-  pub keeps : IsWithdrawing now
-  pub falls : FallsAt w id now
-
-pub core_step : (a : Inside) (id : ℕ) (tab : Withdrawer) (seen words_now : List ℕ) (tab_now : Withdrawer) → IsCoreKept a → id < length a.tabs.items → get_or a.tabs.items id tab ≡ tab → seen ≡ a.words.items → TabSteps a.shape a.seats.numbers.items seen (tab_of tab) words_now (tab_of tab_now) → StepsTo (withdrawing_of a) id (phase_of a.shape a.limit a.seats.numbers.items words_now (set a.tabs.items id tab_now))
-core_step a id tab seen words_now tab_now kept lt at same row =
-    let held = a.seats.numbers.items in
-    let own : TabSteps a.shape held a.words.items (tab_of tab) words_now (tab_of tab_now) = subst (λ (l : List ℕ). TabSteps a.shape held l (tab_of tab) words_now (tab_of tab_now)) same row in
-    record {
-      row = core_steps a.shape a.limit held a.words.items a.tabs.items id tab kept.cells lt at kept.phase words_now tab_now own;
-      keeps = core_keeps a.shape a.limit held a.words.items a.tabs.items id tab kept.cells lt at kept.phase words_now tab_now own;
-      falls = core_falls a.shape a.limit held a.words.items a.tabs.items id tab kept.cells lt at kept.phase words_now tab_now own;
-    }
-
--- a withdrawer of the view is one of the core
-pub tab_within : (a : Inside) (w : Withdrawing) (id : ℕ) → withdrawing_of a ≡ w → id < length w.tabs → id < length a.tabs.items
-tab_within a w id is lt =
-    let within : id < length (map tab_of a.tabs.items) = subst (λ (v : Withdrawing). id < length v.tabs) (sym is) lt in
-    omega (arith, length-map a.tabs.items tab_of)
-
--- as the core's view tells it, with the words that are stored
-pub core_step_to : (a : Inside) (w : Withdrawing) (id : ℕ) (tab : Withdrawer) (seen words_now stored : List ℕ) (tab_now : Withdrawer) → IsCoreKept a → withdrawing_of a ≡ w → id < length w.tabs → get_or a.tabs.items id tab ≡ tab → seen ≡ a.words.items → stored ≡ words_now → TabSteps a.shape a.seats.numbers.items seen (tab_of tab) words_now (tab_of tab_now) → StepsTo w id (phase_of a.shape a.limit a.seats.numbers.items stored (set a.tabs.items id tab_now))
-core_step_to a w id tab seen words_now stored tab_now kept is lt at same put row =
-    let within = tab_within a w id is lt in
-    subst (λ (v : Withdrawing). StepsTo v id (phase_of a.shape a.limit a.seats.numbers.items stored (set a.tabs.items id tab_now))) is
-    (subst (λ (l : List ℕ). StepsTo (withdrawing_of a) id (phase_of a.shape a.limit a.seats.numbers.items l (set a.tabs.items id tab_now))) (sym put)
-    (core_step a id tab seen words_now tab_now kept within at same row))
-
-pub core_done_from : (a : Inside) (w : Withdrawing) (id : ℕ) (tab : Withdrawer) → IsCoreKept a → withdrawing_of a ≡ w → id < length w.tabs → get_or a.tabs.items id tab ≡ tab → IsDoneAt w id → IsDone (tab_of tab)
-core_done_from a w id tab kept is lt at done =
-    done_from a.shape a.limit a.seats.numbers.items a.words.items a.tabs.items id tab kept.cells (tab_within a w id is lt) at kept.phase (subst (λ (v : Withdrawing). IsDoneAt v id) (sym is) done)

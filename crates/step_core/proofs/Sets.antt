@@ -1,11 +1,12 @@
 -- Lists as sets of numbers: what is counted, and what becomes of it where one element is set.
-use Rattle.std.proofs.Common.{◌≡◌, ◌≢◌, ◌==◌, ℕ, zero, suc, ◌+◌, ◌<◌, ◌≤◌, ◌⊎◌, inl, inr, ⊎_elim, Some, List, [], ◌∷◌, ◌++◌, cond, length, get_or, map, set, refl, sym, ap, ◌∙◌, subst, arith}
+use Rattle.std.proofs.Common.{◌≡◌, ◌≢◌, ◌==◌, ℕ, zero, suc, ◌+◌, ◌<◌, ◌≤◌, ⊎_elim, Some, List, [], ◌∷◌, ◌++◌, cond, length, get_or, map, set, refl, sym, ap, ◌∙◌, subst, arith}
 use Rattle.std.proofs.lemmas.Bool.{eq-eqb, ne_eqb, cases_eq, cond-true, cond-false}
-use Rattle.std.proofs.lemmas.List.{get_or_default, get_or-set_other, get_or-set_same, length-set}
+use Rattle.std.proofs.lemmas.List.{append-nil, append_assoc, get_or-map, get_or-set_other, get_or-set_same, get_or_default, length-map, length-set}
 use Rattle.std.proofs.lemmas.List.Elements.{All-append, All-cons, All-get_or, All-head, All-nil, All-tail}
 use Rattle.std.proofs.lemmas.List.Kept.{AllPairs-cons}
-use Rattle.std.proofs.lemmas.List.Sums.{sum_by-append, sum_by-cons}
-use Rattle.std.proofs.lemmas.Option.{get_or_from_slice_get, slice_get_cases}
+use Rattle.std.proofs.lemmas.List.Quantifiers.{all_pairs_push}
+use Rattle.std.proofs.lemmas.List.Sums.{get_or-le-sum_by, sum_by-append, sum_by-cons}
+use Rattle.std.proofs.lemmas.Option.{get_or_from_slice_get, slice_get-get_or, slice_get_cases}
 use Rattle.std.specs.List.{All, AllPairs, Contains, flat_map, sum_by}
 use Rattle.std.specs.Prelude.{slice_get}
 use Rattle.store_spec.specs.CastInvariant.{EachOnce, count_of}
@@ -18,9 +19,23 @@ stands_within xs i x stands = ⊎_elim
     (λ h. absurd (let none = h.1 in cc))
     (slice_get_cases xs i).1
 
+pub stands-map : {X Y : Type 0} (f : X → Y) (xs : List X) (i : ℕ) (x : X) → slice_get xs i ≡ Some x → slice_get (map f xs) i ≡ Some (f x)
+stands-map f xs i x stands =
+    let there = stands_within xs i x stands in
+    slice_get-get_or (map f xs) i (f x) (omega (arith, length-map xs f))
+    ∙ ap (λ y. Some y) (get_or-map f xs i x (f x) there ∙ ap f (get_or_from_slice_get xs i x x stands))
+
+pub stands-set : {X : Type 0} (xs : List X) (i : ℕ) (x y : X) → slice_get xs i ≡ Some x → slice_get (set xs i y) i ≡ Some y
+stands-set xs i x y stands =
+    let there = stands_within xs i x stands in
+    slice_get-get_or (set xs i y) i y (omega (arith, length-set xs i y)) ∙ ap (λ z. Some z) (get_or-set_same xs i y y there)
+
 -- what holds of each element holds of it
 pub at_place : {X : Type 0} (P : X → Type 0) (xs : List X) (i : ℕ) (x : X) → slice_get xs i ≡ Some x → All P xs → P x
 at_place P xs i x stands all = subst P (get_or_from_slice_get xs i x x stands) (All-get_or P xs i x (stands_within xs i x stands) all)
+
+pub All-from_map : {X Y : Type 0} (P : Y → Type 0) (f : X → Y) (xs : List X) → All P (map f xs) → All (λ x. P (f x)) xs
+All-from_map P f xs all k d within = subst P (get_or-map f xs k d (f d) within) (all k (f d) (omega (arith, length-map xs f)))
 
 -- ---- lists joined end to end
 
@@ -37,6 +52,10 @@ sum_by-map weight f (x ∷ xs) =
     sum_by-cons weight (f x) (map f xs)
     ∙ ap (λ n. weight (f x) + n) (sum_by-map weight f xs)
     ∙ sym (sum_by-cons (λ y. weight (f y)) x xs)
+
+pub flat_map-map : {X Y : Type 0} (f : Y → List ℕ) (g : X → Y) (xs : List X) → flat_map f (map g xs) ≡ flat_map (λ x. f (g x)) xs
+flat_map-map f g [] = refl
+flat_map-map f g (x ∷ xs) = ap (λ ys. f (g x) ++ ys) (flat_map-map f g xs)
 
 pub All-flat_map : {X : Type 0} (P : ℕ → Type 0) (f : X → List ℕ) (xs : List X) → All (λ x. All P (f x)) xs → All P (flat_map f xs)
 All-flat_map P f [] h = All-nil P
@@ -55,6 +74,16 @@ All-from_flat_map {X} P f [] h = All-nil (λ (y : X). All P (f y))
 All-from_flat_map {X} P f (x ∷ xs) h =
     let both = All-front P (f x) (flat_map f xs) h in
     All-cons (λ (y : X). All P (f y)) x xs both.0 (All-from_flat_map P f xs both.1)
+
+-- ---- pairs
+
+-- elements that may stand behind any
+pub AllPairs-append : {X : Type 0} (R : X → X → Type 0) (xs ys : List X) → AllPairs R xs → All (λ y. (x : X) → R x y) ys → AllPairs R (xs ++ ys)
+AllPairs-append R xs [] h any = subst (AllPairs R) (sym (append-nil xs)) h
+AllPairs-append {X} R xs (y ∷ ys) h any =
+    let P : X → Type 0 = λ z. (x : X) → R x z in
+    let first : AllPairs R (xs ++ y ∷ []) = all_pairs_push R xs y h (λ k d within. All-head P y ys any (get_or xs k d)) in
+    subst (AllPairs R) (append_assoc xs (y ∷ []) ys) (AllPairs-append R (xs ++ y ∷ []) ys first (All-tail P y ys any))
 
 -- ---- how often a number stands
 
@@ -94,6 +123,12 @@ none_counted v xs none = ⊎_elim
     (λ (d : count_of v xs ≢ 0). absurd (none (stands_counted v xs (omega arith))))
     (cases_eq (count_of v xs) 0)
 
+pub contains-flat_map : {X : Type 0} (f : X → List ℕ) (xs : List X) (i : ℕ) (x : X) (v : ℕ) → slice_get xs i ≡ Some x → Contains (f x) v → Contains (flat_map f xs) v
+contains-flat_map {X} f xs i x v stands c =
+    let each : X → ℕ = λ y. count_of v (f y) in
+    let is : each (get_or xs i x) ≡ each x = ap each (get_or_from_slice_get xs i x x stands) in
+    stands_counted v (flat_map f xs) (omega (arith, counted v (f x) c, sum_by-flat_map (is_one v) f xs, get_or-le-sum_by each xs i x (stands_within xs i x stands)))
+
 pub distinct_once : (xs : List ℕ) → EachOnce xs → All (λ v. v ≢ 0) xs → AllPairs (λ a b. a ≢ b) xs
 distinct_once [] once some = λ i j d lt within. absurd (omega arith)
 distinct_once (x ∷ xs) once some =
@@ -103,6 +138,17 @@ distinct_once (x ∷ xs) once some =
     omega (arith, once x first, counted_on x x xs, is_one-same x) in
     AllPairs-cons (λ a b. a ≢ b) x xs apart
     (distinct_once xs (λ v n. omega (arith, once v n, counted_on v x xs)) (All-tail (λ v. v ≢ 0) x xs some))
+
+pub once_distinct : (xs : List ℕ) → AllPairs (λ a b. a ≢ b) xs → EachOnce xs
+once_distinct [] apart v some = omega arith
+once_distinct (x ∷ xs) apart v some =
+    let rest = once_distinct xs (λ i j d lt within. apart (suc i) (suc j) d (omega arith) (omega arith)) v some in
+    ⊎_elim
+    (λ (same : x ≡ v).
+    let none : ¬ Contains xs v = λ c. apart 0 (suc c.0) v (omega arith) (omega (arith, c.1)) (same ∙ sym c.2) in
+    omega (arith, counted_on v x xs, none_counted v xs none, ap (is_one v) same, is_one-same v))
+    (λ (d : x ≢ v). omega (arith, counted_on v x xs, is_one-other v x d))
+    (cases_eq x v)
 
 -- ---- one element is set
 

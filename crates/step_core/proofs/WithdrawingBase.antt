@@ -2,7 +2,7 @@
 use Rattle.std.proofs.Common.{◌≡◌, ◌≢◌, ◌^◌, ℕ, ◌+◌, ◌-◌, ◌<◌, ◌≤◌, List, length, get_or, ap, ◌∙◌, arith}
 use Rattle.std.specs.List.{All, AllPairs, Contains}
 use Rattle.probe_order.specs.Below.{home_of-lt}
-use Rattle.store_spec.proofs.LaidOut.{layout_of_is}
+use Rattle.layout_def.proofs.LaidOut.{layout_of_is}
 use Rattle.store_spec.specs.Home.{home_of}
 use Rattle.store_spec.specs.Layout.{HasRoom, IsLayout, layout_of}
 use Rattle.store_spec.specs.WithdrawInvariant.{IsBase, IsOf}

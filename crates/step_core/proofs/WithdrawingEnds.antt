@@ -16,8 +16,8 @@ use Rattle.step_core.proofs.WithdrawSeats as seats
 use Rattle.step_core.proofs.WithdrawingAnswers.{IsAbsent, all_absent, next_settled, numbers-absent, numbers-contains, pairs_absent}
 use Rattle.step_core.proofs.WithdrawingBase.{base_begins, base_layout, of_base_held}
 use Rattle.step_core.proofs.WordSets.{sum_same}
-use Rattle.store_spec.proofs.Ascending.{ascending_distinct, length-ascending}
-use Rattle.store_spec.proofs.LaidOut.{ascending_from_rising}
+use Rattle.layout_def.proofs.Ascending.{ascending_distinct, length-ascending}
+use Rattle.layout_def.proofs.LaidOut.{ascending_from_rising}
 use Rattle.step_core.specs.Withdrawing.{EndsWith, HasEnded, IsDone, IsDoneAt, IsWithdrawer, IsWithdrawing, Withdrawer, Withdrawing, absent_first, answers_in, base_in, cells_in, count_in, home_in, is_gone, numbers_that, opened, settled, view_of}
 use Rattle.store_spec.specs.Home.{home_of}
 use Rattle.store_spec.specs.Layout.{ascending, laid_out, layout_of, numbers_in}

@@ -1,5 +1,9 @@
 pub mod Act
+pub mod CastCore
+pub mod CastCoreKept
 pub mod CastKept
+pub mod CastTables
+pub mod Casting
 pub mod Seats
 pub mod Shape
 pub mod WithdrawCore

@@ -1,5 +1,4 @@
 -- A shape of the code, as the definitions see it.
-use Rattle.std.specs.Prelude.{ℕ}
 use Rattle.step_core.specs.declared.shape.Shape.{Shape}
 use Rattle.store_spec.specs.CastStep.{Table}
 use Rattle.store_spec.specs.Home.{home_of}

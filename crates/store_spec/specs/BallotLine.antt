@@ -7,67 +7,89 @@
 --     group       = "-"  or  choice, then up to 31 times: "," choice
 --     choice      = decimal, 1 to 32, strictly ascending within a group
 --
--- A decimal has no sign and no leading zero.
-use Rattle.std.specs.Prelude.{◌≡◌, ℕ, ◌-◌, ◌^◌, ◌<◌, ◌≤◌, List, [], ◌∷◌, ◌++◌, length, map, sum_by, replicate, All}
-use Rattle.std.specs.List.{join_with_byte}
+-- A decimal has no sign and no leading zero. How many groups and choices there may be goes with the election.
+use Rattle.std.specs.Prelude.{◌≡◌, ℕ, ◌-◌, ◌^◌, ◌<◌, ◌≤◌, ◌==◌, List, [], ◌∷◌, ◌++◌, length, map, sum_by, take, filter, replicate, All}
+use Rattle.std.specs.Int.{bit_at}
+use Rattle.std.specs.List.{join_with_byte, range_with_len}
 use Rattle.std.specs.List.Sorted.{IsStrictlyIncreasing}
 use Rattle.std.specs.Fmt.{decimal}
-use Rattle.store_spec.specs.Ballot.{Ballot, IsValid}
-use Rattle.store_spec.specs.Election.{Election}
+use Rattle.store_spec.specs.Ballot.{Ballot, IsValid, MARK_SETS}
+use Rattle.store_spec.specs.Election.{Election, most_choices, most_contests, most_styles}
 
 -- a line by its parts: the choices that are marked in each group
-pub record Line : Type 0 where
+pub record RecordLine : Type 0 where
   pub number : ℕ
   pub style : ℕ
   pub groups : List (List ℕ)
 
 -- what may stand between two slashes
-pub record IsGroup (choices : List ℕ) : Type 0 where
-  pub within : All (λ c. (1 ≤ c) × (c ≤ 32)) choices
+pub record IsGroup (e : Election) (choices : List ℕ) : Type 0 where
+  pub within : All (λ c. (1 ≤ c) × (c ≤ most_choices e)) choices
   pub ascending : IsStrictlyIncreasing choices
 
-pub record IsLine (line : Line) : Type 0 where
+pub record IsLine (e : Election) (line : RecordLine) : Type 0 where
   pub some_number : 1 ≤ line.number
   pub short_number : line.number < 2 ^ 64
   pub some_style : 1 ≤ line.style
-  pub short_style : line.style ≤ 255
+  pub short_style : line.style ≤ most_styles
   pub some_group : 1 ≤ length line.groups
-  pub few_groups : length line.groups ≤ 16
-  pub each_group : All IsGroup line.groups
+  pub few_groups : length line.groups ≤ most_contests e
+  pub each_group : All (IsGroup e) line.groups
 
--- how the parts are spelled: 45 is a dash, 44 a comma, 47 a slash and 32 a space
+-- ---- how the parts are spelled
+
+abbrev pub dash : ℕ
+dash = 45
+
+abbrev pub comma : ℕ
+comma = 44
+
+abbrev pub slash : ℕ
+slash = 47
+
+abbrev pub space : ℕ
+space = 32
+
 abbrev pub group_text : List ℕ → List ℕ
-group_text [] = 45 ∷ []
-group_text (choice ∷ choices) = join_with_byte 44 (map decimal (choice ∷ choices))
+group_text [] = dash ∷ []
+group_text (choice ∷ choices) = join_with_byte comma (map decimal (choice ∷ choices))
 
-abbrev pub line_text : Line → List ℕ
-line_text line = decimal line.number ++ 32 ∷ decimal line.style ++ 32 ∷ join_with_byte 47 (map group_text line.groups)
+abbrev pub line_text : RecordLine → List ℕ
+line_text line =
+    decimal line.number ++ space ∷ decimal line.style ++ space
+    ∷ join_with_byte slash (map group_text line.groups)
 
 -- the bytes are in the grammar, and these are their parts
-pub record ReadsAs (bytes : List ℕ) (line : Line) : Type 0 where
-  pub parts : IsLine line
+pub record ReadsAs (e : Election) (bytes : List ℕ) (line : RecordLine) : Type 0 where
+  pub parts : IsLine e line
   pub spelled : bytes ≡ line_text line
 
 -- the bytes are in the grammar
-abbrev pub IsRecordLine : List ℕ → Type 0
-IsRecordLine bytes = (line : Line) × ReadsAs bytes line
+abbrev pub IsRecordLine : Election → List ℕ → Type 0
+IsRecordLine e bytes = (line : RecordLine) × ReadsAs e bytes line
+
+-- the most bytes of a record line
+abbrev pub longest_line : Election → ℕ
+longest_line e = 1416
+
+-- ---- the ballot of a line
 
 -- the mark set of some choices
 abbrev pub mark_set : List ℕ → ℕ
 mark_set choices = sum_by (λ c. 2 ^ (c - 1)) choices
 
--- the ballot that a line stands for, whatever the election
-abbrev pub ballot_of_line : Line → Ballot
+-- the ballot that a line stands for, valid or not
+abbrev pub ballot_of_line : RecordLine → Ballot
 ballot_of_line line = record {
   number = line.number;
   style = line.style;
-  marks = map mark_set line.groups ++ replicate (16 - length line.groups) 0;
+  marks = map mark_set line.groups ++ replicate (MARK_SETS - length line.groups) 0;
 }
 
 -- the bytes are a line of this election for this ballot: a group for each contest, and the ballot is valid
 pub record Spells (e : Election) (bytes : List ℕ) (b : Ballot) : Type 0 where
-  pub line : Line
-  pub reads : ReadsAs bytes line
+  pub line : RecordLine
+  pub reads : ReadsAs e bytes line
   pub a_group_each : length line.groups ≡ length e.contests
   pub is : b ≡ ballot_of_line line
   pub valid : IsValid e b
@@ -75,3 +97,19 @@ pub record Spells (e : Election) (bytes : List ℕ) (b : Ballot) : Type 0 where
 -- the bytes are a line of this election, for some ballot
 abbrev pub IsLineOf : Election → List ℕ → Type 0
 IsLineOf e bytes = (b : Ballot) × Spells e bytes b
+
+-- ---- the line of a ballot
+
+-- the choices in a mark set
+unfoldable pub choices_in : Election → ℕ → List ℕ
+choices_in e set = filter (λ choice. bit_at set (choice - 1) == 1) (range_with_len 1 (most_choices e))
+
+abbrev pub line_of_ballot : Election → Ballot → RecordLine
+line_of_ballot e b = record {
+  number = b.number;
+  style = b.style;
+  groups = map (choices_in e) (take (length e.contests) b.marks);
+}
+
+abbrev pub record_line : Election → Ballot → List ℕ
+record_line e b = line_text (line_of_ballot e b)

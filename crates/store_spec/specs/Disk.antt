@@ -1,8 +1,8 @@
 -- A disk: the bytes that a read gives now, and what a crash may leave at each moment. What was not synced may be lost,
 -- torn or reordered. The words take the members of a disk: `calls`, how many calls were made, and `may_leave`, what
--- a crash at a moment may leave. Each list of bytes that it may leave is an image.
-use Rattle.std.specs.Prelude.{◌≡◌, ◌↔◌, ℕ, ◌+◌, ◌*◌, ◌<◌, ◌≤◌, max, nat_lt, if◌then◌else◌, List, ◌++◌, length, take, drop, Option, Some, None}
-use Rattle.store_spec.specs.Fault.{LAST_COUNT}
+-- a crash at a moment may leave. Each list of bytes that it may leave is a crash image.
+use Rattle.std.specs.Prelude.{◌≡◌, ◌↔◌, ℕ, ◌+◌, ◌*◌, ◌<◌, ◌≤◌, max, List, ◌++◌, length, take, drop, Option, Some, None}
+use Rattle.store_spec.specs.Fault.{last_count, next_count}
 
 -- ---- moments
 
@@ -12,10 +12,6 @@ after_calls n = 2 * n
 
 abbrev pub inside_next : ℕ → ℕ
 inside_next n = 2 * n + 1
-
--- a count of calls after one call more: it stays at its last value
-abbrev pub next_count : ℕ → ℕ
-next_count n = if nat_lt n LAST_COUNT then n + 1 else n
 
 -- what a crash now may leave
 abbrev pub leaves_now : {D : Type 0} → (D → ℕ) → (D → ℕ → List ℕ → Type 0) → D → List ℕ → Type 0
@@ -51,13 +47,14 @@ SeenTorn at n old new = ⊥
 -- is among these images.
 pub record LeavesAtMost {D : Type 0} (calls : D → ℕ) (may_leave : D → ℕ → List ℕ → Type 0) (images : List ℕ → Type 0) (old new : D) : Type 0 where
   pub counted : calls new ≡ next_count (calls old)
-  pub past : calls old < LAST_COUNT → (m : ℕ) → m ≤ after_calls (calls old) → (c : List ℕ) → may_leave new m c ↔ may_leave old m c
-  pub inside : calls old < LAST_COUNT → (c : List ℕ) → may_leave new (inside_next (calls old)) c → images c
+  pub past : calls old < last_count → (m : ℕ) → m ≤ after_calls (calls old) → (c : List ℕ) → may_leave new m c ↔ may_leave old m c
+  pub inside : calls old < last_count → (c : List ℕ) → may_leave new (inside_next (calls old)) c → images c
   pub after : (c : List ℕ) → leaves_now calls may_leave new c → images c
 
 -- a crash inside the call may leave each of these images
 abbrev pub MayLeaveInside : {D : Type 0} → (D → ℕ) → (D → ℕ → List ℕ → Type 0) → (List ℕ → Type 0) → D → D → Type 0
-MayLeaveInside calls may_leave images old new = calls old < LAST_COUNT → (c : List ℕ) → images c → may_leave new (inside_next (calls old)) c
+MayLeaveInside calls may_leave images old new =
+    calls old < last_count → (c : List ℕ) → images c → may_leave new (inside_next (calls old)) c
 
 -- what a crash inside the call or after it may leave is exactly these images
 pub record LeavesExactly {D : Type 0} (calls : D → ℕ) (may_leave : D → ℕ → List ℕ → Type 0) (images : List ℕ → Type 0) (old new : D) : Type 0 where
@@ -65,22 +62,42 @@ pub record LeavesExactly {D : Type 0} (calls : D → ℕ) (may_leave : D → ℕ
   pub inside : MayLeaveInside calls may_leave images old new
   pub after : (c : List ℕ) → images c → leaves_now calls may_leave new c
 
+-- the crash images stay as they are
+abbrev pub KeepsCrashImages : {D : Type 0} → (D → ℕ) → (D → ℕ → List ℕ → Type 0) → D → D → Type 0
+KeepsCrashImages calls may_leave old new = LeavesExactly calls may_leave (leaves_now calls may_leave old) old new
+
+-- there is no new one
+abbrev pub AddsNoCrashImage : {D : Type 0} → (D → ℕ) → (D → ℕ → List ℕ → Type 0) → D → D → Type 0
+AddsNoCrashImage calls may_leave old new = LeavesAtMost calls may_leave (leaves_now calls may_leave old) old new
+
+-- inside the call each of them is still one
+abbrev pub KeepsThemInside : {D : Type 0} → (D → ℕ) → (D → ℕ → List ℕ → Type 0) → D → D → Type 0
+KeepsThemInside calls may_leave old new = MayLeaveInside calls may_leave (leaves_now calls may_leave old) old new
+
+-- each is one of those before, with the range of n bytes from `at` on torn
+abbrev pub TearsAtMost : {D : Type 0} → (D → ℕ) → (D → ℕ → List ℕ → Type 0) → ℕ → ℕ → D → D → Type 0
+TearsAtMost calls may_leave at n old new = LeavesAtMost calls may_leave (torn_from at n (leaves_now calls may_leave old)) old new
+
+-- and each of these is one
+abbrev pub TearsExactly : {D : Type 0} → (D → ℕ) → (D → ℕ → List ℕ → Type 0) → ℕ → ℕ → D → D → Type 0
+TearsExactly calls may_leave at n old new = LeavesExactly calls may_leave (torn_from at n (leaves_now calls may_leave old)) old new
+
 -- a crash now leaves exactly what a read gives
 abbrev pub IsSettled : {D : Type 0} → (D → Option (List ℕ)) → (D → ℕ) → (D → ℕ → List ℕ → Type 0) → D → Type 0
 IsSettled seen calls may_leave disk = (c : List ℕ) → leaves_now calls may_leave disk c ↔ (seen disk ≡ Some c)
 
 -- ---- what a run of calls does
 
--- each image of each moment from one to another has P
-abbrev pub EachImage : (ℕ → List ℕ → Type 0) → ℕ → ℕ → (List ℕ → Type 0) → Type 0
-EachImage may_leave from to P = (m : ℕ) → from ≤ m → m ≤ to → (c : List ℕ) → may_leave m c → P c
+-- each crash image of each moment from one to another has P
+abbrev pub EachCrashImage : (ℕ → List ℕ → Type 0) → ℕ → ℕ → (List ℕ → Type 0) → Type 0
+EachCrashImage may_leave from to P = (m : ℕ) → from ≤ m → m ≤ to → (c : List ℕ) → may_leave m c → P c
 
 -- From one state of a disk to a later one: no moment up to the first changes, and from there on, with both ends,
--- each image of each moment has P. It speaks of moments where the count has not come to its last value.
+-- each crash image of each moment has P. It speaks of moments where the count has not come to its last value.
 pub record LeavesOnly {D : Type 0} (calls : D → ℕ) (may_leave : D → ℕ → List ℕ → Type 0) (old new : D) (P : List ℕ → Type 0) : Type 0 where
   pub later : calls old ≤ calls new
-  pub past : calls new < LAST_COUNT → (m : ℕ) → m ≤ after_calls (calls old) → (c : List ℕ) → may_leave new m c ↔ may_leave old m c
-  pub each : calls new < LAST_COUNT → EachImage (may_leave new) (after_calls (calls old)) (after_calls (calls new)) P
+  pub past : calls new < last_count → (m : ℕ) → m ≤ after_calls (calls old) → (c : List ℕ) → may_leave new m c ↔ may_leave old m c
+  pub each : calls new < last_count → EachCrashImage (may_leave new) (after_calls (calls old)) (after_calls (calls new)) P
 
 -- a crash now leaves these bytes, but for a range of n bytes from `at` on
 abbrev pub LeavesTorn : {D : Type 0} → (D → ℕ) → (D → ℕ → List ℕ → Type 0) → ℕ → ℕ → List ℕ → D → Type 0

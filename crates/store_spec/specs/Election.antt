@@ -17,13 +17,43 @@ pub record Election : Type 0 where
   pub bits : ℕ
   pub salt : ℕ
 
+-- ---- the version of its form, and what goes with it
+
+abbrev pub version : Election → ℕ
+version e = 1
+
+abbrev pub most_contests : Election → ℕ
+most_contests e = 16
+
+abbrev pub most_choices : Election → ℕ
+most_choices e = 32
+
+-- the bytes of a mark set in a cell
+abbrev pub set_width : Election → ℕ
+set_width e = 4
+
+-- ---- limits of every version
+
+abbrev pub most_styles : ℕ
+most_styles = 255
+
+abbrev pub most_ballots : ℕ
+most_ballots = 32768
+
+abbrev pub most_bits : ℕ
+most_bits = 16
+
 -- ---- what is a valid election
 
-pub record IsContest (contest : Contest) : Type 0 where
+-- a contest of so many choices at most
+pub record IsContestUpTo (most : ℕ) (contest : Contest) : Type 0 where
   pub some_choice : 1 ≤ contest.choices
-  pub few_choices : contest.choices ≤ 32
+  pub few_choices : contest.choices ≤ most
   pub some_mark : 1 ≤ contest.allowed
   pub few_marks : contest.allowed ≤ contest.choices
+
+abbrev pub IsContest : Election → Contest → Type 0
+IsContest e contest = IsContestUpTo (most_choices e) contest
 
 -- a set of some of so many contests that is not empty
 pub record IsStyle (contests style : ℕ) : Type 0 where
@@ -32,14 +62,14 @@ pub record IsStyle (contests style : ℕ) : Type 0 where
 
 pub record IsElection (e : Election) : Type 0 where
   pub some_contest : 1 ≤ length e.contests
-  pub few_contests : length e.contests ≤ 16
-  pub each_contest : All IsContest e.contests
+  pub few_contests : length e.contests ≤ most_contests e
+  pub each_contest : All (IsContest e) e.contests
   pub some_style : 1 ≤ length e.styles
-  pub few_styles : length e.styles ≤ 255
+  pub few_styles : length e.styles ≤ most_styles
   pub each_style : All (IsStyle (length e.contests)) e.styles
   pub some_ballot : 1 ≤ e.limit
-  pub few_ballots : e.limit ≤ 32768
-  pub few_bits : e.bits ≤ 16
+  pub few_ballots : e.limit ≤ most_ballots
+  pub few_bits : e.bits ≤ most_bits
   pub short_salt : e.salt < 2 ^ 64
 
 -- ---- what its numbers say
@@ -50,7 +80,10 @@ choices_of e k = if k == 0 then 0 else option_map_or (λ contest. contest.choice
 
 -- whether contest k is on style s: not where the election lacks one of them
 abbrev pub is_on_style : Election → ℕ → ℕ → Bool
-is_on_style e s k = if s == 0 then false else if k == 0 then false else bit_at (slice_index e.styles (s - 1)) (k - 1) == 1
+is_on_style e s k =
+    if s == 0 then false
+    else if k == 0 then false
+    else bit_at (slice_index e.styles (s - 1)) (k - 1) == 1
 
 -- how many choices a ballot of style s has in contest k: none where the contest is not on the style
 abbrev pub choices_on : Election → ℕ → ℕ → ℕ
@@ -63,11 +96,24 @@ cell_count e = 2 ^ e.bits + e.limit
 
 -- a number, a style, and a mark set for each contest
 abbrev pub cell_size : Election → ℕ
-cell_size e = 9 + 4 * length e.contests
+cell_size e = 9 + set_width e * length e.contests
 
--- a header of 32 bytes and the cells
+abbrev pub header_size : ℕ
+header_size = 32
+
+-- a header and the cells
 abbrev pub bank_size : Election → ℕ
-bank_size e = 32 + cell_count e * cell_size e
+bank_size e = header_size + cell_count e * cell_size e
+
+-- the most cells, and the most bytes of a cell and of a bank
+abbrev pub most_cells : ℕ
+most_cells = 2 ^ most_bits + most_ballots
+
+abbrev pub most_cell_size : Election → ℕ
+most_cell_size e = 9 + set_width e * most_contests e
+
+abbrev pub most_bank_size : Election → ℕ
+most_bank_size e = header_size + most_cells * most_cell_size e
 
 -- two banks, and a gate byte for each
 abbrev pub medium_size : Election → ℕ

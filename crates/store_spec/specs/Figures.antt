@@ -6,6 +6,8 @@ use Rattle.store_spec.specs.Home.{home_of}
 use Rattle.store_spec.specs.Image.{image_of}
 use Rattle.store_spec.specs.Input.{lines_of}
 use Rattle.store_spec.specs.Layout.{layout_of}
+use Rattle.store_spec.specs.Medium.{bank_place, gate_place}
+use Rattle.store_spec.specs.Medium.Bank.{A, B}
 
 pub record ExampleHomes : Type 0 where
   pub of_5 : home_of 3 0 5 ≡ 0
@@ -25,9 +27,17 @@ pub record ExampleSizes : Type 0 where
   pub bank : bank_size example ≡ 304
   pub medium : medium_size example ≡ 610
 
+-- where the banks and the gates of its medium stand
+pub record ExamplePlaces : Type 0 where
+  pub bank_a : bank_place example A ≡ 0
+  pub bank_b : bank_place example B ≡ 304
+  pub gate_a : gate_place example A ≡ 608
+  pub gate_b : gate_place example B ≡ 609
+
 -- cells 4 = 9, 5 = 14 and 6 = 1, and all others empty
 pub record ExampleLayout : Type 0 where
-  pub is : layout_of (home_of 3 0) 16 (1 ∷ 9 ∷ 14 ∷ []) ≡ 0 ∷ 0 ∷ 0 ∷ 0 ∷ 9 ∷ 14 ∷ 1 ∷ 0 ∷ 0 ∷ 0 ∷ 0 ∷ 0 ∷ 0 ∷ 0 ∷ 0 ∷ 0 ∷ []
+  pub is : layout_of (home_of 3 0) 16 (1 ∷ 9 ∷ 14 ∷ [])
+      ≡ 0 ∷ 0 ∷ 0 ∷ 0 ∷ 9 ∷ 14 ∷ 1 ∷ 0 ∷ 0 ∷ 0 ∷ 0 ∷ 0 ∷ 0 ∷ 0 ∷ 0 ∷ 0 ∷ []
 
 -- a ballot of style 1, with these marks in the two contests of the example
 abbrev pub example_ballot : ℕ → ℕ → ℕ → Ballot

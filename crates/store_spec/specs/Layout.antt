@@ -31,7 +31,9 @@ layout_of home count numbers = laid_out home count (ascending numbers)
 -- from its home up to it holds a greater number.
 pub record IsOrdered (home : ℕ → ℕ) (cells : List ℕ) : Type 0 where
   pub from_home : (place : ℕ) → slice_index cells place ≢ 0 → home (slice_index cells place) ≤ place
-  pub greater_before : (place before : ℕ) → slice_index cells place ≢ 0 → home (slice_index cells place) ≤ before → before < place → slice_index cells place < slice_index cells before
+  pub greater_before : (place before : ℕ) → slice_index cells place ≢ 0
+      → home (slice_index cells place) ≤ before → before < place
+      → slice_index cells place < slice_index cells before
 
 -- what it says of one number and the place where it stands, or is to stand
 pub record MayStand (home : ℕ → ℕ) (cells : List ℕ) (v place : ℕ) : Type 0 where

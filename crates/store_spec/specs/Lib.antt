@@ -2,7 +2,6 @@ pub mod Act
 pub mod Ballot
 pub mod BallotLine
 pub mod Build
-pub mod BuildLaws
 pub mod CastInvariant
 pub mod CastStep
 pub mod Damage
@@ -12,10 +11,9 @@ pub mod Fault
 pub mod Figures
 pub mod Home
 pub mod Image
-pub mod ImageLaws
 pub mod Input
 pub mod Layout
-pub mod LineLaws
+pub mod Medium
 pub mod Measure
 pub mod Phase
 pub mod Probe

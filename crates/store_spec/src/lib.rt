@@ -1,17 +1,11 @@
-//! The definitions that the whole store is proved against, and laws about them.
+//! The definitions that the whole store is proved against, and worked figures of them.
 #![tactic(auto)]
 
-pub mod build;
-mod disk;
-pub mod image;
-pub mod layout;
-pub mod line_laws;
 mod step_figures;
 mod withdraw_figures;
 
-ghost use Rattle.store_spec.specs.Figures.{ExampleHomes, ExampleSizes, ExampleLayout, ExampleImage, ExampleLines};
+ghost use Rattle.store_spec.specs.Figures.{ExampleHomes, ExampleSizes, ExamplePlaces, ExampleLayout, ExampleImage, ExampleLines};
 
-pub use disk::{torn_again, torn_range, written_range};
 pub use step_figures::{example_claims, example_outcome, example_race};
 pub use withdraw_figures::{example_finding, example_stale_candidate, example_withdrawal};
 
@@ -23,6 +17,11 @@ pub fn example_homes()
 /// The sizes of the example election's store.
 pub fn example_sizes()
     ensures { ExampleSizes }
+{}
+
+/// Where the parts of the example election's medium stand.
+pub fn example_places()
+    ensures { ExamplePlaces }
 {}
 
 /// Where three numbers stand under the example election.

@@ -4,8 +4,8 @@ use Rattle.layout_def.proofs.build.Goals as goal
 use Rattle.std.proofs.lemmas.List.{get_or-replicate, get_or_default, take_at}
 use Rattle.std.proofs.lemmas.List.Sorted.{IsNonDecreasingBy-from_sort}
 use Rattle.std.specs.List.Sorted.{IsPermutation}
-use Rattle.store_spec.proofs.Ascending.{ascending-IsPermutation}
-use Rattle.store_spec.proofs.LaidOut.{room-IsPermutation}
+use Rattle.layout_def.proofs.Ascending.{ascending-IsPermutation}
+use Rattle.layout_def.proofs.LaidOut.{room-IsPermutation}
 use Rattle.store_spec.specs.Layout.{HasRoom, ascending, layout_of, laid_out}
 
 pub place_all-requires-clause-rising : goal.place_all-requires-clause-rising

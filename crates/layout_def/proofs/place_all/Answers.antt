@@ -2,7 +2,7 @@ use Rattle.std.proofs.Common.{◌≡◌, ◌≢◌, ℕ, length, drop, subst, ap
 use Rattle.layout_def.proofs.Skips.{sound_filled}
 use Rattle.layout_def.proofs.Taken.{taken, finds, goes}
 use Rattle.layout_def.proofs.place_all.Goals as goal
-use Rattle.store_spec.proofs.LaidOut.{layout_of_rising}
+use Rattle.layout_def.proofs.LaidOut.{layout_of_rising}
 use Rattle.store_spec.specs.Layout.{laid_out}
 use Rattle.store_spec.specs.Probe.{IsFirstEmpty}
 

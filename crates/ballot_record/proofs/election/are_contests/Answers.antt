@@ -3,7 +3,7 @@ use Rattle.std.proofs.lemmas.List.{length-map}
 use Rattle.std.proofs.lemmas.List.Elements.{All-map}
 use Rattle.ballot_record.proofs.Counts.{All-unmap}
 use Rattle.ballot_record.specs.Contest.{contest_of}
-use Rattle.store_spec.specs.Election.{IsContest}
+use Rattle.store_spec.specs.Election.{IsContestUpTo}
 use Rattle.ballot_record.proofs.election.are_contests.Goals as goal
 
 pub returns-then-count-le-MAX_CONTESTS : goal.returns-then-count-le-MAX_CONTESTS
@@ -13,7 +13,7 @@ returns-then-count-le-MAX_CONTESTS c =
       λ yes. record {
         some = omega (arith, same);
         few = omega (arith, same);
-        each = All-map IsContest contest_of contests (c.each_is_valid.ensures.0 yes);
+        each = All-map (IsContestUpTo 32) contest_of contests (c.each_is_valid.ensures.0 yes);
       },
-      λ are. c.each_is_valid.ensures.1 (All-unmap contest_of IsContest contests are.each),
+      λ are. c.each_is_valid.ensures.1 (All-unmap contest_of (IsContestUpTo 32) contests are.each),
     )

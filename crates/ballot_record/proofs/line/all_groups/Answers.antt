@@ -1,5 +1,5 @@
 use Rattle.std.proofs.Common.{◌≡◌, List, ℕ, [], ◌∷◌, ◌+◌, ◌++◌, Option, None, option_map, refl, sym, ap, arith, length-append}
-use Rattle.store_spec.proofs.LineReading.{groups_of}
+use Rattle.ballot_record.specs.LineReading.{groups_of}
 use Rattle.ballot_record.specs.Line.{sets_seen}
 use Rattle.ballot_record.proofs.LineMarks.{group_read, no_groups_yet, no_group, last_group, no_slash, next_group, no_more_groups, set_written, sets_at_end}
 use Rattle.ballot_record.proofs.line.all_groups.Goals as goal

@@ -1,5 +1,5 @@
 use Rattle.std.proofs.Common.{◌≡◌, List, ℕ}
-use Rattle.store_spec.proofs.LineReading.{groups_of}
+use Rattle.ballot_record.specs.LineReading.{groups_of}
 use Rattle.ballot_record.proofs.LineMarks.{IsSoFar, sets_kept}
 use Rattle.ballot_record.proofs.line.all_groups.Given as goal
 

@@ -1,5 +1,5 @@
 use Rattle.std.proofs.Common.{sym, arith}
-use Rattle.store_spec.proofs.LineNumbers.{number_takes}
+use Rattle.ballot_record.proofs.LineNumbers.{number_takes}
 use Rattle.ballot_record.proofs.line.parts.Goals as goal
 
 pub overflow_cast-record : goal.overflow_cast-record

@@ -6,21 +6,21 @@ use Rattle.ballot_record.proofs.line.read_line.Goals as goal
 use Rattle.ballot_record.proofs.line.read_line.Goals.{then-groups-contests-via-then-groups-contests, then-groups-contests-via-else-groups-contests+then-not-valid}
 
 pub returns-in_default-clause-malformed : goal.returns-in_default-clause-malformed
-returns-in_default-clause-malformed c = (λ _. not_a_line c.args.line.now c.in_default.ensures, λ _. refl)
+returns-in_default-clause-malformed c = (λ _. not_a_line c.args.election.now c.args.line.now c.in_default.ensures, λ _. refl)
 
 pub returns-in_default-clause-invalid : goal.returns-in_default-clause-invalid
-returns-in_default-clause-invalid c = (λ wrong. absurd cc, λ invalid. absurd (not_a_line c.args.line.now c.in_default.ensures invalid.0))
+returns-in_default-clause-invalid c = (λ wrong. absurd cc, λ invalid. absurd (not_a_line c.args.election.now c.args.line.now c.in_default.ensures invalid.0))
 
 pub returns-then-groups-contests-clause-malformed : goal.returns-then-groups-contests-clause-malformed
 returns-then-groups-contests-clause-malformed c =
-    let read = line_read c.args.line.now (ballot c.in-Some.record) c.in-Some.groups c.in-Some.ensures in
+    let read = line_read c.args.election.now c.args.line.now (ballot c.in-Some.record) c.in-Some.groups c.in-Some.ensures in
     (λ wrong. absurd cc, λ none. absurd (none (read.line, read.reads)))
 
 pub returns-then-groups-contests-clause-invalid : goal.returns-then-groups-contests-clause-invalid
 returns-then-groups-contests-clause-invalid c =
     let e = c.args.election.now in
     let b = ballot c.in-Some.record in
-    let read = line_read c.args.line.now b c.in-Some.groups c.in-Some.ensures in (
+    let read = line_read c.args.election.now c.args.line.now b c.in-Some.groups c.in-Some.ensures in (
       λ _. (
         (read.line, read.reads),
         elim c.then-groups-contests.branch [
@@ -36,18 +36,18 @@ returns-then-groups-contests-clause-invalid c =
 pub returns-clause-read : goal.returns-clause-read
 returns-clause-read c =
     let b = ballot c.in-Some.record in
-    let read = line_read c.args.line.now b c.in-Some.groups c.in-Some.ensures in
+    let read = line_read c.args.election.now c.args.line.now b c.in-Some.groups c.in-Some.ensures in
     spells c.args.election.now c.args.line.now b c.in-Some.groups read (c.if-groups-contests.false ∙ c.contests.ensures.count) (c.if-not-valid.ensures.0 refl)
 
 pub returns-clause-malformed : goal.returns-clause-malformed
 returns-clause-malformed c =
-    let read = line_read c.args.line.now (ballot c.in-Some.record) c.in-Some.groups c.in-Some.ensures in
+    let read = line_read c.args.election.now c.args.line.now (ballot c.in-Some.record) c.in-Some.groups c.in-Some.ensures in
     (λ wrong. absurd cc, λ none. absurd (none (read.line, read.reads)))
 
 pub returns-clause-invalid : goal.returns-clause-invalid
 returns-clause-invalid c =
     let b = ballot c.in-Some.record in
-    let read = line_read c.args.line.now b c.in-Some.groups c.in-Some.ensures in (
+    let read = line_read c.args.election.now c.args.line.now b c.in-Some.groups c.in-Some.ensures in (
       λ wrong. absurd cc,
       λ invalid. absurd (invalid.1 (b, spells c.args.election.now c.args.line.now b c.in-Some.groups read (c.if-groups-contests.false ∙ c.contests.ensures.count) (c.if-not-valid.ensures.0 refl))),
     )

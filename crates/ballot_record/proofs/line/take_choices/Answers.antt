@@ -1,6 +1,6 @@
 use Rattle.std.proofs.Common.{sym, ap, ◌∙◌, arith, option_map}
 use Rattle.ballot_record.proofs.LineSets.{after_set, after_no_set, no_choices, falls_to_none, within_32, set_grows, choice_goes_on, choice_ends}
-use Rattle.store_spec.proofs.LineReading.{choices_at}
+use Rattle.ballot_record.specs.LineReading.{choices_at}
 use Rattle.ballot_record.proofs.line.take_choices.Goals as goal
 
 pub loop-choice-init : goal.loop-choice-init

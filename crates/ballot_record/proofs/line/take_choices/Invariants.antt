@@ -1,5 +1,5 @@
 use Rattle.std.proofs.Common.{◌≡◌, ℕ, ◌+◌, ◌-◌, ◌^◌, ◌<◌, ◌≤◌, option_map}
-use Rattle.store_spec.proofs.LineReading.{choices_at}
+use Rattle.ballot_record.specs.LineReading.{choices_at}
 use Rattle.ballot_record.specs.Line.{set_seen}
 use Rattle.ballot_record.proofs.LineSets.{after_set}
 use Rattle.ballot_record.proofs.line.take_choices.Given as goal

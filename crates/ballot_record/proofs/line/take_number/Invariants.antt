@@ -1,5 +1,5 @@
 use Rattle.std.proofs.Common.{◌≡◌, length}
-use Rattle.store_spec.proofs.LineReading.{digits_at}
+use Rattle.ballot_record.specs.LineReading.{digits_at}
 use Rattle.ballot_record.proofs.line.take_number.Given as goal
 
 -- what is left goes on with the value so far as the whole does with none

@@ -1,6 +1,6 @@
 use Rattle.std.proofs.Common.{◌≡◌, ◌+◌, ◌-◌, ◌≤◌, length}
-use Rattle.outside_io.specs.Lines.{IfTold}
-use Rattle.ballot_store_cli.specs.ElectionText.{ELECTION_LIMIT}
+use Rattle.outside_io.specs.Told.{IfTold}
+use Rattle.ballot_store_cli.specs.ElectionText.{election_limit}
 use Rattle.ballot_store_cli.proofs.Texts.{HasTaken}
 use Rattle.ballot_store_cli.proofs.election.read_text.Given as goal
 
@@ -8,11 +8,11 @@ use Rattle.ballot_store_cli.proofs.election.read_text.Given as goal
 abbrev pub invariant-pieces : goal.invariant-pieces
 invariant-pieces g l = record {
   text : IfTold (g.E.Source.left l.initial.source) (g.E.Source.left l.source) (λ whole left. HasTaken l.text.items whole left);
-  few : length l.text.items ≤ ELECTION_LIMIT + 1;
+  few : length l.text.items ≤ election_limit + 1;
   size : l.piece.len ≡ 65536;
-  faults : g.E.Source.faults l.initial.source ≤ g.E.Source.faults l.source;
+  faults : g.E.Source.faults l.source ≡ g.E.Source.faults l.initial.source;
 }
 
 -- each piece has a byte or more
 abbrev pub decreases-pieces : goal.decreases-pieces
-decreases-pieces g l = ELECTION_LIMIT + 1 - length l.text.items
+decreases-pieces g l = election_limit + 1 - length l.text.items

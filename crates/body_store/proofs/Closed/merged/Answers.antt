@@ -1,7 +1,7 @@
 use Rattle.std.proofs.Common.{◌≡◌, ◌++◌, List, subst, sym, ap, ◌∙◌, rules}
 use Rattle.ballot_record.specs.Record.{ballot}
 use Rattle.body_store.proofs.BallotSets.{stored_in_order}
-use Rattle.store_spec.proofs.Images.{cells_of-IsPermutation}
+use Rattle.body_store.proofs.BallotSets.{cells_of-IsPermutation}
 use Rattle.body_store.proofs.Closed.merged.Goals as goal
 use Rattle.body_store.proofs.Numbers.{numbers_rise}
 use Rattle.body_store.specs.Contents.{Contents, ballots_of}
@@ -29,10 +29,10 @@ returns-clause-stored c =
     numbers_rise sorted (IsNonDecreasingBy-from_sort_by_key (λ r. r.number) sorted c.sort_unstable_by_key.ensures.sorted (λ a r q k. search rules)) in
     let election : IsElection c.args.election.now =
     subst (λ (e : Election). IsElection e) (ap (λ (store : Contents). store.election) c.self.view_is ∙ sym c.requires.own) c.self.invariant.stored.election in
-    stored_in_order c.args.election.now _ _ election c.requires.set (returns-clause-union c) rising
+    stored_in_order c.args.election.now _ _ election c.requires.listing c.requires.within_limit (returns-clause-union c) rising
 
 pub invariant_of-result : goal.invariant_of-result
 invariant_of-result c = record {
   stored = returns-clause-stored c;
-  cells = c.requires.layout ∙ sym (cells_of-IsPermutation c.args.election.now _ _ (returns-clause-union c));
+  cells = c.requires.layout ∙ cells_of-IsPermutation c.args.election.now _ _ (returns-clause-union c);
 }

@@ -10,13 +10,13 @@ use Rattle.store_spec.specs.Layout.{layout_of}
 pub build-requires-clause-distinct : goal.build-requires-clause-distinct
 build-requires-clause-distinct c =
     let same : c.deref.result.now ≡ numbers_of (ballots_of c.args.records.now) = search rules in
-    let room = has_room c.args.election.now _ c.bits.ensures.valid c.requires in
+    let room = has_room c.args.election.now _ c.bits.ensures.valid (record { listing = c.requires.listing; within_limit = c.requires.within_limit }) in
     subst (λ (ns : List ℕ). AllPairs (λ a b. a ≢ b) ns) (sym same) room.distinct
 
 pub build-requires-clause-some : goal.build-requires-clause-some
 build-requires-clause-some c =
     let same : c.deref.result.now ≡ numbers_of (ballots_of c.args.records.now) = search rules in
-    let room = has_room c.args.election.now _ c.bits.ensures.valid c.requires in
+    let room = has_room c.args.election.now _ c.bits.ensures.valid (record { listing = c.requires.listing; within_limit = c.requires.within_limit }) in
     subst (λ (ns : List ℕ). All (λ v. v ≢ 0) ns) (sym same) room.some
 
 pub returns-clause-cells : goal.returns-clause-cells

@@ -1,7 +1,7 @@
 use Rattle.std.proofs.Common.{◌≡◌, ◌<◌, ◌≤◌, ⊎_elim, Some, get_or, length, sym, ap, ◌∙◌, arith, rules}
 use Rattle.body_store.proofs.Lookups.{ballot_found, ballot_missing, cmp_equal, cmp_less, cmp_greater, cmp_rises}
 use Rattle.body_store.proofs.Numbers.{no_record, rise_from_ascending}
-use Rattle.store_spec.proofs.BallotNumbers.{no_ballot}
+use Rattle.ballot_record.proofs.BallotNumbers.{no_ballot}
 use Rattle.body_store.proofs.records.with_number.Goals as goal
 use Rattle.body_store.specs.Contents.{ballots_of}
 use Rattle.ballot_record.specs.Record.{ballot}

@@ -1,9 +1,9 @@
-use Rattle.std.proofs.Common.{◌≡◌, ◌^◌, ◌<◌, List, All, map, sym, subst, ap, ◌∙◌, arith}
-use Rattle.body_store.proofs.Blank.{blank_record, blank_set, ballots_of-blank}
+use Rattle.std.proofs.Common.{◌≡◌, ◌^◌, ◌<◌, List, All, length, map, sym, subst, ap, ◌∙◌, arith}
+use Rattle.body_store.proofs.Blank.{blank, blank_record, blank_listing, ballots_of-blank}
 use Rattle.body_store.proofs.tests.blanks.Goals as goal
 use Rattle.body_store.specs.Contents.{ballots_of}
-use Rattle.std.proofs.lemmas.List.{get_or_default, take_all}
-use Rattle.store_spec.specs.Ballot.{Ballot, IsBallotSet}
+use Rattle.std.proofs.lemmas.List.{get_or_default, length-map, take_all}
+use Rattle.store_spec.specs.Ballot.{Ballot, IsListing}
 use Rattle.store_spec.specs.Election.{example}
 
 pub returns-clause-blank : goal.returns-clause-blank
@@ -12,10 +12,15 @@ returns-clause-blank c =
     c.loop-number.invariant ∙ ap (map blank_record) (take_all _ c.args.numbers.now (omega arith)) in
     ap ballots_of each ∙ ballots_of-blank c.args.numbers.now
 
-pub returns-clause-set : goal.returns-clause-set
-returns-clause-set c =
+pub returns-clause-within_limit : goal.returns-clause-within_limit
+returns-clause-within_limit c =
+    let size = length-map c.args.numbers.now blank in
+    omega (arith, ap length (returns-clause-blank c))
+
+pub returns-clause-listing : goal.returns-clause-listing
+returns-clause-listing c =
     let numbers = c.args.numbers.now in
     let short : All (λ n. n < 2 ^ 64) numbers = λ k d lt.
     let fits = c.type_inv.numbers k in let same = get_or_default numbers k 0 d lt in omega arith in
-    subst (λ (bs : List Ballot). IsBallotSet example bs) (sym (returns-clause-blank c))
-    (blank_set numbers c.requires.some short c.requires.distinct c.requires.few)
+    subst (λ (bs : List Ballot). IsListing example bs) (sym (returns-clause-blank c))
+    (blank_listing numbers c.requires.some short c.requires.distinct)

@@ -1,5 +1,5 @@
 use Rattle.std.proofs.Common.{◌≡◌, List, [], ◌∷◌, map, ap, ◌∙◌, subst, rules}
-use Rattle.body_store.proofs.BallotSets.{same_in_order}
+use Rattle.ballot_record.proofs.BallotSets.{same_in_order}
 use Rattle.body_store.proofs.Blank.{blank, blanks_rise}
 use Rattle.body_store.proofs.tests.one_less.Goals as goal
 use Rattle.body_store.specs.Contents.{IsStored, ballots_of, ballots_without}
@@ -16,7 +16,7 @@ without-requires-clause-layout g c =
     let moved : IsPermutation (ballots_of c.expect-three.result.items) c.expect-store.result.ballots = search rules in
     let stored : IsStored c.expect-store.result = search rules in
     let held : three ≡ c.expect-store.result.ballots =
-    same_in_order three c.expect-store.result.ballots (blanks_rise (1 ∷ 9 ∷ 14 ∷ []) (search rules)) stored.ascending
+    same_in_order three c.expect-store.result.ballots (blanks_rise (1 ∷ 9 ∷ 14 ∷ []) (search rules)) stored.set.ascending
     (subst (λ (bs : List Ballot). IsPermutation bs c.expect-store.result.ballots) were moved) in
     let laid : c.expect-cells.result.items ≡ cells_of e (ballots_of c.expect-two.result.items) = search rules in
     let two : ballots_of c.expect-two.result.items ≡ map blank (1 ∷ 14 ∷ []) = search rules in

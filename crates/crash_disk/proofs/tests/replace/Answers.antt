@@ -1,5 +1,5 @@
 use Rattle.std.proofs.Common.{length, arith}
-use Rattle.store_spec.proofs.DiskMoments.{started, goes_on_write, goes_on_same, settled-torn}
+use Rattle.crash_disk.proofs.Moments.{started, goes_on_write, goes_on_same, settled-torn}
 use Rattle.store_spec.specs.Disk.{IsTorn}
 use Rattle.crash_disk.proofs.tests.replace.Goals as goal
 
@@ -11,7 +11,7 @@ returns-in_err-write_at-clause-any_moment g c old sees =
     let n = length c.args.bytes.now in
     let disk = c.args.disk.now in
     let untorn = settled-torn calls leaves g.D.Disk.seen at n disk old c.requires.settled sees in
-    goes_on_write calls leaves at n at n old disk disk c.write_at.new.self (IsTorn at n old) (started calls leaves disk (IsTorn at n old) untorn) untorn (omega arith) (omega arith) c.write_at.ensures.images (λ _ torn. torn)
+    goes_on_write calls leaves at n at n old disk disk c.write_at.new.self (IsTorn at n old) (started calls leaves disk (IsTorn at n old) untorn) untorn (omega arith) (omega arith) c.write_at.ensures.crash_images (λ _ torn. torn)
 
 pub returns-clause-any_moment : goal.returns-clause-any_moment
 returns-clause-any_moment g c old sees =
@@ -21,5 +21,5 @@ returns-clause-any_moment g c old sees =
     let n = length c.args.bytes.now in
     let disk = c.args.disk.now in
     let untorn = settled-torn calls leaves g.D.Disk.seen at n disk old c.requires.settled sees in
-    let written = goes_on_write calls leaves at n at n old disk disk c.write_at.new.self (IsTorn at n old) (started calls leaves disk (IsTorn at n old) untorn) untorn (omega arith) (omega arith) c.write_at.ensures.images (λ _ torn. torn) in
-    goes_on_same calls leaves disk c.write_at.new.self c.sync.new.self (IsTorn at n old) written c.sync.ensures.images
+    let written = goes_on_write calls leaves at n at n old disk disk c.write_at.new.self (IsTorn at n old) (started calls leaves disk (IsTorn at n old) untorn) untorn (omega arith) (omega arith) c.write_at.ensures.crash_images (λ _ torn. torn) in
+    goes_on_same calls leaves disk c.write_at.new.self c.sync.new.self (IsTorn at n old) written c.sync.ensures.crash_images

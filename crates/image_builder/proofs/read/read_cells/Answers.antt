@@ -4,14 +4,16 @@ use Rattle.std.proofs.lemmas.List.{length-map, map_push}
 use Rattle.ballot_record.specs.Record.{ballot}
 use Rattle.ballot_record.specs.declared.record.Record.{Record}
 use Rattle.body_store.specs.Contents.{ballots_of}
-use Rattle.image_builder.proofs.Reading.{AreRead, cell_at, home_in, set_read}
+use Rattle.image_builder.proofs.Reading.{AreRead, listing_read}
+use Rattle.store_spec.specs.Home.{home_in}
 use Rattle.image_builder.proofs.Reaches.{reach_as, reaches_as, reaches_empty, reaches_more, reaches_none}
 use Rattle.image_builder.proofs.Steps.{ballot_read, empty_read, nothing_read}
 use Rattle.image_builder.proofs.Wrong.{bad_bytes, first_wrong, misplaced, read_as, stands_at, stands_behind, too_many, whole_bank}
 use Rattle.image_builder.proofs.read.read_cells.Goals as goal
 use Rattle.image_builder.proofs.read.read_cells.Goals.{in-Empty+in_ok-push-in-Empty+in_ok-push-in-Empty-2, in-Held+else-len-limit+in-Some+in_ok-push-in-Held+in_ok-push-in-Held-2+in_ok-push-in-Held-3}
 use Rattle.store_spec.specs.Ballot.{Ballot, IsValid}
-use Rattle.store_spec.specs.Election.{cell_count, cell_size}
+use Rattle.store_spec.specs.Damage.{cell_at}
+use Rattle.store_spec.specs.Election.{Election, cell_count, cell_size}
 use Rattle.store_spec.specs.Image.{ballot_bytes}
 use Rattle.store_spec.specs.Layout.{MayStand}
 
@@ -24,8 +26,8 @@ loop-place-init c = record {
 pub reach_of-requires : goal.reach_of-requires
 reach_of-requires c = reaches_as _ _ _ _ c.loop-place.invariant.reaches c.deref.ensures.value c.deref-in-Held.ensures.value
 
-pub returns-in-Bad : goal.returns-in-Bad
-returns-in-Bad c =
+pub returns-in-Bad-clause-refused : goal.returns-in-Bad-clause-refused
+returns-in-Bad-clause-refused c =
     let e = c.args.election.now in
     let bank = c.args.bank.now in
     let l = c.loop-place in
@@ -41,8 +43,8 @@ returns-in-Bad c =
           (subst (λ (bytes : List ℕ). (b : Ballot) → IsValid e b → bytes ≢ ballot_bytes e b) (sym cell) (λ b valid is. bad.1 b (valid, is)))),
     )
 
-pub returns-then-len-limit : goal.returns-then-len-limit
-returns-then-len-limit c =
+pub returns-then-len-limit-clause-refused : goal.returns-then-len-limit-clause-refused
+returns-then-len-limit-clause-refused c =
     let e = c.args.election.now in
     let bank = c.args.bank.now in
     let l = c.loop-place in
@@ -58,8 +60,8 @@ returns-then-len-limit c =
           (too_many e bank l.place l.numbers.items ballots b election lt l.invariant.read held.0 is full),
     )
 
-pub returns-in_default : goal.returns-in_default
-returns-in_default c =
+pub returns-in_default-clause-refused : goal.returns-in_default-clause-refused
+returns-in_default-clause-refused c =
     let e = c.args.election.now in
     let bank = c.args.bank.now in
     let l = c.loop-place in
@@ -115,6 +117,9 @@ loop-place-preserved c =
           }
     ]
 
+all_read : (e : Election) (bank : List ℕ) (place : ℕ) (numbers : List ℕ) (ballots : List Ballot) → place ≡ cell_count e → AreRead e bank place numbers ballots → AreRead e bank (cell_count e) numbers ballots
+all_read e bank place numbers ballots all read = subst (λ (p : ℕ). AreRead e bank p numbers ballots) all read
+
 pub returns : goal.returns
 returns c =
     let e = c.args.election.now in
@@ -122,5 +127,11 @@ returns c =
     let l = c.loop-place in
     let ballots = ballots_of l.records.items in
     let all : l.place ≡ cell_count e = omega (arith, c.loop-place-test.false, c.loop-place.auto.place-end, c.cells-place-end.ensures.count) in
-    let read : AreRead e bank (cell_count e) l.numbers.items ballots = subst (λ (p : ℕ). AreRead e bank p l.numbers.items ballots) all l.invariant.read in
-    (set_read e bank (cell_count e) l.numbers.items ballots read, whole_bank e bank l.numbers.items ballots c.limit-limit.ensures.valid c.requires.long c.requires.header read)
+    let read = all_read e bank l.place l.numbers.items ballots all l.invariant.read in
+    let held = listing_read e bank (cell_count e) l.numbers.items ballots read in
+    record {
+      listing = held.listing;
+      within_limit = held.within_limit;
+      image = whole_bank e bank l.numbers.items ballots c.limit-limit.ensures.valid c.requires.long c.requires.header read;
+      refused = tt;
+    }

@@ -1,7 +1,8 @@
 use Rattle.std.proofs.Common.{◌≡◌, length, drop, ◌∙◌, arith}
 use Rattle.std.proofs.lemmas.List.{take_all, take_at}
 use Rattle.std.proofs.lemmas.List.Sorted.{IsPermutation-sym}
-use Rattle.store_spec.proofs.Images.{image_of-IsPermutation}
+use Rattle.ballot_record.proofs.BallotSets.{listing_from_set}
+use Rattle.image_builder.proofs.Listings.{image_of-IsPermutation}
 use Rattle.image_builder.proofs.write.image.Goals as goal
 use Rattle.store_spec.specs.Election.{bank_size}
 use Rattle.store_spec.specs.Image.{image_of}
@@ -10,7 +11,7 @@ pub returns-clause-any_order : goal.returns-clause-any_order
 returns-clause-any_order c ballots order =
     let e = c.args.election.now in
     let own = c.args.closed.now.ballots in
-    let same = image_of-IsPermutation e own ballots c.image_part.ensures.stored.set.distinct (IsPermutation-sym ballots own order) in
+    let same = image_of-IsPermutation e own ballots (listing_from_set c.args.closed.now.election own c.image_part.ensures.stored.set).distinct (IsPermutation-sym ballots own order) in
     let bank = c.in_ok-bank.bank in
     let written = c.image_part.new.out in
     let now = c.deref_mut.result.now in

@@ -3,7 +3,7 @@ use Rattle.std.proofs.lemmas.List.{length-append, length-take-le, length-drop}
 use borrow.Rule.Slice.PartMut.{post_of}
 use Rattle.image_builder.proofs.Images.{length-image_of, written_more}
 use Rattle.image_builder.proofs.write.image_part.Goals as goal
-use Rattle.store_spec.specs.Ballot.{IsBallotSet}
+use Rattle.body_store.proofs.BallotSets.{MayHold, may_hold_set}
 use Rattle.store_spec.specs.Election.{Election, IsElection}
 use Rattle.store_spec.specs.Image.{cells_of, image_of}
 
@@ -17,9 +17,9 @@ loop-done-preserved c =
     let piece = c.put_piece-done in
     let long : length piece.new.out ≡ length l.out - l.done = piece.auto.out ∙ length-take-le (length l.out - l.done) (drop l.done l.out) (omega (arith, length-drop l.done l.out)) in
     record {
-      within = omega (arith, long, piece.ensures.few, length-append (take l.done l.out) (piece.new.out ++ post_of l.done (length l.out - l.done) l.out), length-append piece.new.out (post_of l.done (length l.out - l.done) l.out), length-take-le l.done l.out l.invariant.within);
+      within = omega (arith, long, piece.ensures.within_room, length-append (take l.done l.out) (piece.new.out ++ post_of l.done (length l.out - l.done) l.out), length-append piece.new.out (post_of l.done (length l.out - l.done) l.out), length-take-le l.done l.out l.invariant.within);
       written = written_more l.out piece.new.out (image_of c.args.election.now c.args.closed.now.ballots) c.args.from l.done piece.result (length l.out - l.done) l.invariant.within
-          (omega (arith, long, piece.ensures.few)) l.invariant.written piece.ensures.bytes;
+          (omega (arith, long, piece.ensures.within_room)) l.invariant.written piece.ensures.bytes;
     }
 
 pub returns-clause-whole : goal.returns-clause-whole
@@ -28,4 +28,4 @@ returns-clause-whole c =
     let ballots = c.args.closed.now.ballots in
     let stored = c.cells-cells.ensures.stored in
     let own = sym c.requires.own in
-    length-image_of e ballots (subst (λ (e : Election). IsElection e) own stored.election) (subst (λ (e : Election). IsBallotSet e ballots) own stored.set)
+    length-image_of e ballots (subst (λ (e : Election). IsElection e) own stored.election) (subst (λ (e : Election). MayHold e ballots) own (may_hold_set c.args.closed.now.election ballots stored.set stored.within_limit))

@@ -1,7 +1,7 @@
 use Rattle.std.proofs.Common.{◌≡◌, Some, option_map, sym, subst, ap, ◌∙◌}
 use Rattle.std.proofs.lemmas.List.Elements.{All-contains}
 use Rattle.ballot_record.specs.Record.{ballot}
-use Rattle.store_spec.proofs.Lookups.{found_in}
+use Rattle.ballot_record.proofs.Lookups.{found_in}
 use Rattle.image_builder.proofs.write.put_cell.Goals as goal
 use Rattle.store_spec.specs.Ballot.{IsValid, ballot_of}
 use Rattle.store_spec.specs.Election.{Election}

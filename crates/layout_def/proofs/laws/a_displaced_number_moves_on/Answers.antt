@@ -1,5 +1,5 @@
 use Rattle.layout_def.proofs.laws.a_displaced_number_moves_on.Goals as goal
-use Rattle.store_spec.proofs.Displaced.{displaced_stands_on}
+use Rattle.layout_def.proofs.Displaced.{displaced_stands_on}
 
 pub returns : goal.returns
 returns c = displaced_stands_on

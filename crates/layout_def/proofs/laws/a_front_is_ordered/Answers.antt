@@ -1,5 +1,5 @@
 use Rattle.layout_def.proofs.laws.a_front_is_ordered.Goals as goal
-use Rattle.store_spec.proofs.Fronts.{ordered_front}
+use Rattle.layout_def.proofs.Fronts.{ordered_front}
 
 pub returns : goal.returns
 returns c = ordered_front

@@ -1,5 +1,5 @@
 use Rattle.layout_def.proofs.laws.a_number_passes_a_greater_one.Goals as goal
-use Rattle.store_spec.proofs.Displaced.{passes_greater}
+use Rattle.layout_def.proofs.Displaced.{passes_greater}
 
 pub returns : goal.returns
 returns c = passes_greater

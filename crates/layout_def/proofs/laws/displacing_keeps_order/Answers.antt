@@ -1,5 +1,5 @@
 use Rattle.layout_def.proofs.laws.displacing_keeps_order.Goals as goal
-use Rattle.store_spec.proofs.Displaced.{displaced_ordered}
+use Rattle.layout_def.proofs.Displaced.{displaced_ordered}
 
 pub returns : goal.returns
 returns c = displaced_ordered

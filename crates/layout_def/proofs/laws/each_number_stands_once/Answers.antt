@@ -1,5 +1,5 @@
 use Rattle.layout_def.proofs.laws.each_number_stands_once.Goals as goal
-use Rattle.store_spec.proofs.Fronts.{distinct_in}
+use Rattle.layout_def.proofs.Fronts.{distinct_in}
 
 pub returns : goal.returns
 returns c = distinct_in

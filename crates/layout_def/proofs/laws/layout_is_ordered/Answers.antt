@@ -1,5 +1,5 @@
 use Rattle.layout_def.proofs.laws.layout_is_ordered.Goals as goal
-use Rattle.store_spec.proofs.LaidOut.{layout_of_is}
+use Rattle.layout_def.proofs.LaidOut.{layout_of_is}
 
 pub returns : goal.returns
 returns c = layout_of_is

@@ -1,5 +1,5 @@
 use Rattle.layout_def.proofs.laws.numbers_determine_ordered_cells.Goals as goal
-use Rattle.store_spec.proofs.OrderedCells.{same_cells}
+use Rattle.layout_def.proofs.OrderedCells.{same_cells}
 
 pub returns : goal.returns
 returns c = same_cells

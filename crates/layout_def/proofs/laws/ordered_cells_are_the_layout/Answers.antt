@@ -1,5 +1,5 @@
 use Rattle.layout_def.proofs.laws.ordered_cells_are_the_layout.Goals as goal
-use Rattle.store_spec.proofs.LaidOut.{ordered_is_layout_of}
+use Rattle.layout_def.proofs.LaidOut.{ordered_is_layout_of}
 
 pub returns : goal.returns
 returns c = ordered_is_layout_of

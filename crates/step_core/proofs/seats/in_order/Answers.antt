@@ -1,7 +1,7 @@
 use Rattle.std.proofs.Common.{sym, ap, ◌∙◌}
 use Rattle.std.proofs.lemmas.List.Sorted.{IsNonDecreasingBy-from_sort}
 use Rattle.step_core.proofs.seats.in_order.Goals as goal
-use Rattle.store_spec.proofs.Ascending.{ascending-IsPermutation, ascending_rising}
+use Rattle.layout_def.proofs.Ascending.{ascending-IsPermutation, ascending_rising}
 use Rattle.store_spec.specs.Layout.{ascending}
 
 pub returns-clause-ascending : goal.returns-clause-ascending

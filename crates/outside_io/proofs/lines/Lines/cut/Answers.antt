@@ -2,7 +2,7 @@ use Rattle.std.proofs.Common.{◌≡◌, ◌+◌, ◌-◌, ◌≤◌, ◌<◌, l
 use Rattle.std.proofs.lemmas.Bool.{cases_lt}
 use Rattle.std.proofs.lemmas.List.{length-take-le, take_all}
 use Rattle.std.specs.Prelude.{slice_range}
-use Rattle.store_spec.specs.Input.{LINE_LIMIT, first_width, IsTooLong}
+use Rattle.store_spec.specs.Input.{line_limit, first_width, IsTooLong}
 use Rattle.outside_io.specs.Lines.{IsAnswerFor, CutsOff, StaysSame}
 use Rattle.outside_io.specs.Window.{Kept, kept_of, window_of}
 use Rattle.outside_io.specs.declared.lines.NextLine.{NextLine}
@@ -33,7 +33,7 @@ returns-then-width-self-clause-finds c =
     let room : width < a.room = omega (arith, c.if-width-self.true) in
     let long : length line ≡ width = length-take-le (first_width text) text (omega (arith, m.text_length)) ∙ is in
     let kept_line = slice_range a.buffer.items a.start (a.start + size) in
-    let whole : width ≤ LINE_LIMIT → a.skipped ≡ 0 = λ few. elim (cases_lt 0 a.skipped) [
+    let whole : width ≤ line_limit → a.skipped ≡ 0 = λ few. elim (cases_lt 0 a.skipped) [
       | inl some ↦ absurd (omega (arith, c.self.invariant.wide some))
       | inr none ↦ omega arith
     ] in
@@ -42,7 +42,7 @@ returns-then-width-self-clause-finds c =
     subst P c.self.view_is (record {
       ends = omega (arith, m.text_length);
       within = omega arith;
-      answer = elim (cases_lt LINE_LIMIT width) [
+      answer = elim (cases_lt line_limit width) [
         | inl wide ↦ subst Q (sym (c.answer_for.ensures.too_wide wide)) (omega arith)
         | inr few ↦ subst Q (sym (c.answer_for.ensures.whole few)) (omega arith, line_cut a.buffer.items a.skipped a.start a.end size (first_width text) (whole few) (omega arith) is)
       ];

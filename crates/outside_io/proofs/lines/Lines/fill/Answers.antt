@@ -44,7 +44,7 @@ returns-in-Ok-clause-text g c =
     let grown : zeros ++ slice_range new.items a.start (a.end + count) ≡ c.make_space.new.self.text ++ piece =
     ap (λ window. zeros ++ window) (refilled_more a new.items count i.ordered same ∙ ap (λ bytes. window_of a ++ slice_range bytes a.end (a.end + count)) items)
     ∙ sym (append_assoc zeros (window_of a) piece) ∙ ap (λ front. front ++ piece) (sym mid) in
-    filled (g.S.Source.left c.args.source.now) (g.S.Source.left c.read_piece.new.source) c.args.self.now.text c.make_space.new.self.text _ piece c.requires.no_end c.make_space.ensures.no_end c.make_space.ensures.size c.make_space.ensures.narrow grown c.in-Ok.ensures.gives
+    filled c.args.self.now.text c.make_space.new.self.text _ piece c.requires.no_end c.make_space.ensures.no_end c.make_space.ensures.size c.make_space.ensures.narrow grown c.in-Ok.ensures.gives
 
 pub returns-in-Ok-clause-end : goal.returns-in-Ok-clause-end
 returns-in-Ok-clause-end g c = λ none.
@@ -72,7 +72,7 @@ returns-in-Err-clause-text g c =
     let zeros = replicate a.skipped 0 in
     let mid : c.make_space.new.self.text ≡ zeros ++ window_of a = ap (λ (kept : Kept). kept.text) (sym c.self.view_is) in
     let still : zeros ++ slice_range new.items a.start a.end ≡ c.make_space.new.self.text = ap (λ window. zeros ++ window) (refilled a new.items i.ordered same) ∙ sym mid in
-    not_filled (g.S.Source.left c.args.source.now) (g.S.Source.left c.read_piece.new.source) c.args.self.now.text c.make_space.new.self.text _ c.requires.no_end c.make_space.ensures.no_end c.make_space.ensures.size c.make_space.ensures.narrow still c.in-Err.ensures.unmoved
+    not_filled c.args.self.now.text c.make_space.new.self.text _ c.requires.no_end c.make_space.ensures.no_end c.make_space.ensures.size c.make_space.ensures.narrow still c.in-Err.ensures.unmoved
 
 pub returns-in-Err-clause-no_end : goal.returns-in-Err-clause-no_end
 returns-in-Err-clause-no_end g c =

@@ -2,7 +2,7 @@ use Rattle.std.proofs.Common.{◌≡◌, ◌≢◌, length, subst, sym, ap, ◌�
 use Rattle.std.proofs.lemmas.List.Sorted.{All-permutation, length_permutation}
 use Rattle.std.specs.List.{All, AllPairs, Contains}
 use Rattle.step_core.proofs.seats.Seats.new.Goals as goal
-use Rattle.store_spec.proofs.Ascending.{distinct-IsPermutation}
+use Rattle.layout_def.proofs.Ascending.{distinct-IsPermutation}
 
 pub find_places-requires-clause-as_many : goal.find_places-requires-clause-as_many
 find_places-requires-clause-as_many c =

@@ -1,0 +1,92 @@
+ghost use Rattle.std.specs.Prelude.{◌≡◌, []};
+ghost use Rattle.store_spec.specs.Ballot.{IsValid};
+ghost use Rattle.ballot_record.specs.Record.{ballot};
+ghost use Rattle.body_store.specs.Contents.{ballots_of};
+
+use ballot_record::{Election, LineFault, LineWhy, Record, read_line};
+use std::alloc::{AllocFailed, Global};
+use std::collections::BTreeMap;
+
+/// Why the ballot of a line was not taken.
+#[derive(Clone, Copy, Debug, PartialEq, Eq)]
+pub enum Refusal {
+    /// The line is bad.
+    Bad(LineWhy),
+    /// There was no memory.
+    Memory,
+}
+
+impl<T: Drop> From<AllocFailed<T>> for Refusal {
+    ghost use Rattle.std.specs.Prelude.{◌≡◌};
+    ghost use Rattle.ballot_store_cli.specs.declared.build.ballots.Refusal.TheVariants.{Memory};
+
+    ghost from_gives = { λ _ refusal. refusal ≡ Memory };
+
+    fn from(_: AllocFailed<T>) -> Self {
+        Refusal::Memory
+    }
+}
+
+/// The records of the lines so far, in the order of the lines, and each under its number.
+#[derive(Drop)]
+pub struct Ballots {
+    records: Vec<Record>,
+    index: BTreeMap<u64, Record>,
+}
+
+impl Ballots {
+    ghost use Rattle.ballot_store_cli.specs.Ballots.{Adds, Judges, IsSound, ballots_so_far};
+    ghost use Rattle.store_spec.specs.Election.{Election};
+
+    /// Those of no line.
+    pub fn new(alloc: Global) -> Ballots
+        ensures none { ballots_so_far result ≡ [] }
+        ensures sound { (e : Election) → IsSound e result }
+    {
+        Ballots {
+            records: Vec::new(alloc),
+            index: BTreeMap::new(alloc),
+        }
+    }
+
+    /// Judges the next line, and takes its ballot where there is no reason to refuse it.
+    pub fn judge(&mut self, line: &[u8], election: &Election) -> Result<(), Refusal>
+        requires { IsSound election.now self.old }
+        ensures { Judges result election.now line.now self.old self.new }
+    {
+        match read_line(line, election) {
+            Ok(record) => self.add(record, election),
+            Err(LineFault::Malformed) => Err(Refusal::Bad(LineWhy::Malformed)),
+            Err(LineFault::Invalid) => Err(Refusal::Bad(LineWhy::Invalid)),
+        }
+    }
+
+    fn add(&mut self, cast: Record, election: &Election) -> Result<(), Refusal>
+        requires sound { IsSound election.now self.old }
+        requires valid { IsValid election.now (ballot cast) }
+        ensures { Adds result election.now cast self.old self.new }
+    {
+        if let Some(held) = self.index.get(&cast.number) {
+            return Err(Refusal::Bad(if *held == cast {
+                LineWhy::Duplicate
+            } else {
+                LineWhy::Conflict
+            }));
+        }
+        if self.records.len() >= election.limit() as usize {
+            return Err(Refusal::Bad(LineWhy::Full));
+        }
+        self.index.insert(cast.number, cast)?;
+        self.records.push(cast)?;
+        Ok(())
+    }
+
+    /// The records, in the order of their lines.
+    pub fn into_records(self) -> Vec<Record>
+        ensures { ballots_of result.items ≡ ballots_so_far self }
+    {
+        let Ballots { records, index } = self;
+        drop(index);
+        records
+    }
+}

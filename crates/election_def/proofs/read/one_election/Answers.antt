@@ -1,5 +1,0 @@
-use Rattle.election_def.proofs.One.{one_election}
-use Rattle.election_def.proofs.read.one_election.Goals as goal
-
-pub returns : goal.returns
-returns c = one_election

@@ -1,0 +1,6 @@
+-- A count that stays at its last value.
+use Rattle.std.specs.Prelude.{ℕ}
+use Rattle.outside_io.specs.declared.count.Count.{Count}
+
+abbrev pub count_of : Count → ℕ
+count_of count = count.value

@@ -1,7 +1,0 @@
-use Rattle.std.proofs.Common.{ap, sym}
-use Rattle.store_spec.specs.Layout.{laid_out}
-use Rattle.store_spec.proofs.Ascending.{ascending-IsPermutation}
-use Rattle.store_spec.proofs.layout.any_listing.Goals as goal
-
-pub returns : goal.returns
-returns c home count xs ys p = ap (laid_out home count) (sym (ascending-IsPermutation xs ys p))
