@@ -3,8 +3,9 @@ use Rattle.std.proofs.Common.{◌≡◌, ◌≢◌, ℕ, zero, suc, ◌+◌, ◌
 use Rattle.std.proofs.lemmas.Bool.{cases_eq, cases_lt}
 use Rattle.std.proofs.lemmas.List.{get_or-set_other, get_or-set_same, length-set, length-replicate, length-drop, drop_more}
 use Rattle.std.proofs.lemmas.List.Elements.{All-contains, Contains-get_or}
+use Rattle.std.proofs.lemmas.List.Kept.{AllPairs-cons}
 use Rattle.std.proofs.lemmas.List.Sorted.{All-permutation, length_permutation}
-use Rattle.std.specs.List.{AllPairs}
+use Rattle.std.specs.List.{All, AllPairs}
 use Rattle.std.specs.List.Sorted.{IsPermutation, IsNonDecreasing}
 use Rattle.std.specs.Prelude.{slice_index}
 use Rattle.layout_def.proofs.Ascending.{IsIn, IsRising, in_ascending, from_ascending, in_from_contains, contains_from_in, length-ascending, ascending_distinct, ascending_rising, distinct-IsPermutation}
@@ -208,3 +209,10 @@ next_placed home count xs n p lt first =
 -- and numbers in order are laid out as they stand
 pub layout_of_rising : (home : ℕ → ℕ) (count : ℕ) (xs : List ℕ) → IsNonDecreasing xs → layout_of home count xs ≡ laid_out home count xs
 layout_of_rising home count xs up = ap (laid_out home count) (ascending_rising xs up)
+
+-- numbers that rise are each below all later ones
+pub ascending_from_rising : (xs : List ℕ) → IsRising xs → AllPairs (λ a b. a < b) xs
+ascending_from_rising [] h = λ i j d lt in_range. absurd (omega arith)
+ascending_from_rising (x ∷ xs) h =
+    let below : All (λ b. x < b) xs = λ k d in_range. h.0 _ (in_from_contains _ xs (Contains-get_or xs k d in_range)) in
+    AllPairs-cons (λ a b. a < b) x xs below (ascending_from_rising xs h.1)
