@@ -1,16 +1,15 @@
 //! One tabulator of a core: its list, the replies to the first numbers of it, and its steps.
 
-ghost use Rattle.std.specs.Prelude.{◌≡◌, ◌≢◌, ◌↔◌, ◌+◌, ◌^◌, ◌<◌, ◌≤◌, Contains, IfOk, IsTrue, MatchOption, length, slice_get, slice_index, slice_set};
+ghost use Rattle.std.specs.Prelude.{◌≡◌, ◌≢◌, ◌↔◌, ◌+◌, ◌^◌, ◌<◌, ◌≤◌, Contains, IfOk, IsTrue, MatchOption, length, slice_get};
 ghost use Rattle.std.specs.List.Sorted.{IsNonDecreasing};
-ghost use Rattle.step_core.specs.Act.{act_of};
 ghost use Rattle.step_core.specs.CastCore.{AnswersAtOnce, HasReplyRoom, KeepsList, MayStep, MayTell, NeedsStep, TabSteps, met_of, tab_of};
 ghost use Rattle.step_core.specs.CastTables.{note_of, state_of};
 ghost use Rattle.step_core.specs.Casting.{IsDone, answered, next_from, opened_tab, settled, told};
 ghost use Rattle.step_core.specs.Shape.{table_of};
-ghost use Rattle.store_spec.specs.Act.{left_by, word_of};
 ghost use Rattle.store_spec.specs.CastStep.CastState.{Rest};
 
-use crate::{Act, CastNote, CastState, Shape, Stepped, cast_act, cast_after};
+use crate::act::perform;
+use crate::{CastNote, CastState, Shape, Stepped, cast_act, cast_after};
 use outside_io::Memory;
 use std::alloc::Global;
 
@@ -154,30 +153,6 @@ fn contains(sorted: &[u64], number: u64) -> bool
     ensures { IsTrue result ↔ Contains sorted.now number }
 {
     sorted.binary_search(&number).is_ok()
-}
-
-/// Makes an act on shared words, and gives the word that it found.
-fn perform(words: &mut [u64], act: Act) -> u64
-    requires { word_of (act_of act) < length words.old }
-    ensures found { result ≡ slice_index words.old (word_of (act_of act)) }
-    ensures left { words.new ≡ slice_set words.old (word_of (act_of act)) (left_by (act_of act) result) }
-{
-    match act {
-        Act::Nothing => words[0],
-        Act::Load { word } => words[word],
-        Act::Swap { word, put } => {
-            let found = words[word];
-            words[word] = put;
-            found
-        }
-        Act::Trade { word, want, put } => {
-            let found = words[word];
-            if found == want {
-                words[word] = put;
-            }
-            found
-        }
-    }
 }
 
 /// One step of a tabulator on the shared words.

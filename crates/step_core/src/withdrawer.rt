@@ -1,16 +1,16 @@
 //! One withdrawer of a core: its list, the replies to the first numbers of it, and its steps.
 
-ghost use Rattle.std.specs.Prelude.{◌≡◌, ◌≢◌, ◌↔◌, ◌+◌, ◌^◌, ◌<◌, ◌≤◌, ◌==◌, ℕ, List, [], Contains, IfOk, IsTrue, length, slice_get, slice_index, slice_set};
-ghost use Rattle.step_core.specs.Act.{act_of};
+ghost use Rattle.std.specs.Prelude.{◌≡◌, ◌≢◌, ◌↔◌, ◌+◌, ◌^◌, ◌<◌, ◌≤◌, ◌==◌, ℕ, List, [], Contains, IfOk, IsTrue, length, slice_get, slice_index};
 ghost use Rattle.step_core.specs.Seats.{AreSeats};
 ghost use Rattle.step_core.specs.WithdrawCore.{HasReplyRoom, IsShape, KeepsList, MayStep, MayTell, Moves, TabSteps, base_of, reply_of, tab_of};
 ghost use Rattle.step_core.specs.WithdrawTables.{FitsIn, MayFind, note_of, state_of};
 ghost use Rattle.step_core.specs.Withdrawing.{IsDone, after_step, answered, next_number, opened_tab, settled};
-ghost use Rattle.store_spec.specs.Act.{left_by, word_of};
+ghost use Rattle.store_spec.specs.Act.{word_of};
 ghost use Rattle.store_spec.specs.Home.{home_of};
 ghost use Rattle.store_spec.specs.WithdrawStep.{number_of, withdraw_act};
 ghost use Rattle.store_spec.specs.WithdrawStep.WithdrawState.{Rest};
 
+use crate::act::perform;
 use crate::seats::Seats;
 use crate::{
     Act, Shape, WithdrawNote, WithdrawState, withdraw_act, withdraw_after, withdraw_first,
@@ -183,30 +183,6 @@ fn next_act(shape: &Shape, words: &mut [u64], state: WithdrawState) -> (Withdraw
 {
     let found = perform(words, withdraw_act(shape, state));
     withdraw_after(shape, state, found)
-}
-
-/// Makes an act on shared words. It gives the word that it found.
-fn perform(words: &mut [u64], act: Act) -> u64
-    requires { word_of (act_of act) < length words.old }
-    ensures found { result ≡ slice_index words.old (word_of (act_of act)) }
-    ensures left { words.new ≡ slice_set words.old (word_of (act_of act)) (left_by (act_of act) result) }
-{
-    match act {
-        Act::Nothing => words[0],
-        Act::Load { word } => words[word],
-        Act::Swap { word, put } => {
-            let found = words[word];
-            words[word] = put;
-            found
-        }
-        Act::Trade { word, want, put } => {
-            let found = words[word];
-            if found == want {
-                words[word] = put;
-            }
-            found
-        }
-    }
 }
 
 /// One step of a withdrawer on the shared words.

@@ -18,6 +18,7 @@ pub mod Measure
 pub mod Phase
 pub mod Probe
 pub mod StepFigures
+pub mod WithdrawFigures
 pub mod WithdrawInvariant
 pub mod WithdrawPhase
 pub mod WithdrawStep

@@ -2,10 +2,12 @@
 #![tactic(auto)]
 
 mod step_figures;
+mod withdraw_figures;
 
 ghost use Rattle.store_spec.specs.Figures.{ExampleHomes, ExampleSizes, ExamplePlaces, ExampleLayout, ExampleImage, ExampleLines};
 
 pub use step_figures::{example_claims, example_outcome, example_race};
+pub use withdraw_figures::{example_finding, example_stale_candidate, example_withdrawal};
 
 /// The homes of some numbers under the example election.
 pub fn example_homes()

@@ -1,4 +1,4 @@
-use Rattle.step_core.proofs.CoreWithdrawers.{first_moves}
+use Rattle.step_core.proofs.WithdrawCoreTabs.{first_moves}
 use Rattle.step_core.proofs.withdrawer.first_act.Goals as goal
 use Rattle.step_core.specs.WithdrawCore.{base_of}
 

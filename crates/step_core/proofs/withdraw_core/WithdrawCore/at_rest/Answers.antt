@@ -1,6 +1,6 @@
 use Rattle.std.proofs.Common.{◌↔◌, IsTrue, List, subst}
 use Rattle.std.specs.List.{All}
-use Rattle.step_core.proofs.CoreEnds.{all_done, has_ended}
+use Rattle.step_core.proofs.WithdrawCoreEnds.{all_done, has_ended}
 use Rattle.step_core.proofs.withdraw_core.WithdrawCore.at_rest.Goals as goal
 use Rattle.step_core.specs.WithdrawCore.{tab_of}
 use Rattle.step_core.specs.Withdrawing.{IsDone}

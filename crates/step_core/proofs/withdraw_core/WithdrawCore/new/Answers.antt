@@ -1,5 +1,5 @@
 use Rattle.std.proofs.Common.{◌≡◌, ◌+◌, List, ℕ, map, subst, sym, ap, ◌∙◌, refl}
-use Rattle.step_core.proofs.CoreOpens.{each_stands, known_base, phase_holds, phase_is, shape_fits, stand_once, words_are}
+use Rattle.step_core.proofs.WithdrawCoreOpens.{each_stands, known_base, phase_holds, phase_is, shape_fits, stand_once, words_are}
 use Rattle.step_core.proofs.withdraw_core.WithdrawCore.new.Goals as goal
 use Rattle.step_core.specs.Seats.{AreSeats}
 use Rattle.step_core.specs.WithdrawCore.{tab_of}

@@ -1,4 +1,4 @@
-use Rattle.step_core.proofs.CoreEnds.{replies_are}
+use Rattle.step_core.proofs.WithdrawCoreEnds.{replies_are}
 use Rattle.step_core.proofs.withdraw_core.WithdrawCore.replies.Goals as goal
 
 pub returns-clause-replies : goal.returns-clause-replies

@@ -2,7 +2,7 @@ use Rattle.std.proofs.Common.{◌≡◌, ◌<◌, List, ℕ, length, sym, subst,
 use Rattle.std.proofs.lemmas.Bool.{iff_false}
 use Rattle.std.proofs.lemmas.List.{with_items_is}
 use Rattle.std.proofs.lemmas.List.Elements.{All-set}
-use Rattle.step_core.proofs.CoreEnds.{core_alone}
+use Rattle.step_core.proofs.WithdrawCoreEnds.{core_alone}
 use Rattle.step_core.proofs.WithdrawCoreSteps.{core_done_from, core_step_to, may_step, tab_within}
 use Rattle.step_core.proofs.withdraw_core.WithdrawCore.step.Goals as goal
 use Rattle.step_core.specs.WithdrawCore.{HasReplyRoom, MayStep, base_of, tab_of}

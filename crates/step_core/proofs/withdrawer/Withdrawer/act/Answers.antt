@@ -1,5 +1,5 @@
 use Rattle.std.proofs.Common.{ℕ, length, drop, subst}
-use Rattle.step_core.proofs.CoreWithdrawers.{later_number, moves_on}
+use Rattle.step_core.proofs.WithdrawCoreTabs.{later_number, moves_on}
 use Rattle.step_core.proofs.withdrawer.Withdrawer.act.Goals as goal
 use Rattle.step_core.specs.WithdrawCore.{Moves, base_of}
 use Rattle.step_core.specs.WithdrawTables.{note_of, state_of}

@@ -1,6 +1,6 @@
 use Rattle.std.proofs.Common.{sym, ap, ◌∙◌, length, drop}
 use Rattle.std.proofs.lemmas.Bool.{iff_false}
-use Rattle.step_core.proofs.CoreWithdrawers.{settled_empty, settled_on, settled_stops}
+use Rattle.step_core.proofs.WithdrawCoreTabs.{settled_empty, settled_on, settled_stops}
 use Rattle.step_core.proofs.withdrawer.Withdrawer.settle.Goals as goal
 use Rattle.step_core.specs.WithdrawCore.{answers_of}
 use Rattle.step_core.specs.WithdrawTables.{state_of}
