@@ -1,7 +1,7 @@
 //! Laws of every disk, of torn ranges, and of the disks in memory.
 
-ghost use Rattle.std.specs.Prelude.{◌≡◌, ℕ, ◌+◌, ◌≤◌, max, List, length, slice_range, Some, None};
-ghost use Rattle.store_spec.specs.Disk.{leaves_now, overwritten, IsTorn, IsSettled, AddsNoCrashImage, TearsAtMost, LeavesOnly};
+ghost use Rattle.std.specs.Prelude.{◌≡◌, ℕ, Bool, IsTrue, ◌+◌, ◌≤◌, max, List, length, slice_range, Some, None};
+ghost use Rattle.store_spec.specs.Disk.{leaves_now, overwritten, IsTorn, IsSettled, AddsNoCrashImage, TearsAtMost, LeavesOnly, LeavesOnlyOnceSynced, SyncsFirst};
 ghost use Rattle.crash_disk.specs.Figures.{HasThreeCrashImages, HasOneCrashImage};
 
 use crate::disk::Disk;
@@ -29,6 +29,23 @@ pub fn two_writes_and_a_sync<D: Disk>()
         → TearsAtMost D.calls D.may_leave then j one two
         → AddsNoCrashImage D.calls D.may_leave two synced
         → LeavesOnly D.calls D.may_leave settled synced (IsTorn at n bytes) }
+{}
+
+/// A sync that succeeds and a run behind it: up to the sync's return a crash leaves what it might have left before.
+pub fn synced_first<D: Disk>()
+    ensures { (old synced new : D) (p : List ℕ → Bool) → AddsNoCrashImage D.calls D.may_leave old synced
+        → LeavesOnly D.calls D.may_leave synced new (λ c. IsTrue (p c))
+        → LeavesOnlyOnceSynced D.calls D.may_leave old new (λ c. IsTrue (p c)) }
+{}
+
+/// What holds of each crash image of the start, and of each one from the first sync on, holds at each moment, whether
+/// that sync succeeds or fails.
+pub fn syncs_first<D: Disk>()
+    ensures { (old new : D) (p q : List ℕ → Bool)
+        → ((c : List ℕ) → leaves_now D.calls D.may_leave old c → IsTrue (p c))
+        → ((c : List ℕ) → IsTrue (q c) → IsTrue (p c))
+        → SyncsFirst D.calls D.may_leave old new (λ c. IsTrue (q c))
+        → LeavesOnly D.calls D.may_leave old new (λ c. IsTrue (p c)) }
 {}
 
 /// What a write that succeeds leaves for a read: its bytes in its range, and a size that covers it. It is one of the
