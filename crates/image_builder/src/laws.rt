@@ -27,7 +27,7 @@ pub fn one_set()
 pub fn one_held()
     ensures held { (e : Election) (bytes : List ℕ) (a b : Option (List Ballot)) → IsElection e
         → Holds e bytes a → Holds e bytes b → a ≡ b }
-    ensures medium { (e : Election) (bytes : List ℕ) (ballots : List Ballot)
+    ensures medium { (e : Election) (bytes : List ℕ) (ballots : List Ballot) → IsElection e
         → IsMediumOf e bytes ballots → Holds e bytes (Some ballots) }
 {}
 

@@ -3,10 +3,12 @@
 
 pub mod laws;
 mod read;
+mod scratch;
 mod write;
 
 pub use read::{ImageFault, read_image};
-pub use write::{Scratch, image, image_part};
+pub use scratch::{PAGE_BYTES, Scratch};
+pub use write::{image, image_part};
 
 #[cfg(test)]
 mod tests;

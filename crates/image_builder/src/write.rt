@@ -143,20 +143,3 @@ pub fn header(election: &Election) -> [u8; HEADER_BYTES]
     BigEndian::write_u64(&mut header[16..], election.salt());
     header
 }
-
-/// A buffer of one bank, for writing and comparing.
-#[derive(Drop)]
-pub struct Scratch {
-    /// As many bytes as a bank has.
-    pub bank: Vec<u8>,
-}
-
-impl Scratch {
-    /// A buffer as long as a bank of this election.
-    pub fn new(alloc: Global, election: &Election) -> Result<Scratch, Memory>
-        ensures { IfOk result (λ scratch. length scratch.bank.items ≡ bank_size election.now) }
-    {
-        let bank = vec![in alloc; 0; election.bank_bytes()]?;
-        Ok(Scratch { bank })
-    }
-}
