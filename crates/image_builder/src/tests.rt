@@ -67,7 +67,7 @@ fn no_ballots(rt: HostRuntime) {
         .expect(&rt, "an image");
     assert_eq!(rt; read.len(), 0);
     let scratch = Scratch::new(rt.alloc(), &election).expect(&rt, "memory");
-    assert_eq!(rt; scratch.bank.len(), 304);
+    assert_eq!(rt; (scratch.found.len(), scratch.made.len()), (4096, 4096));
 }
 
 #[test]
