@@ -1,9 +1,8 @@
 -- The first wrong cell is the first that fails one of four tests.
-use Rattle.std.proofs.Common.{◌≡◌, ◌≢◌, ℕ, zero, suc, ◌+◌, ◌-◌, ◌*◌, ◌<◌, ◌≤◌, ◌⊎◌, inl, inr, ⊎_elim, List, [], ◌∷◌, ◌++◌, length, get_or, map, take, drop, refl, sym, ap, subst, ◌∙◌, arith, rules}
+use Rattle.std.proofs.Common.{◌≡◌, ℕ, zero, suc, ◌+◌, ◌-◌, ◌*◌, ◌<◌, ◌≤◌, ◌⊎◌, inl, inr, ⊎_elim, List, [], ◌∷◌, ◌++◌, length, get_or, take, drop, sym, ap, subst, ◌∙◌, arith}
 use Rattle.std.proofs.lemmas.Bool.{cases_lt}
-use Rattle.std.proofs.lemmas.List.{drop-drop, drop-take, ext_get_or, get_or-take, length-map, take-take}
+use Rattle.std.proofs.lemmas.List.{drop-drop, drop-take, ext_get_or, take-take}
 use Rattle.std.proofs.lemmas.List.FromFn.{get_or-map-range_with_len, length-map-range_with_len}
-use Rattle.std.specs.List.{flat_map, range_with_len}
 use Rattle.ballot_record.proofs.BallotNumbers.{length-numbers_of}
 use Rattle.ballot_record.proofs.CellCases.{each_or_one, empty_or_not, held_or_not}
 use Rattle.ballot_record.proofs.BallotSets.{in_order, in_order-IsPermutation, set_of_listing}
@@ -14,7 +13,7 @@ use Rattle.image_builder.proofs.OneSet.{piece_at}
 use Rattle.image_builder.proofs.Reading.{AreRead, begins_fewer, begins_read, listing_read, number_in_cell}
 use Rattle.image_builder.proofs.Steps.{ballot_read, empty_read, known_read, nothing_read}
 use Rattle.image_builder.proofs.Wrong.{bad_bytes, misplaced, too_many, whole_bank}
-use Rattle.store_spec.specs.Ballot.{Ballot, numbers_of}
+use Rattle.store_spec.specs.Ballot.{Ballot}
 use Rattle.store_spec.specs.Damage.{BeginsAnImage, Fails, IsFirstFailing, IsFirstWrong, IsWrongCell, Test, cell_at, first_cells, first_numbers, number_at}
 use Rattle.store_spec.specs.Damage.Test.{Bytes, Home, Order, Limit}
 use Rattle.store_spec.specs.Election.{Election, IsElection, bank_size, cell_count, cell_size, header_size}

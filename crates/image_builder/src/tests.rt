@@ -193,23 +193,29 @@ fn any_pieces(rt: HostRuntime) {
     }
 }
 
+/// What the byte behind so many of a bank is refused with.
+fn refusal_behind(
+    alloc: Global,
+    bank: &[u8],
+    count: usize,
+    election: &Election,
+) -> Result<Option<ImageFault>, ImageFault>
+    requires long { length bank.now ≡ bank_size election.now }
+    requires within { count < length bank.now }
+{
+    let (front, behind) = bank.split_at(count);
+    let reader = ImageReader::new(alloc, election)?;
+    let reader = reader.feed(alloc, front, election)?;
+    Ok(reader.feed(alloc, &behind[..1], election).err())
+}
+
 #[test]
 fn refused_with_its_last_byte(rt: HostRuntime) {
     let election = Election::example();
     let mut header = HEADER;
     header[9] = 2;
-    let table = [
-        (with_byte(9, 2), 31, ImageFault::OtherElection { header }),
-        (with_byte(108, 2), 116, ImageFault::Damaged { cell: 4 }),
-    ];
-    for (bytes, count, wanted) in table {
-        let (front, behind) = bytes.split_at(count);
-        let reader = ImageReader::new(rt.alloc(), &election).expect(&rt, "memory");
-        let reader = reader
-            .feed(rt.alloc(), front, &election)
-            .ok()
-            .expect(&rt, "no refusal yet");
-        let fault = reader.feed(rt.alloc(), &behind[..1], &election).err();
-        assert_eq!(rt; fault, Some(wanted));
-    }
+    let other = refusal_behind(rt.alloc(), &with_byte(9, 2), 31, &election);
+    assert_eq!(rt; other, Ok(Some(ImageFault::OtherElection { header })));
+    let damaged = refusal_behind(rt.alloc(), &with_byte(108, 2), 116, &election);
+    assert_eq!(rt; damaged, Ok(Some(ImageFault::Damaged { cell: 4 })));
 }

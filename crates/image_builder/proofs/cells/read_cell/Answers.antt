@@ -3,7 +3,7 @@ use Rattle.std.proofs.lemmas.Bool.{false≢true}
 use Rattle.std.proofs.lemmas.List.{length-map, map_push}
 use Rattle.ballot_record.specs.Record.{ballot}
 use Rattle.body_store.specs.Contents.{ballots_of}
-use Rattle.image_builder.proofs.FirstCells.{AreNext, Goes, ballot_next, empty_next, next_as, wrong_next}
+use Rattle.image_builder.proofs.FirstCells.{Goes, ballot_next, empty_next, next_as, wrong_next}
 use Rattle.image_builder.proofs.Reaches.{reach_as}
 use Rattle.image_builder.proofs.Wrong.{bad_bytes, misplaced, stands_at, stands_behind, too_many}
 use Rattle.image_builder.proofs.cells.read_cell.Goals as goal
@@ -68,8 +68,8 @@ returns-in_ok-add-in-Empty-clause-kept c =
     let now = c.add.new.cells in
     let is = c.in_ok-add-in-Empty.ensures in
     let next = next_as e (front_of e numbers ballots) c.args.bytes.now (numbers ++ 0 ∷ []) now.numbers.items (reaches ++ length numbers ∷ []) now.reaches.items ballots (ballots_of now.records.items)
-        (empty_next e numbers reaches ballots c.args.bytes.now c.requires.election c.requires.kept c.requires.size (c.in-Empty.ensures.empty.0 refl))
-        is.numbers (is.reaches ∙ ap (λ place. reaches ++ place ∷ []) at) (ap (λ v. ballots_of v.items) is.records) in
+    (empty_next e numbers reaches ballots c.args.bytes.now c.requires.election c.requires.kept c.requires.size (c.in-Empty.ensures.empty.0 refl))
+    is.numbers (is.reaches ∙ ap (λ place. reaches ++ place ∷ []) at) (ap (λ v. ballots_of v.items) is.records) in
     next.cells
 
 pub returns-in_ok-add-in-Empty-clause-fed : goal.returns-in_ok-add-in-Empty-clause-fed
@@ -83,8 +83,8 @@ returns-in_ok-add-in-Empty-clause-fed c =
     let now = c.add.new.cells in
     let is = c.in_ok-add-in-Empty.ensures in
     let next = next_as e (front_of e numbers ballots) c.args.bytes.now (numbers ++ 0 ∷ []) now.numbers.items (reaches ++ length numbers ∷ []) now.reaches.items ballots (ballots_of now.records.items)
-        (empty_next e numbers reaches ballots c.args.bytes.now c.requires.election c.requires.kept c.requires.size (c.in-Empty.ensures.empty.0 refl))
-        is.numbers (is.reaches ∙ ap (λ place. reaches ++ place ∷ []) at) (ap (λ v. ballots_of v.items) is.records) in
+    (empty_next e numbers reaches ballots c.args.bytes.now c.requires.election c.requires.kept c.requires.size (c.in-Empty.ensures.empty.0 refl))
+    is.numbers (is.reaches ∙ ap (λ place. reaches ++ place ∷ []) at) (ap (λ v. ballots_of v.items) is.records) in
     next.fed
 
 pub returns-in_ok-add-in-Held-clause-kept : goal.returns-in_ok-add-in-Held-clause-kept
@@ -105,8 +105,8 @@ returns-in_ok-add-in-Held-clause-kept c =
     let now = c.add-in-Held.new.cells in
     let is = c.in_ok-add-in-Held.ensures in
     let next = next_as e (front_of e numbers ballots) bytes (numbers ++ b.number ∷ []) now.numbers.items (reaches ++ from ∷ []) now.reaches.items (ballots ++ b ∷ []) (ballots_of now.records.items)
-        (ballot_next e numbers reaches ballots b from bytes c.requires.election c.requires.kept c.requires.size held.0 held.1 may room reach)
-        is.numbers is.reaches (ap (λ v. ballots_of v.items) is.records ∙ ap ballots_of c.in_ok-push-in-Held.ensures.items ∙ map_push ballot cells.records.items record_read) in
+    (ballot_next e numbers reaches ballots b from bytes c.requires.election c.requires.kept c.requires.size held.0 held.1 may room reach)
+    is.numbers is.reaches (ap (λ v. ballots_of v.items) is.records ∙ ap ballots_of c.in_ok-push-in-Held.ensures.items ∙ map_push ballot cells.records.items record_read) in
     next.cells
 
 pub returns-in_ok-add-in-Held-clause-fed : goal.returns-in_ok-add-in-Held-clause-fed
@@ -127,6 +127,6 @@ returns-in_ok-add-in-Held-clause-fed c =
     let now = c.add-in-Held.new.cells in
     let is = c.in_ok-add-in-Held.ensures in
     let next = next_as e (front_of e numbers ballots) bytes (numbers ++ b.number ∷ []) now.numbers.items (reaches ++ from ∷ []) now.reaches.items (ballots ++ b ∷ []) (ballots_of now.records.items)
-        (ballot_next e numbers reaches ballots b from bytes c.requires.election c.requires.kept c.requires.size held.0 held.1 may room reach)
-        is.numbers is.reaches (ap (λ v. ballots_of v.items) is.records ∙ ap ballots_of c.in_ok-push-in-Held.ensures.items ∙ map_push ballot cells.records.items record_read) in
+    (ballot_next e numbers reaches ballots b from bytes c.requires.election c.requires.kept c.requires.size held.0 held.1 may room reach)
+    is.numbers is.reaches (ap (λ v. ballots_of v.items) is.records ∙ ap ballots_of c.in_ok-push-in-Held.ensures.items ∙ map_push ballot cells.records.items record_read) in
     next.fed

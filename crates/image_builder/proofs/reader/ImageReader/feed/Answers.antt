@@ -1,11 +1,11 @@
-use Rattle.std.proofs.Common.{◌≡◌, ◌≢◌, ◌++◌, ◌≤◌, List, ℕ, [], length, take, sym, ap, subst, ◌∙◌, refl, arith}
+use Rattle.std.proofs.Common.{◌≡◌, ◌≢◌, ◌++◌, ◌≤◌, List, ℕ, [], length, take, sym, ap, subst, ◌∙◌, arith}
 use Rattle.std.proofs.lemmas.List.{append-nil, take_all}
 use Rattle.std.proofs.lemmas.Result.{err_from_is_err_and}
 use Rattle.body_store.specs.Contents.{ballots_of}
 use Rattle.image_builder.proofs.Fed.{IsBehind, IsOwn, behind_header, feeding_more, front_in_cells, own_parts, parts_more, refused_header}
 use Rattle.image_builder.proofs.FirstCells.{refused_within}
 use Rattle.image_builder.proofs.reader.ImageReader.feed.Goals as goal
-use Rattle.image_builder.specs.Cells.{front_of, kept_front}
+use Rattle.image_builder.specs.Cells.{front_of}
 use Rattle.image_builder.specs.Feeding.{IsFront, IsRefusedPiece}
 use Rattle.image_builder.specs.declared.read.ImageFault.TheVariants.{OtherElection}
 use Rattle.store_spec.specs.Ballot.{Ballot}
@@ -44,7 +44,7 @@ read_cells-requires-clause-within c =
     let part = kept.part.items in
     let own = own_parts e kept.election kept.header numbers kept.cells.reaches.items ballots part c.args.self c.self.view_is c.requires.own c.self.invariant in
     let stands = behind e kept.header c.take-rest.new.self c.bytes-2.result.now c.take-rest.result.now c.args.bytes.now numbers kept.cells.reaches.items ballots part c.args.self.fed own
-        c.take-rest.ensures.joined c.bytes-2.ensures.bytes c.bytes-2.ensures.within c.in_ok-check_header.ensures.own in
+    c.take-rest.ensures.joined c.bytes-2.ensures.bytes c.bytes-2.ensures.within c.in_ok-check_header.ensures.own in
     subst (λ (all : List ℕ). length all ≤ bank_size e) (sym stands.joined) c.requires.within
 
 pub returns-in_err-read_cells-clause-refused : goal.returns-in_err-read_cells-clause-refused
@@ -58,7 +58,7 @@ returns-in_err-read_cells-clause-refused c =
     let bytes = c.args.bytes.now in
     let own = own_parts e kept.election kept.header numbers kept.cells.reaches.items ballots part c.args.self c.self.view_is c.requires.own c.self.invariant in
     let stands = behind e kept.header c.take-rest.new.self c.bytes-2.result.now rest bytes numbers kept.cells.reaches.items ballots part c.args.self.fed own
-        c.take-rest.ensures.joined c.bytes-2.ensures.bytes c.bytes-2.ensures.within c.in_ok-check_header.ensures.own in
+    c.take-rest.ensures.joined c.bytes-2.ensures.bytes c.bytes-2.ensures.within c.in_ok-check_header.ensures.own in
     let front = front_of e numbers ballots ++ part in
     let p = err_from_is_err_and c.from_residual-in_err-read_cells.result c.from_residual-in_err-read_cells.ensures.1 in
     rw (p.1, p.2) (refused_within e front rest c.args.self.fed bytes [] c.in_err-read_cells.field-0.0 stands.longer (append-nil (front ++ rest) ∙ stands.joined) c.in_err-read_cells.ensures.refused)
@@ -74,7 +74,7 @@ invariant_of-result-2 c =
     let all = c.args.self.fed ++ c.args.bytes.now in
     let own = own_parts e kept.election kept.header numbers kept.cells.reaches.items ballots part c.args.self c.self.view_is c.requires.own c.self.invariant in
     let stands = behind e kept.header now c.bytes-2.result.now c.take-rest.result.now c.args.bytes.now numbers kept.cells.reaches.items ballots part c.args.self.fed own
-        c.take-rest.ensures.joined c.bytes-2.ensures.bytes c.bytes-2.ensures.within c.in_ok-check_header.ensures.own in
+    c.take-rest.ensures.joined c.bytes-2.ensures.bytes c.bytes-2.ensures.within c.in_ok-check_header.ensures.own in
     let cells = c.read_cells.new.cells in
     let read = c.in_ok-read_cells.ensures in
     let same : kept.election ≡ e = ap (λ f. f.election) c.self.view_is ∙ sym c.requires.own in
@@ -91,7 +91,7 @@ returns-clause-fed c =
     let now = c.take-rest.new.self in
     let own = own_parts e kept.election kept.header numbers kept.cells.reaches.items ballots part c.args.self c.self.view_is c.requires.own c.self.invariant in
     let stands = behind e kept.header now c.bytes-2.result.now c.take-rest.result.now c.args.bytes.now numbers kept.cells.reaches.items ballots part c.args.self.fed own
-        c.take-rest.ensures.joined c.bytes-2.ensures.bytes c.bytes-2.ensures.within c.in_ok-check_header.ensures.own in
+    c.take-rest.ensures.joined c.bytes-2.ensures.bytes c.bytes-2.ensures.within c.in_ok-check_header.ensures.own in
     let cells = c.read_cells.new.cells in
     let same : kept.election ≡ e = ap (λ f. f.election) c.self.view_is ∙ sym c.requires.own in
     let whole : now ≡ header_of e = sym c.bytes-2.ensures.bytes ∙ sym (take_all 32 c.bytes-2.result.now c.bytes-2.ensures.within) ∙ c.in_ok-check_header.ensures.own in
@@ -107,7 +107,7 @@ returns-clause-front c =
     let all = c.args.self.fed ++ c.args.bytes.now in
     let own = own_parts e kept.election kept.header numbers kept.cells.reaches.items ballots part c.args.self c.self.view_is c.requires.own c.self.invariant in
     let stands = behind e kept.header c.take-rest.new.self c.bytes-2.result.now c.take-rest.result.now c.args.bytes.now numbers kept.cells.reaches.items ballots part c.args.self.fed own
-        c.take-rest.ensures.joined c.bytes-2.ensures.bytes c.bytes-2.ensures.within c.in_ok-check_header.ensures.own in
+    c.take-rest.ensures.joined c.bytes-2.ensures.bytes c.bytes-2.ensures.within c.in_ok-check_header.ensures.own in
     let cells = c.read_cells.new.cells in
     let read = c.in_ok-read_cells.ensures in
     let fed = read.fed ∙ stands.joined in
