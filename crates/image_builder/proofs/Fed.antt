@@ -1,7 +1,7 @@
 -- What a reader keeps, and the bytes that it was fed.
 use Rattle.std.proofs.Common.{◌≡◌, ◌≢◌, ℕ, ◌+◌, ◌*◌, ◌<◌, ◌≤◌, ⊎_elim, List, [], ◌++◌, length, take, refl, sym, ap, subst, ◌∙◌, arith, append_assoc}
 use Rattle.std.proofs.lemmas.Bool.{cases_lt}
-use Rattle.std.proofs.lemmas.List.{append-nil, length-append, take_all, take_at, take-append-le}
+use Rattle.std.proofs.lemmas.List.{append-nil, length-append, take_all, take_at}
 use Rattle.image_builder.proofs.FirstCells.{fewer_cells, header_in_front, length-front_of, read_in_front}
 use Rattle.image_builder.proofs.Reading.{AreRead, begins_fewer, begins_read, split_same}
 use Rattle.image_builder.proofs.Wrong.{whole_bank}

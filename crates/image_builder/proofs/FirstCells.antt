@@ -15,7 +15,7 @@ use Rattle.image_builder.specs.Reading.{IsRefusedBank}
 use Rattle.image_builder.specs.declared.read.ImageFault.{ImageFault}
 use Rattle.image_builder.specs.declared.read.ImageFault.TheVariants.{OtherElection, Damaged, Memory}
 use Rattle.store_spec.specs.Ballot.{Ballot, IsValid}
-use Rattle.store_spec.specs.Damage.{BeginsAnImage, cell_at, first_cells}
+use Rattle.store_spec.specs.Damage.{BeginsAnImage, cell_at}
 use Rattle.store_spec.specs.Election.{Election, IsElection, bank_size, cell_count, cell_size}
 use Rattle.store_spec.specs.Home.{home_in}
 use Rattle.store_spec.specs.Image.{IsEmptyCell, ballot_bytes, cell_bytes, header_of}

@@ -37,6 +37,7 @@ pub fn no_cells(alloc: Global, election: &Election) -> Result<CellsRead, AllocEr
 
 /// Reads bytes of a bank behind some cells and the part of one more.
 pub fn read_cells(
+    alloc: Global,
     cells: &mut CellsRead,
     part: &mut Vec<u8>,
     bytes: &[u8],
@@ -61,8 +62,7 @@ pub fn read_cells(
     }
     read_cell(cells, part, election)?;
     let rest = read_whole_cells(cells, rest, election)?;
-    part.clear();
-    part.extend_from_slice(rest)?;
+    *part = Vec::from_slice(alloc, rest)?;
     Ok(())
 }
 

@@ -48,7 +48,7 @@ impl ImageReader {
             election: *election,
             header: HeaderPart::new(),
             cells: no_cells(alloc, election)?,
-            part: Vec::with_capacity(alloc, election.cell_bytes())?,
+            part: Vec::new(alloc),
         })
     }
 
@@ -82,7 +82,7 @@ impl ImageReader {
             });
         }
         check_header(header.bytes(), election)?;
-        read_cells(&mut cells, &mut part, rest, election)?;
+        read_cells(alloc, &mut cells, &mut part, rest, election)?;
         Ok(ImageReader {
             election: own,
             header,

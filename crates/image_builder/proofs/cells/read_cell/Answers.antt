@@ -3,7 +3,7 @@ use Rattle.std.proofs.lemmas.Bool.{false≢true}
 use Rattle.std.proofs.lemmas.List.{length-map, map_push}
 use Rattle.ballot_record.specs.Record.{ballot}
 use Rattle.body_store.specs.Contents.{ballots_of}
-use Rattle.image_builder.proofs.FirstCells.{AreNext, Goes, ballot_next, empty_next, next_as, wrong_next}
+use Rattle.image_builder.proofs.FirstCells.{Goes, ballot_next, empty_next, next_as, wrong_next}
 use Rattle.image_builder.proofs.Reaches.{reach_as}
 use Rattle.image_builder.proofs.Wrong.{bad_bytes, misplaced, stands_at, stands_behind, too_many}
 use Rattle.image_builder.proofs.cells.read_cell.Goals as goal

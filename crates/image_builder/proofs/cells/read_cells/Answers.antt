@@ -1,11 +1,10 @@
-use Rattle.std.proofs.Common.{◌≡◌, [], ◌++◌, ◌≤◌, length, sym, ap, ◌∙◌, refl, arith, append_assoc}
+use Rattle.std.proofs.Common.{◌≡◌, [], ◌++◌, length, sym, ap, ◌∙◌, arith, append_assoc}
 use Rattle.std.proofs.lemmas.List.{append-nil, length-append}
 use Rattle.std.proofs.lemmas.Result.{err_from_is_err_and}
 use Rattle.body_store.specs.Contents.{ballots_of}
 use Rattle.image_builder.proofs.FirstCells.{refused_behind, refused_within, room_next}
 use Rattle.image_builder.proofs.cells.read_cells.Goals as goal
 use Rattle.image_builder.specs.Cells.{kept_front}
-use Rattle.store_spec.specs.Election.{bank_size, cell_size}
 
 pub read_cell-requires-clause-room : goal.read_cell-requires-clause-room
 read_cell-requires-clause-room c =

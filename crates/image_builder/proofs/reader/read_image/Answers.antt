@@ -5,7 +5,6 @@ use Rattle.image_builder.proofs.Fed.{only_memory}
 use Rattle.image_builder.proofs.OneSet.{one_set}
 use Rattle.image_builder.proofs.reader.read_image.Goals as goal
 use Rattle.image_builder.specs.Reading.{IsRefusedBank}
-use Rattle.store_spec.specs.Election.{Election, IsElection}
 
 pub returns-in_err-reader-2-clause-refused : goal.returns-in_err-reader-2-clause-refused
 returns-in_err-reader-2-clause-refused c =

@@ -1,11 +1,11 @@
-use Rattle.std.proofs.Common.{◌≡◌, ◌≢◌, ◌++◌, ◌≤◌, List, ℕ, [], length, take, sym, ap, subst, ◌∙◌, refl, arith}
+use Rattle.std.proofs.Common.{◌≡◌, ◌≢◌, ◌++◌, ◌≤◌, List, ℕ, [], length, take, sym, ap, subst, ◌∙◌, arith}
 use Rattle.std.proofs.lemmas.List.{append-nil, take_all}
 use Rattle.std.proofs.lemmas.Result.{err_from_is_err_and}
 use Rattle.body_store.specs.Contents.{ballots_of}
 use Rattle.image_builder.proofs.Fed.{IsBehind, IsOwn, behind_header, feeding_more, front_in_cells, own_parts, parts_more, refused_header}
 use Rattle.image_builder.proofs.FirstCells.{refused_within}
 use Rattle.image_builder.proofs.reader.ImageReader.feed.Goals as goal
-use Rattle.image_builder.specs.Cells.{front_of, kept_front}
+use Rattle.image_builder.specs.Cells.{front_of}
 use Rattle.image_builder.specs.Feeding.{IsFront, IsRefusedPiece}
 use Rattle.image_builder.specs.declared.read.ImageFault.TheVariants.{OtherElection}
 use Rattle.store_spec.specs.Ballot.{Ballot}
