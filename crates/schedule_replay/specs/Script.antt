@@ -2,9 +2,10 @@
 use Rattle.std.specs.Prelude.{◌≡◌, ◌≢◌, ℕ, ◌^◌, ◌+◌, ◌<◌, ◌≤◌, List, [], ◌∷◌, ◌++◌, length, map, All, AllPairs, Option, Some, None, Result, Ok, Err, Vec}
 use Rattle.std.specs.List.{AllZip}
 use Rattle.ballot_record.specs.LineWhy.{reason}
+use Rattle.ballot_record.specs.declared.fault.LineWhy.TheVariants as whys
 use Rattle.outside_io.specs.declared.error.Memory.{Memory}
 use Rattle.schedule_replay.specs.Input.{Input, IsInput, base_line, lines_in, lists_in, schedule_in}
-use Rattle.schedule_replay.specs.ReplayLine.{IsNumber, ReadsAs, ReplayLine, TakenAs}
+use Rattle.schedule_replay.specs.ReplayLine.{HasForm, IsNumber, ReadsAs, ReplayLine, TakenAs}
 use Rattle.schedule_replay.specs.declared.fault.Refusal.{Refusal}
 use Rattle.schedule_replay.specs.declared.fault.Refusal.TheVariants as refusals
 use Rattle.schedule_replay.specs.declared.line.Word.{Word}
@@ -83,21 +84,31 @@ pub record BeginsInput (parts : List ReplayLine) (input : Input) : Type 0 where
   pub others : List ReplayLine
   pub first : lines_in input ≡ parts ++ others
 
--- why a line is refused behind these parts
-abbrev pub IsRefused : Election → List ReplayLine → List ℕ → Reason → Type 0
-IsRefused e parts bytes Malformed = (line : ReplayLine) → ReadsAs bytes line → (input : Input) → ¬ BeginsInput (parts ++ line ∷ []) input
-IsRefused e parts bytes Invalid =
-    ((line : ReplayLine) × (input : Input) × ReadsAs bytes line × BeginsInput (parts ++ line ∷ []) input)
-    × ((line : ReplayLine) → ReadsAs bytes line → (input : Input) → IsInput e input → ¬ BeginsInput (parts ++ line ∷ []) input)
-IsRefused e parts bytes other = ⊥
+-- why a line with these parts is refused behind others
+abbrev pub IsRefused : Election → List ReplayLine → ReplayLine → Reason → Type 0
+IsRefused e parts line Malformed = (input : Input) → ¬ BeginsInput (parts ++ line ∷ []) input
+IsRefused e parts line Invalid =
+    ((input : Input) × BeginsInput (parts ++ line ∷ []) input)
+    × ((input : Input) → IsInput e input → ¬ BeginsInput (parts ++ line ∷ []) input)
+IsRefused e parts line other = ⊥
 
--- what becomes of a line that reads so: it is taken behind those before it, or refused
-abbrev pub TakesRead : Result (Unit {0}) Refusal → Election → List ℕ → ReplayLine → Script → Script → Type 0
-TakesRead (Ok done) e bytes line old new = (parts : List ReplayLine) → HasRead e old parts → HasRead e new (parts ++ line ∷ [])
-TakesRead (Err (refusals.Bad why)) e bytes line old new = (parts : List ReplayLine) → HasRead e old parts → IsRefused e parts bytes (reason why)
-TakesRead (Err refusals.Memory) e bytes line old new = Unit {0}
+-- numbers that stand behind a word in a line of the grammar
+pub record AreRead (word : Word) (numbers : List ℕ) : Type 0 where
+  pub form : HasForm word numbers
+  pub each : All IsNumber numbers
 
-abbrev pub Takes : Result (Unit {0}) Refusal → Election → List ℕ → Script → Script → Type 0
-Takes (Ok done) e bytes old new = (line : ReplayLine) × ReadsAs bytes line × ((parts : List ReplayLine) → HasRead e old parts → HasRead e new (parts ++ line ∷ []))
-Takes (Err (refusals.Bad why)) e bytes old new = (parts : List ReplayLine) → HasRead e old parts → IsRefused e parts bytes (reason why)
-Takes (Err refusals.Memory) e bytes old new = Unit {0}
+-- the line of a word and the numbers that are kept
+abbrev pub line_at : Word → Script → ReplayLine
+line_at word script = record { word = word; numbers = script.numbers.items }
+
+-- what becomes of a line: it is taken behind those before it, or refused
+abbrev pub TakesRead : Result (Unit {0}) Refusal → Election → ReplayLine → Script → Script → Type 0
+TakesRead (Ok done) e line old new = (parts : List ReplayLine) → HasRead e old parts → HasRead e new (parts ++ line ∷ [])
+TakesRead (Err (refusals.Bad why)) e line old new = (parts : List ReplayLine) → HasRead e old parts → IsRefused e parts line (reason why)
+TakesRead (Err refusals.Memory) e line old new = Unit {0}
+
+-- the same of the bytes of a line; those that are not in the grammar are malformed
+pub data TakesLine (result : Result (Unit {0}) Refusal) (e : Election) (bytes : List ℕ) (old new : Script) : Type 0 where
+  reads : (line : ReplayLine) → ReadsAs bytes line → TakesRead result e line old new → TakesLine result e bytes old new
+  reads_none : ((line : ReplayLine) → ¬ ReadsAs bytes line) → result ≡ Err (refusals.Bad whys.Malformed) → TakesLine result e bytes old new
+  no_memory : result ≡ Err refusals.Memory → TakesLine result e bytes old new

@@ -3,6 +3,7 @@
 
 mod fault;
 mod line;
+mod machine;
 mod replay;
 mod run;
 mod script;

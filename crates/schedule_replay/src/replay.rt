@@ -1,20 +1,33 @@
-ghost use Rattle.schedule_replay.specs.Ends.{ReplayEnds};
+ghost use Rattle.std.specs.Prelude.{◌≡◌, ◌≢◌, ◌≤◌, Err, IfErr, IfOk, string_bytes, vec_len};
+ghost use Rattle.outside_io.specs.Told.{AsTold};
+ghost use Rattle.schedule_replay.specs.Ends.{NoInput, ReplayEnds};
 ghost use Rattle.schedule_replay.specs.Outside.{input, output, outside};
+ghost use Rattle.schedule_replay.specs.Replayed.{ReplaysAs};
+ghost use Rattle.schedule_replay.specs.Script.{IsReady, lists_of};
+ghost use Rattle.schedule_replay.specs.Spelled.{SpellsScript};
+ghost use Rattle.store_spec.specs.Fault.{CountsFaultIf};
 
 use crate::fault::{Refusal, ReplayFault};
 use crate::line::Kind;
-use crate::run::{cast_text, withdraw_text};
+use crate::run::replay_text;
 use crate::script::Script;
 use ballot_record::{Election, LineWhy};
 use outside_io::{LineEndFault, Lines, Memory, NextLine, Sink, Source};
+use probe_order::Salted;
 use std::alloc::Global;
+use step_core::{CastCore, WithdrawCore};
 
 /// The input that a script spells. The first bad line ends the reading.
 fn read_script<S: Source>(
     alloc: Global,
     election: &Election,
     source: &mut S,
-) -> Result<Script, ReplayFault> {
+) -> Result<Script, ReplayFault>
+    ensures input { IfOk result (SpellsScript election.now (S.left source.old) (S.left source.new)) }
+    ensures refused { IfErr result (λ fault. AsTold S.left source.old source.new (NoInput election.now fault)) }
+    ensures other { IfErr result (λ fault. fault ≢ ReplayFault.WriteFault) }
+    ensures fault { CountsFaultIf (result ≡ Err ReplayFault.ReadFault) (S.faults source.old) (S.faults source.new) }
+{
     let mut lines = Lines::new(alloc)?;
     let mut script = Script::new(alloc);
     let mut count = 0;
@@ -50,23 +63,34 @@ fn malformed(line: u64) -> ReplayFault {
     }
 }
 
+fn salted(election: &Election) -> Salted
+    ensures { result ≡ record { bits = election.now.bits; salt = election.now.salt } }
+{
+    Salted {
+        bits: election.bits(),
+        salt: election.salt(),
+    }
+}
+
 /// The text of the replay of an input.
-fn text_of(alloc: Global, election: &Election, script: Script) -> Result<String, Memory> {
+fn text_of(alloc: Global, election: &Election, script: Script) -> Result<String, Memory>
+    requires ready { IsReady election.now script }
+    requires some_list { 1 ≤ vec_len script.lists }
+    ensures { IfOk result (λ text. ReplaysAs script.kind election.now script.base.items
+        (lists_of script) script.schedule.items (string_bytes text)) }
+{
+    let tabs = script.lists.len();
+    let order = salted(election);
+    let limit = election.limit();
     match script.kind {
-        Kind::Cast => cast_text(
-            alloc,
-            election,
-            &script.base,
-            script.lists,
-            &script.schedule,
-        ),
-        Kind::Withdraw => withdraw_text(
-            alloc,
-            election,
-            &script.base,
-            script.lists,
-            &script.schedule,
-        ),
+        Kind::Cast => {
+            let core = CastCore::new(alloc, order, limit, &script.base, script.lists)?;
+            replay_text(alloc, core, tabs, &script.schedule)
+        }
+        Kind::Withdraw => {
+            let core = WithdrawCore::new(alloc, order, limit, &script.base, script.lists)?;
+            replay_text(alloc, core, tabs, &script.schedule)
+        }
     }
 }
 

@@ -1,8 +1,8 @@
 ghost use Rattle.std.specs.Prelude.{◌≡◌, ◌≢◌, ◌↔◌, ◌<◌, ◌≤◌, [], List, All, AllPairs, IfOk, IsTrue, length, vec_len};
 ghost use Rattle.std.specs.List.Sorted.{IsStrictlyIncreasing};
 ghost use Rattle.store_spec.specs.Election as definition;
-ghost use Rattle.schedule_replay.specs.ReplayLine.{HasForm, IsNumber, ReadsAs, ReplayLine};
-ghost use Rattle.schedule_replay.specs.Script.{HasRead, IsWhole, MayCome, Takes, TakesRead};
+ghost use Rattle.schedule_replay.specs.Input.{word_of};
+ghost use Rattle.schedule_replay.specs.Script.{AreRead, HasRead, IsWhole, MayCome, TakesLine, TakesRead, line_at};
 
 use crate::fault::Refusal;
 use crate::line::{Kind, Word, read_line};
@@ -71,13 +71,8 @@ impl Script {
     }
 
     /// Takes the next line, where there is no reason to refuse it.
-    pub fn take(
-        &mut self,
-        alloc: Global,
-        line: &[u8],
-        election: &Election,
-    ) -> Result<(), Refusal>
-        ensures { Takes result election.now line.now self.old self.new }
+    pub fn take(&mut self, alloc: Global, line: &[u8], election: &Election) -> Result<(), Refusal>
+        ensures { TakesLine result election.now line.now self.old self.new }
     {
         let Some(word) = read_line(line, &mut self.numbers)? else {
             return Err(Refusal::Bad(LineWhy::Malformed));
@@ -94,7 +89,11 @@ impl Script {
         }
     }
 
-    fn take_base(&mut self, alloc: Global, election: &Election) -> Result<(), Refusal> {
+    fn take_base(&mut self, alloc: Global, election: &Election) -> Result<(), Refusal>
+        requires stage { self.old.stage ≡ Stage.Base }
+        requires read { AreRead Word.Start self.old.numbers.items }
+        ensures { TakesRead result election.now (line_at Word.Start self.old) self.old self.new }
+    {
         if self.numbers.len() > election.limit() as usize || !are_distinct(alloc, &self.numbers)? {
             return Err(Refusal::Bad(LineWhy::Invalid));
         }
@@ -104,7 +103,9 @@ impl Script {
     }
 
     fn take_kind(&mut self, alloc: Global, kind: Kind) -> Result<(), Refusal>
-        requires { 0 < vec_len self.old.numbers }
+        requires stage { self.old.stage ≡ Stage.Kind }
+        requires read { AreRead (word_of kind) self.old.numbers.items }
+        ensures { (e : definition.Election) → TakesRead result e (line_at (word_of kind) self.old) self.old self.new }
     {
         for _ in 0..self.numbers[0] {
             self.lists.push(Vec::new(alloc))?;
@@ -115,8 +116,9 @@ impl Script {
     }
 
     fn take_addition(&mut self) -> Result<(), Refusal>
-        requires some { 0 < vec_len self.old.numbers }
-        requires named { All IsNumber self.old.numbers.items }
+        requires stage { self.old.stage ≡ Stage.Lists }
+        requires read { AreRead Word.List self.old.numbers.items }
+        ensures { (e : definition.Election) → TakesRead result e (line_at Word.List self.old) self.old self.new }
     {
         let tab = self.numbers[0];
         if tab > self.lists.len() as u64 {
@@ -126,7 +128,11 @@ impl Script {
         Ok(())
     }
 
-    fn take_turns(&mut self) -> Result<(), Refusal> {
+    fn take_turns(&mut self) -> Result<(), Refusal>
+        requires stage { MayCome self.old.stage Word.Steps }
+        requires read { AreRead Word.Steps self.old.numbers.items }
+        ensures { (e : definition.Election) → TakesRead result e (line_at Word.Steps self.old) self.old self.new }
+    {
         if !are_at_most(&self.numbers, self.lists.len() as u64) {
             return Err(Refusal::Bad(LineWhy::Invalid));
         }

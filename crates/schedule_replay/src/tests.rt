@@ -6,13 +6,13 @@ use std::test::Fail;
 
 const RACE: &str = "start\ncast 2\nlist 1 1\nlist 2 9\nsteps 1 2 2 1 2 1 2 2\n";
 
-const RACE_TEXT: &str =
-    "steps 8\ncell 4 9\nrest\ncell 4 9\ncell 5 1\n1 1 accepted\n2 1 accepted\n";
+const RACE_TEXT: &str = "steps 8\ncell 4 9\nrest\ncell 4 9\ncell 5 1\n1 1 accepted\n2 1 accepted\n";
 
 const STALE: &str =
     "start 1 9 14 22\nwithdraw 2\nlist 1 22\nlist 2 9\nsteps 1 1 1 1 1 1 2 2 2 2 2 2 2 2 2 2 1\n";
 
-const STALE_TEXT: &str = "steps 17\ncell 4 9\ncell 5 14\ncell 6 1\nrest\ncell 4 1\ncell 5 14\n1 1 withdrawn\n2 1 withdrawn\n";
+const STALE_TEXT: &str =
+    "steps 17\ncell 4 9\ncell 5 14\ncell 6 1\nrest\ncell 4 1\ncell 5 14\n1 1 withdrawn\n2 1 withdrawn\n";
 
 fn replayed(alloc: Global, script: &str) -> Result<Result<String, ReplayFault>, Fail> {
     let mut source = SureSource::new(Vec::from_slice(alloc, script.as_bytes())?);
