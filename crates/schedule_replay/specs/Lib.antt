@@ -1,0 +1,11 @@
+pub mod Counted
+pub mod Ends
+pub mod Input
+pub mod Machine
+pub mod Outside
+pub mod Refusal
+pub mod ReplayLine
+pub mod Replayed
+pub mod Runs
+pub mod Script
+pub mod Spelled
