@@ -87,8 +87,8 @@ overwritten-next at k xs ys old le long =
     let end : at + k + length ys ≡ at + length (xs ++ ys) = omega (arith, length-append xs ys) in
     let written : overwritten at xs old ≡ (take at old ++ xs) ++ drop (at + k) old = ap (λ j. take at old ++ xs ++ drop j old) behind in
     let rest : drop (at + k + length ys) (overwritten at xs old) ≡ drop (at + k + length ys) old =
-        ap (drop (at + k + length ys)) written ∙ sym (drop-drop (length ys) (at + k) ((take at old ++ xs) ++ drop (at + k) old))
-        ∙ ap (drop (length ys)) (drop_at (take at old ++ xs) (drop (at + k) old) (at + k) front) ∙ drop-drop (length ys) (at + k) old in
+    ap (drop (at + k + length ys)) written ∙ sym (drop-drop (length ys) (at + k) ((take at old ++ xs) ++ drop (at + k) old))
+    ∙ ap (drop (length ys)) (drop_at (take at old ++ xs) (drop (at + k) old) (at + k) front) ∙ drop-drop (length ys) (at + k) old in
     ap (λ (zs : List ℕ). zs ++ ys ++ drop (at + k + length ys) (overwritten at xs old)) (ap (take (at + k)) written ∙ take_at (take at old ++ xs) (drop (at + k) old) (at + k) front)
     ∙ ap (λ (zs : List ℕ). (take at old ++ xs) ++ ys ++ zs) (rest ∙ ap (λ j. drop j old) end)
     ∙ ap (λ (zs : List ℕ). zs ++ drop (at + length (xs ++ ys)) old) (append_assoc (take at old) xs ys)

@@ -33,7 +33,8 @@ pub fn two_writes_and_a_sync<D: Disk>()
 
 /// A sync that succeeds and a run behind it: up to the sync's return a crash leaves what it might have left before.
 pub fn synced_first<D: Disk>()
-    ensures { (old synced new : D) (p : List ℕ → Bool) → AddsNoCrashImage D.calls D.may_leave old synced
+    ensures { (old synced new : D) (p : List ℕ → Bool)
+        → AddsNoCrashImage D.calls D.may_leave old synced
         → LeavesOnly D.calls D.may_leave synced new (λ c. IsTrue (p c))
         → LeavesOnlyOnceSynced D.calls D.may_leave old new (λ c. IsTrue (p c)) }
 {}

@@ -46,9 +46,10 @@ both_of e image long =
     record {
       size = omega (arith, length-append (image ++ image) ends, length-append image image);
       banks = λ bank. elim bank as (λ (b : Bank). bank_of e b bytes ≡ image) [ A ↦ bank_a e bytes ∙ part_a n image image ends long long | B ↦ bank_b e bytes ∙ part_b n image image ends long long ];
-      gates = λ bank. elim bank as (λ (b : Bank). IsOpen e b bytes)
-          [ A ↦ (let k : 2 * n ≡ 2 * n + 0 = omega arith in ap (λ j. get_or bytes j 0) k ∙ part_behind n image image ends long long 0)
-          | B ↦ part_behind n image image ends long long 1 ];
+      gates = λ bank. elim bank as (λ (b : Bank). IsOpen e b bytes) [
+        | A ↦ (let k : 2 * n ≡ 2 * n + 0 = omega arith in ap (λ j. get_or bytes j 0) k ∙ part_behind n image image ends long long 0)
+        | B ↦ part_behind n image image ends long long 1
+      ];
     }
 
 -- and no other bytes are
@@ -61,9 +62,9 @@ both_is e image bytes both =
     let far : rest ≡ drop (n + n) bytes = drop-drop n n bytes in
     let long : length rest ≡ 2 = ap length far ∙ omega (arith, both.size, length-drop (n + n) bytes) in
     let first : get_or rest 0 0 ≡ open_gate =
-        ap (λ (xs : List ℕ). get_or xs 0 0) far ∙ get_or-drop (n + n) bytes 0 0 ∙ ap (λ k. get_or bytes k 0) (omega arith) ∙ both.gates A in
+    ap (λ (xs : List ℕ). get_or xs 0 0) far ∙ get_or-drop (n + n) bytes 0 0 ∙ ap (λ k. get_or bytes k 0) (omega arith) ∙ both.gates A in
     let second : get_or rest 1 0 ≡ open_gate =
-        ap (λ (xs : List ℕ). get_or xs 1 0) far ∙ get_or-drop (n + n) bytes 1 0 ∙ ap (λ k. get_or bytes k 0) (omega arith) ∙ both.gates B in
+    ap (λ (xs : List ℕ). get_or xs 1 0) far ∙ get_or-drop (n + n) bytes 1 0 ∙ ap (λ k. get_or bytes k 0) (omega arith) ∙ both.gates B in
     let ends : rest ≡ open_gate ∷ open_gate ∷ [] = two rest long ∙ ap (λ x. x ∷ get_or rest 1 0 ∷ []) first ∙ ap (λ y. open_gate ∷ y ∷ []) second in
     sym (take-append-drop n bytes) ∙ ap (λ (xs : List ℕ). xs ++ drop n bytes) a
     ∙ ap (λ (xs : List ℕ). image ++ xs) (sym (take-append-drop n (drop n bytes)) ∙ ap (λ (xs : List ℕ). xs ++ rest) b ∙ ap (λ (xs : List ℕ). image ++ xs) ends)

@@ -53,7 +53,8 @@ pub fn read_cells(
     ensures fed { OnOk result (kept_front election.now cells.new ++ part.new.items
         ≡ kept_front election.now cells.old ++ part.old.items ++ bytes.now) }
     ensures refused { IfErr result
-        (IsRefusedPiece election.now (kept_front election.now cells.old ++ part.old.items) bytes.now) }
+        (IsRefusedPiece election.now
+        (kept_front election.now cells.old ++ part.old.items) bytes.now) }
 {
     let size = election.cell_bytes();
     let rest = fill(part, bytes, size)?;
@@ -142,8 +143,10 @@ fn read_cell(cells: &mut CellsRead, bytes: &[u8], election: &Election) -> Result
 }
 
 fn add(cells: &mut CellsRead, number: u64, reach: usize) -> Result<(), AllocError>
-    ensures numbers { OnOk result (cells.new.numbers.items ≡ cells.old.numbers.items ++ number ∷ []) }
-    ensures reaches { OnOk result (cells.new.reaches.items ≡ cells.old.reaches.items ++ reach ∷ []) }
+    ensures numbers { OnOk result
+        (cells.new.numbers.items ≡ cells.old.numbers.items ++ number ∷ []) }
+    ensures reaches { OnOk result
+        (cells.new.reaches.items ≡ cells.old.reaches.items ++ reach ∷ []) }
     ensures records { cells.new.records ≡ cells.old.records }
 {
     cells.numbers.push(number)?;

@@ -54,7 +54,8 @@ impl WithdrawCore {
         requires some_list { 1 ≤ length lists.items }
         requires few_lists { length lists.items ≤ 64 }
         ensures opened { IfOk result
-            (λ core. core ≡ opened order.bits order.salt limit start.now (map (λ list. list.items) lists.items)) }
+            (λ core. core ≡ opened order.bits order.salt limit start.now (map
+            (λ list. list.items) lists.items)) }
         ensures invariant { IfOk result IsWithdrawing }
     {
         let cells = order.homes() + limit as usize;

@@ -40,7 +40,8 @@ pub struct Withdrawer {
 impl Withdrawer {
     /// One at rest, which has answered the numbers that need no step.
     pub fn new(alloc: Global, list: Vec<u64>, seats: &Seats) -> Result<Withdrawer, Memory>
-        ensures opened { IfOk result (λ tab. tab_of tab ≡ opened_tab seats.now.numbers.items list.items) }
+        ensures opened { IfOk result
+            (λ tab. tab_of tab ≡ opened_tab seats.now.numbers.items list.items) }
         ensures room { IfOk result HasReplyRoom }
     {
         let replies = Vec::with_capacity(alloc, list.len())?;
@@ -177,7 +178,8 @@ fn next_act(shape: &Shape, words: &mut [u64], state: WithdrawState) -> (Withdraw
     requires fits { FitsIn shape.now.cells (state_of state) }
     requires finds { MayFind (state_of state)
         (slice_index words.old (word_of (withdraw_act (state_of state)))) }
-    ensures { (base : List ℕ) → Moves (home_of shape.now.order.bits shape.now.order.salt) base words.old
+    ensures { (base : List ℕ)
+        → Moves (home_of shape.now.order.bits shape.now.order.salt) base words.old
         (state_of state) (number_of (state_of state))
         words.new (state_of result.0) (note_of result.1) }
 {
