@@ -1,4 +1,4 @@
-ghost use Rattle.std.specs.Prelude.{◌≡◌, ◌≤◌, ℕ, length, None, IfOk};
+ghost use Rattle.std.specs.Prelude.{◌≡◌, ◌≤◌, ℕ, length, None, IsSome, IfOk, OnOk};
 ghost use Rattle.outside_io.specs.Count.{count_of};
 
 use crate::{Count, Failed, Sink, Source};
@@ -42,6 +42,7 @@ impl<'a, I: Input> StdinSource<'a, I> {
     // Reads the next bytes of the input, by one reader for all calls.
     fn read_input(&mut self, buf: &mut [u8]) -> io::Result<usize>
         ensures within { IfOk result (λ count. count ≤ length buf.old) }
+        ensures stays_open { IsSome self.new.reader }
         ensures faults { self.new.faults ≡ self.old.faults }
     {
         if let Some(reader) = &mut self.reader {
@@ -94,6 +95,8 @@ impl<'a, F: Files> FileSource<'a, F> {
     // Reads the next bytes of the file, which it opens where that is still to be done.
     fn read_file(&mut self, buf: &mut [u8]) -> io::Result<usize>
         ensures within { IfOk result (λ count. count ≤ length buf.old) }
+        ensures opens { OnOk result (IsSome self.new.file) }
+        ensures stays_open { IsSome self.old.file → IsSome self.new.file }
         ensures faults { self.new.faults ≡ self.old.faults }
     {
         if let Some(file) = &mut self.file {

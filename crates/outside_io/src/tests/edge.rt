@@ -4,7 +4,7 @@ use crate::standard::read_again;
 use crate::{Failed, FileSource, Sink, Source, StdinSource, StdoutSink};
 use fake_system::{Call, FAULT_KINDS, FakeFiles, FakeInput, FakeOutput, Stage};
 use std::alloc::Global;
-use std::fs;
+use std::fs::{self, Files};
 use std::io::{self, ErrorKind, Read};
 use std::process::Abort;
 use std::test::Fail;
@@ -159,19 +159,24 @@ fn reads_a_real_file(rt: HostRuntime) -> Result<(), Fail> {
     assert_eq!(rt; source.read(&mut buf), Ok(1));
     assert_eq!(rt; buf, *b"cb");
     assert_eq!(rt; source.read(&mut buf), Ok(0));
-    for bad in [
-        ".",
-        "outside_io_reads_a_file/inside",
-        "outside_io_is_missing",
-        "",
-        "a\0b",
-    ] {
-        let mut source = FileSource::new(&rt, bad);
-        assert_eq!(rt; source.read(&mut buf), Err(Failed), "{bad:?}");
-        assert_eq!(rt; source.read(&mut buf), Err(Failed), "{bad:?}");
-    }
     fs::remove_file(&rt, path)?;
     Ok(())
+}
+
+// The first two reads of the file of a path.
+fn read_twice(files: &impl Files, path: &str) -> [Result<usize, Failed>; 2] {
+    let mut source = FileSource::new(files, path);
+    [source.read(&mut [0; 2]), source.read(&mut [0; 2])]
+}
+
+#[test]
+fn a_path_that_is_no_file_is_a_fault(rt: HostRuntime) {
+    let faults = [Err(Failed), Err(Failed)];
+    assert_eq!(rt; read_twice(&rt, "."), faults);
+    assert_eq!(rt; read_twice(&rt, "/dev/null/inside"), faults);
+    assert_eq!(rt; read_twice(&rt, "outside_io_is_missing"), faults);
+    assert_eq!(rt; read_twice(&rt, ""), faults);
+    assert_eq!(rt; read_twice(&rt, "a\0b"), faults);
 }
 
 #[test]
