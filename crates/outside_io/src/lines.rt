@@ -2,7 +2,7 @@ ghost use Rattle.std.specs.Prelude.{◌≡◌, ◌≢◌, ◌==◌, ℕ, ◌+◌
 ghost use Rattle.store_spec.specs.Fault.{CountsFault, CountsFaultIf};
 ghost use Rattle.outside_io.specs.Stream.{GivesFront};
 ghost use Rattle.outside_io.specs.Told.{AsTold};
-ghost use Rattle.store_spec.specs.Input.{first_width, IsTooLong, script_limit};
+ghost use Rattle.store_spec.specs.Input.{IsTooLong, first_width, line_end, line_limit, script_limit};
 
 use crate::{Failed, Memory, Source, read_piece};
 use std::alloc::Global;
@@ -100,7 +100,7 @@ impl Model for Lines {
 
 // Where the first line end stands.
 fn first_end(bytes: &[u8]) -> Option<usize>
-    ensures { result ≡ position (λ byte. byte == 10) bytes.now }
+    ensures { result ≡ position (λ byte. byte == line_end) bytes.now }
 {
     bytes.iter().position(|byte| *byte == LINE_END)
 }
@@ -116,8 +116,8 @@ fn line_width(bytes: &[u8]) -> usize
 }
 
 fn answer_for(width: usize) -> NextLine
-    ensures whole { width ≤ 8192 → result ≡ NextLine.Whole }
-    ensures too_wide { 8192 < width → result ≡ NextLine.TooWide }
+    ensures whole { width ≤ line_limit → result ≡ NextLine.Whole }
+    ensures too_wide { line_limit < width → result ≡ NextLine.TooWide }
 {
     if width <= LINE_LIMIT {
         NextLine::Whole
@@ -203,7 +203,7 @@ impl Lines {
         requires no_end { first_width self.old.text ≡ length self.old.text }
         ensures no_end { first_width self.new.text ≡ length self.new.text }
         ensures size { length self.new.text ≡ length self.old.text }
-        ensures narrow { length self.old.text ≤ 8192 → self.new.text ≡ self.old.text }
+        ensures narrow { length self.old.text ≤ line_limit → self.new.text ≡ self.old.text }
         ensures room { self.new.room ≡ self.old.room }
         ensures space { 0 < self.new.space }
     {
