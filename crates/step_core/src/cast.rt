@@ -10,6 +10,21 @@ ghost use Rattle.store_spec.specs.CastStep.CastState.{Carrying, Probing, Ready};
 use crate::{Act, Shape};
 use probe_order::{Order, claim_place};
 
+/// What a step tells.
+#[derive(Clone, Copy, Debug, PartialEq, Eq)]
+pub enum CastNote {
+    /// Nothing.
+    Quiet,
+    /// The number was claimed here.
+    Claimed,
+    /// The number was claimed before.
+    Taken,
+    /// Each claim word holds another number.
+    Full,
+    /// The last number in hand was put into an empty cell.
+    Placed,
+}
+
 /// What a tabulator is about.
 #[derive(Clone, Copy, Debug, PartialEq, Eq)]
 pub enum CastState {
@@ -31,21 +46,6 @@ pub enum CastState {
         place: usize,
         seen: u64,
     },
-}
-
-/// What a step tells.
-#[derive(Clone, Copy, Debug, PartialEq, Eq)]
-pub enum CastNote {
-    /// Nothing.
-    Quiet,
-    /// The number was claimed here.
-    Claimed,
-    /// The number was claimed before.
-    Taken,
-    /// Each claim word holds another number.
-    Full,
-    /// The last number in hand was put into an empty cell.
-    Placed,
 }
 
 /// What a tabulator does next.

@@ -2,6 +2,7 @@
 
 ghost use Rattle.std.specs.Prelude.{◌≡◌, ◌≢◌, ◌↔◌, ◌+◌, ◌^◌, ◌<◌, ◌≤◌, All, AllPairs, IfOk, IsTrue, length, map};
 ghost use Rattle.std.specs.List.Sorted.{IsNonDecreasing};
+ghost use Rattle.store_spec.specs.Election.{most_ballots};
 ghost use Rattle.step_core.specs.CastCore.{HasReplyRoom, met_of, tab_of};
 ghost use Rattle.step_core.specs.Casting.{FallsAt, HasEnded, IsCasting, IsDone, IsDoneAt, Steps, cells_in, mets_at, opened, opened_tabs};
 
@@ -22,18 +23,6 @@ pub struct CastCore {
     tabs: Vec<Tabulator>,
 }
 
-impl Model for CastCore {
-    ghost use Rattle.step_core.specs.Casting.{Casting};
-
-    ghost Value = { Casting };
-
-    ghost use Rattle.step_core.specs.CastCoreKept.{casting_of, IsCoreKept};
-
-    ghost view = { casting_of };
-
-    ghost invariant = { IsCoreKept };
-}
-
 impl CastCore {
     /// A core over the layout of a set, with a tabulator for each list. Numbers that need no step are answered.
     pub fn new(
@@ -43,14 +32,14 @@ impl CastCore {
         start: &[u64],
         lists: Vec<Vec<u64>>,
     ) -> Result<CastCore, Memory>
-        requires some_limit { 1 ≤ limit }
-        requires few_numbers { limit ≤ 32768 }
-        requires distinct { AllPairs (λ a b. a ≢ b) start.now }
-        requires some { All (λ v. v ≢ 0) start.now }
-        requires within_limit { length start.now ≤ limit }
-        requires listed { All (λ list. All (λ x. x ≢ 0) list.items) lists.items }
         requires some_list { 1 ≤ length lists.items }
         requires few_lists { length lists.items ≤ 64 }
+        requires listed { All (λ list. All (λ x. x ≢ 0) list.items) lists.items }
+        requires some_limit { 1 ≤ limit }
+        requires few_numbers { limit ≤ most_ballots }
+        requires within_limit { length start.now ≤ limit }
+        requires distinct { AllPairs (λ a b. a ≢ b) start.now }
+        requires some { All (λ v. v ≢ 0) start.now }
         ensures opened { IfOk result
             (λ core. core ≡ opened order.bits order.salt limit start.now (map
             (λ list. list.items) lists.items)) }
@@ -73,6 +62,16 @@ impl CastCore {
             words,
             tabs,
         })
+    }
+
+    /// Whether every tabulator is at rest with its list used up. Then the phase has its outcome, and the cells are the
+    /// layout of the set after it.
+    pub fn at_rest(&self) -> bool
+        ensures done { IsTrue result ↔ All IsDone self.now.tabs }
+        ensures outcome { IsTrue result → HasEnded self.now }
+        ensures invariant { IsCasting self.now }
+    {
+        all_done(&self.tabs)
     }
 
     /// One step of a tabulator, by its row of the table of casting. Where it comes to rest, it answers the numbers that
@@ -109,16 +108,18 @@ impl CastCore {
     {
         &self.words[..self.shape.cells]
     }
+}
 
-    /// Whether every tabulator is at rest with its list used up. Then the phase has its outcome, and the cells are the
-    /// layout of the set after it.
-    pub fn at_rest(&self) -> bool
-        ensures done { IsTrue result ↔ All IsDone self.now.tabs }
-        ensures outcome { IsTrue result → HasEnded self.now }
-        ensures invariant { IsCasting self.now }
-    {
-        all_done(&self.tabs)
-    }
+impl Model for CastCore {
+    ghost use Rattle.step_core.specs.Casting.{Casting};
+
+    ghost Value = { Casting };
+
+    ghost use Rattle.step_core.specs.CastCoreKept.{casting_of, IsCoreKept};
+
+    ghost view = { casting_of };
+
+    ghost invariant = { IsCoreKept };
 }
 
 /// A tabulator for each list, which has answered the numbers that need no step.
