@@ -25,7 +25,8 @@ impl Seats {
         requires distinct { AllPairs (λ a b. a ≢ b) start.now }
         requires once { StandOnce cells.now }
         ensures numbers { IfOk result (λ seats. seats.numbers.items ≡ ascending start.now) }
-        ensures seats { IfOk result (λ seats. AreSeats cells.now seats.numbers.items seats.places.items) }
+        ensures seats { IfOk result
+            (λ seats. AreSeats cells.now seats.numbers.items seats.places.items) }
     {
         let numbers = in_order(alloc, start)?;
         let mut places = vec![in alloc; 0; start.len()]?;
