@@ -13,7 +13,7 @@ pub use cell::{CellRead, take_cell};
 pub use contest::{Contest, MAX_CHOICES};
 pub use election::{Election, MAX_BITS, MAX_CONTESTS, MAX_LIMIT, MAX_STYLES};
 pub use fault::{LineFault, LineWhy};
-pub use line::read_line;
+pub use line::{read_line, take_number};
 pub use record::{MAX_MARK_SETS, Record};
 
 #[cfg(test)]

@@ -18,7 +18,7 @@ fn after_byte(bytes: &[u8], byte: u8) -> Option<&[u8]>
 
 /// The number from 1 to the limit that stands first, and the bytes after it.
 #[tactic(auto, unfolding(crate::specs::LineReading::digits_at))]
-fn take_number(bytes: &[u8], limit: u64) -> Option<(u64, &[u8])>
+pub fn take_number(bytes: &[u8], limit: u64) -> Option<(u64, &[u8])>
     ensures { option_map (λ x. (x.0, x.1.now)) result ≡ digits_at limit 0 bytes.now }
 {
     let mut value: u64 = 0;

@@ -18,7 +18,8 @@ pub fn one_command()
 /// Where the sources tell their bytes, the words and what stands outside before the run decide how it ends, but for
 /// faults and want of memory: each other status comes exactly where its outcome says.
 pub fn one_answer<E: Source, S: Source, K: Sink>()
-    ensures { (words : List (List ℕ)) (a b : Status) (old a_new b_new : Input E) (before a_after b_after : Outside S K)
+    ensures { (words : List (List ℕ)) (a b : Status) (old a_new b_new : Input E)
+        (before a_after b_after : Outside S K)
         → IsSome old.left → IsSome before.script.left
         → Ends words a old a_new before a_after → Ends words b old b_new before b_after
         → IsDecided a → IsDecided b → a ≡ b }

@@ -3,6 +3,7 @@ ghost use Rattle.std.proofs.Common.{arith};
 
 use crate::{Status, Which, run};
 use ballot_record::LineWhy;
+use election_def::ElectionFault;
 use outside_io::{Failed, MemorySink, MemorySource, Sink, Source, SureSink, SureSource};
 use std::alloc::{AllocError, Global};
 use std::test::Fail;
@@ -453,6 +454,29 @@ fn status_texts(rt: HostRuntime) -> Result<(), Fail> {
     for (status, number, text) in rows {
         assert_eq!(rt; status.number(), number);
         assert_eq!(rt; status.to_string(rt.alloc())?.as_str(), text);
+    }
+    Ok(())
+}
+
+#[test]
+fn texts_of_causes(rt: HostRuntime) -> Result<(), Fail> {
+    let alloc = rt.alloc();
+    let rows = [
+        (LineWhy::Malformed, "malformed"),
+        (LineWhy::Invalid, "invalid"),
+        (LineWhy::Duplicate, "duplicate"),
+        (LineWhy::Conflict, "conflict"),
+        (LineWhy::Full, "full"),
+    ];
+    for (why, text) in rows {
+        assert_eq!(rt; why.to_string(alloc)?.as_str(), text);
+    }
+    let rows = [
+        (ElectionFault::NotElection, "no election"),
+        (ElectionFault::Memory, "out of memory"),
+    ];
+    for (fault, text) in rows {
+        assert_eq!(rt; fault.to_string(alloc)?.as_str(), text);
     }
     Ok(())
 }

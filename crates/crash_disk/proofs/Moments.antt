@@ -1,10 +1,10 @@
 -- How runs of disk calls go on. A proof about a layer cites these at each call, and looks at no bytes.
-use Rattle.std.proofs.Common.{◌≡◌, ℕ, ◌+◌, ◌≤◌, ◌<◌, List, sym, ◌∙◌, subst, arith, ⊎_elim}
+use Rattle.std.proofs.Common.{◌≡◌, ℕ, ◌+◌, ◌≤◌, ◌<◌, List, sym, ◌∙◌, subst, inl, inr, arith, ⊎_elim}
 use Rattle.std.proofs.lemmas.Bool.{cases_lt, cond-true, lt-ltb}
 use Rattle.std.proofs.lemmas.Bool.Decides.{nat_tests}
 use Rattle.std.specs.Prelude.{Option, Some, nat_lt}
 use Rattle.store_spec.specs.Fault.{last_count, next_count}
-use Rattle.store_spec.specs.Disk.{after_calls, inside_next, leaves_now, torn_from, IsTorn, LeavesAtMost, AddsNoCrashImage, TearsAtMost, LeavesTorn, IsSettled, EachCrashImage, LeavesOnly}
+use Rattle.store_spec.specs.Disk.{after_calls, inside_next, leaves_now, torn_from, IsTorn, LeavesAtMost, AddsNoCrashImage, TearsAtMost, LeavesTorn, IsSettled, EachCrashImage, LeavesOnly, LeavesOnlyOnceSynced, SyncsFirst}
 use Rattle.crash_disk.proofs.TornBytes.{torn-same, torn-again}
 
 -- a count never falls
@@ -30,10 +30,11 @@ module _ {D : Type 0} (calls : D → ℕ) (may_leave : D → ℕ → List ℕ �
     each = λ _ m from to c left.
         let now : m ≡ after_calls (calls disk) = omega arith in
         here c (subst (λ t. may_leave disk t c) now left);
+    now = here;
   }
 
   -- one call more, where each image that it may leave has P
-  pub goes_on : (old mid new : D) (P images : List ℕ → Type 0) → LeavesOnly calls may_leave old mid P → LeavesAtMost calls may_leave images mid new → (calls mid < last_count → (c : List ℕ) → images c → P c) → LeavesOnly calls may_leave old new P
+  pub goes_on : (old mid new : D) (P images : List ℕ → Type 0) → LeavesOnly calls may_leave old mid P → LeavesAtMost calls may_leave images mid new → ((c : List ℕ) → images c → P c) → LeavesOnly calls may_leave old new P
   goes_on old mid new P images so_far call here =
       let more : calls mid ≤ calls new = omega (arith, call.counted, le-next_count (calls mid)) in
       record {
@@ -51,19 +52,18 @@ module _ {D : Type 0} (calls : D → ℕ) (may_leave : D → ℕ → List ℕ �
             ⊎_elim
             (λ (inside : m < inside_next (calls mid) + 1).
             let is : m ≡ inside_next (calls mid) = omega arith in
-            here early c (call.inside early c (subst (λ t. may_leave new t c) is left)))
+            here c (call.inside early c (subst (λ t. may_leave new t c) is left)))
             (λ (after : inside_next (calls mid) + 1 ≤ m).
             let is : m ≡ after_calls (calls new) = omega arith in
-            here early c (call.after c (subst (λ t. may_leave new t c) is left)))
+            here c (call.after c (subst (λ t. may_leave new t c) is left)))
             (cases_lt m (inside_next (calls mid) + 1)))
             (cases_lt m (after_calls (calls mid) + 1));
+        now = λ c left. here c (call.after c left);
       }
 
   -- one call more that leaves the images as they are: a `size`, a `read` or a `sync`, whatever it answers
   pub goes_on_same : (old mid new : D) (P : List ℕ → Type 0) → LeavesOnly calls may_leave old mid P → AddsNoCrashImage calls may_leave mid new → LeavesOnly calls may_leave old new P
-  goes_on_same old mid new P so_far call =
-      goes_on old mid new P (leaves_now calls may_leave mid) so_far call
-      (λ lt c left. so_far.each lt (after_calls (calls mid)) (omega (arith, so_far.later)) (omega arith) c left)
+  goes_on_same old mid new P so_far call = goes_on old mid new P (leaves_now calls may_leave mid) so_far call so_far.now
 
   -- two runs, one after the other
   pub joined : (old mid new : D) (P : List ℕ → Type 0) → LeavesOnly calls may_leave old mid P → LeavesOnly calls may_leave mid new P → LeavesOnly calls may_leave old new P
@@ -78,6 +78,7 @@ module _ {D : Type 0} (calls : D → ℕ) (may_leave : D → ℕ → List ℕ �
         (λ (before : m < after_calls (calls mid)). one.each (omega (arith, two.later)) m from (omega arith) c ((two.past lt m (omega arith) c).0 left))
         (λ (after : after_calls (calls mid) ≤ m). two.each lt m after to c left)
         (cases_lt m (after_calls (calls mid)));
+    now = two.now;
   }
 
   -- what has P has Q
@@ -86,7 +87,60 @@ module _ {D : Type 0} (calls : D → ℕ) (may_leave : D → ℕ → List ℕ �
     later = run.later;
     past = run.past;
     each = λ lt m from to c left. h c (run.each lt m from to c left);
+    now = λ c left. h c (run.now c left);
   }
+
+  -- ---- runs that begin with a sync
+
+  -- a sync that succeeds, and what follows
+  pub synced_first : (old mid new : D) (P : List ℕ → Type 0) → AddsNoCrashImage calls may_leave old mid → LeavesOnly calls may_leave mid new P → LeavesOnlyOnceSynced calls may_leave old new P
+  synced_first old mid new P sync run =
+      let more : calls old ≤ calls mid = omega (arith, sync.counted, le-next_count (calls old)) in
+      let next : calls mid < last_count → calls mid ≡ calls old + 1 = λ lt. sync.counted ∙ next_count-below (calls old) (omega arith) in
+      record {
+        later = omega (arith, run.later);
+        past = λ lt m le c.
+            let early : calls mid < last_count = omega (arith, run.later) in
+            let first = sync.past (omega arith) m le c in
+            let second = run.past lt m (omega (arith, next early)) c in
+            (λ left. first.0 (second.0 left), λ left. second.1 (first.1 left));
+        before = λ lt m from to c left.
+            let early : calls mid < last_count = omega (arith, run.later) in
+            let here = (run.past lt m (omega (arith, next early)) c).0 left in
+            ⊎_elim
+            (λ (inside : inside_next (calls old) ≤ m).
+            let is : m ≡ inside_next (calls old) = omega arith in
+            sync.inside (omega arith) c (subst (λ t. may_leave mid t c) is here))
+            (λ (now : m < inside_next (calls old)).
+            let is : m ≡ after_calls (calls old) = omega arith in
+            subst (λ t. may_leave old t c) is ((sync.past (omega arith) m (omega arith) c).0 here))
+            (⊎_elim inr inl (cases_lt m (inside_next (calls old))));
+        each = λ lt m from to c left.
+            let early : calls mid < last_count = omega (arith, run.later) in
+            run.each lt m (omega (arith, next early)) to c left;
+        now = run.now;
+      }
+
+  -- what each image of the start has, and each one from the sync on, all of them have
+  pub once_synced : (old new : D) (P Q : List ℕ → Type 0) → ((c : List ℕ) → leaves_now calls may_leave old c → P c) → ((c : List ℕ) → Q c → P c) → LeavesOnlyOnceSynced calls may_leave old new Q → LeavesOnly calls may_leave old new P
+  once_synced old new P Q start more run = record {
+    later = run.later;
+    past = run.past;
+    each = λ lt m from to c left.
+        ⊎_elim
+        (λ (before : m < inside_next (calls old) + 1). start c (run.before lt m from (omega arith) c left))
+        (λ (after : inside_next (calls old) + 1 ≤ m). more c (run.each lt m (omega arith) to c left))
+        (cases_lt m (inside_next (calls old) + 1));
+    now = λ c left. more c (run.now c left);
+  }
+
+  -- a run of one call, which leaves the images as they are
+  pub one_call : (old new : D) (P : List ℕ → Type 0) → ((c : List ℕ) → leaves_now calls may_leave old c → P c) → AddsNoCrashImage calls may_leave old new → LeavesOnly calls may_leave old new P
+  one_call old new P start call = goes_on_same old old new P (started old P start) call
+
+  -- what each image of the start has, and each one from the sync on, all of them have, also where the sync fails
+  pub syncs_first : (old new : D) (P Q : List ℕ → Type 0) → ((c : List ℕ) → leaves_now calls may_leave old c → P c) → ((c : List ℕ) → Q c → P c) → SyncsFirst calls may_leave old new Q → LeavesOnly calls may_leave old new P
+  syncs_first old new P Q start more run = ⊎_elim (λ synced. once_synced old new P Q start more synced) (λ failed. one_call old new P start failed.at_most) run
 
   -- ---- ranges of moments, for marks that were made on the way
 
@@ -112,7 +166,7 @@ module _ {D : Type 0} (calls : D → ℕ) (may_leave : D → ℕ → List ℕ �
   pub goes_on_write : (at n from k : ℕ) (bytes : List ℕ) (old mid new : D) (P : List ℕ → Type 0) → LeavesOnly calls may_leave old mid P → LeavesTorn calls may_leave at n bytes mid → at ≤ from → from + k ≤ at + n → TearsAtMost calls may_leave from k mid new → ((c : List ℕ) → IsTorn at n bytes c → P c) → LeavesOnly calls may_leave old new P
   goes_on_write at n from k bytes old mid new P so_far torn begins ends call here =
       goes_on old mid new P (torn_from from k (leaves_now calls may_leave mid)) so_far call
-      (λ _ c left. here c (torn-write at n from k bytes mid c begins ends torn left))
+      (λ c left. here c (torn-write at n from k bytes mid c begins ends torn left))
 
   -- and what it leaves now
   pub torn-after_write : (at n from k : ℕ) (bytes : List ℕ) (mid new : D) → LeavesTorn calls may_leave at n bytes mid → at ≤ from → from + k ≤ at + n → TearsAtMost calls may_leave from k mid new → LeavesTorn calls may_leave at n bytes new

@@ -42,10 +42,13 @@ pub trait Disk {
     /// size between the old and the new. After `Failed` a read may give such bytes too.
     fn write_at(&mut self, at: u64, bytes: &[u8]) -> Result<(), Failed>
         requires { ForSome (seen self.old) (λ old. at ≤ length old) }
-        ensures written { OnOk result (seen self.new ≡ option_map (overwritten at bytes.now) (seen self.old)) }
-        ensures torn { OnErr result (SeenTorn at (length bytes.now) (seen self.old) (seen self.new)) }
+        ensures written { OnOk result (seen self.new ≡ option_map (overwritten at bytes.now)
+            (seen self.old)) }
+        ensures torn { OnErr result (SeenTorn at (length bytes.now) (seen self.old)
+            (seen self.new)) }
         ensures crash_images { TearsAtMost calls may_leave at (length bytes.now) self.old self.new }
-        ensures any_bytes { OnOk result (TearsExactly calls may_leave at (length bytes.now) self.old self.new) }
+        ensures any_bytes { OnOk result (TearsExactly calls may_leave at
+            (length bytes.now) self.old self.new) }
         ensures fault { CountsFault result (faults self.old) (faults self.new) };
 
     /// Once it has succeeded, a crash can leave only what a read gives. After `Failed` nothing is safe, and a read may

@@ -1,14 +1,18 @@
 //! A disk over a file of the system. It tells nothing of its bytes.
 
-ghost use Rattle.std.specs.Prelude.{◌≡◌, ◌≤◌, ℕ, None, is_ok, OnOk, OnErr};
-ghost use Rattle.store_spec.specs.Fault.{CountsFault};
-ghost use Rattle.store_spec.specs.Fault.{next_count};
+ghost use Rattle.std.specs.Prelude.{◌≡◌, ℕ, None, true, OnOk, OnErr};
+ghost use Rattle.store_spec.specs.Fault.{next_count, CountsFault};
+ghost use Rattle.outside_io.specs.Count.{count_of};
 
 use crate::disk::Disk;
 use outside_io::{Count, Failed};
 use std::fs::{Files, OpenFile, OpenOptions};
-use std::io::{self, ErrorKind, Read, Seek, SeekFrom, Write};
+use std::io::{self, ErrorKind};
+use std::os::unix::fs::{FileExt, OpenOptionsExt};
 use std::path::Path;
+
+/// Who may read and write a file that is made here: its owner alone.
+const OWNER_ALONE: u32 = 0o600;
 
 /// A disk over a file, whose path is opened at the first call. Where no file is there, it has no bytes, and the first
 /// write makes one. To reach outside the file is a fault.
@@ -17,8 +21,13 @@ pub struct FileDisk<'a, F: Files> {
     files: &'a F,
     path: &'a str,
     file: Option<F::File>,
-    /// The file was made here, and its folder was not synced since.
-    is_new: bool,
+    /// The size, where it was asked for and no write failed since.
+    size: Option<u64>,
+    /// The next sync has to reach all that the system keeps of the file: since the last one that succeeded the file was
+    /// opened, made or grown, or a sync failed.
+    needs_all: bool,
+    /// The folder was not synced since the file was opened or made.
+    owes_folder: bool,
     calls: Count,
     faults: Count,
 }
@@ -26,23 +35,39 @@ pub struct FileDisk<'a, F: Files> {
 impl<'a, F: Files> FileDisk<'a, F> {
     /// A disk over the file of this path. It opens nothing yet.
     pub fn new(rt: &'a F, path: &'a str) -> FileDisk<'a, F>
-        ensures no_calls { result.calls.value ≡ 0 }
-        ensures no_faults { result.faults.value ≡ 0 }
+        ensures no_calls { count_of result.calls ≡ 0 }
+        ensures no_faults { count_of result.faults ≡ 0 }
     {
         FileDisk {
             files: rt,
             path,
             file: None,
-            is_new: false,
+            size: None,
+            needs_all: false,
+            owes_folder: false,
             calls: Count::zero(),
             faults: Count::zero(),
         }
+    }
+
+    /// Keeps a file that was just opened or made.
+    fn keep(&mut self, file: F::File)
+        ensures calls { self.new.calls ≡ self.old.calls }
+        ensures faults { self.new.faults ≡ self.old.faults }
+        ensures needs_all { self.new.needs_all ≡ true }
+        ensures owes_folder { self.new.owes_folder ≡ true }
+    {
+        self.file = Some(file);
+        self.needs_all = true;
+        self.owes_folder = true;
     }
 
     /// Opens the file, unless it is open or missing.
     fn open(&mut self) -> io::Result<()>
         ensures calls { self.new.calls ≡ self.old.calls }
         ensures faults { self.new.faults ≡ self.old.faults }
+        ensures needs_all { self.old.needs_all ≡ true → self.new.needs_all ≡ true }
+        ensures owes_folder { self.old.owes_folder ≡ true → self.new.owes_folder ≡ true }
     {
         if self.file.is_none() {
             match OpenOptions::new()
@@ -50,7 +75,7 @@ impl<'a, F: Files> FileDisk<'a, F> {
                 .write(true)
                 .open(self.files, self.path)
             {
-                Ok(file) => self.file = Some(file),
+                Ok(file) => self.keep(file),
                 Err(error) if error.kind() == ErrorKind::NotFound => {}
                 Err(error) => return Err(error),
             }
@@ -58,8 +83,88 @@ impl<'a, F: Files> FileDisk<'a, F> {
         Ok(())
     }
 
-    /// Makes the file.
-    fn make(&mut self) -> io::Result<()>
+    /// Asks how many bytes the file has.
+    fn find_size(&mut self) -> io::Result<u64>
+        ensures calls { self.new.calls ≡ self.old.calls }
+        ensures faults { self.new.faults ≡ self.old.faults }
+    {
+        self.open()?;
+        let size = match &self.file {
+            Some(file) => file.metadata()?.len(),
+            None => 0,
+        };
+        self.size = Some(size);
+        Ok(size)
+    }
+
+    /// How many bytes the file has, which is asked for where it is not known.
+    fn known_size(&mut self) -> io::Result<u64>
+        ensures calls { self.new.calls ≡ self.old.calls }
+        ensures faults { self.new.faults ≡ self.old.faults }
+    {
+        match self.size {
+            Some(size) => Ok(size),
+            None => self.find_size(),
+        }
+    }
+
+    /// Syncs the file, and its folder where that is owed. A file that is missing has nothing to sync.
+    fn settle(&mut self) -> io::Result<()>
+        ensures calls { self.new.calls ≡ self.old.calls }
+        ensures faults { self.new.faults ≡ self.old.faults }
+        ensures needs_all { OnErr result (self.old.needs_all ≡ true → self.new.needs_all ≡ true) }
+        ensures owes_folder { OnErr result (self.old.owes_folder ≡ true
+            → self.new.owes_folder ≡ true) }
+    {
+        self.open()?;
+        let Some(file) = &self.file else {
+            return Ok(());
+        };
+        let needs_all = self.needs_all;
+        self.needs_all = true;
+        if needs_all {
+            file.sync_all()?;
+        } else {
+            file.sync_data()?;
+        }
+        if self.owes_folder {
+            sync_folder(self.files, self.path)?;
+            self.owes_folder = false;
+        }
+        self.needs_all = false;
+        Ok(())
+    }
+
+    /// Counts a call, and hands on what came of it.
+    fn count<T: Drop>(&mut self, outcome: io::Result<T>) -> Result<T, Failed>
+        ensures calls { count_of self.new.calls ≡ next_count (count_of self.old.calls) }
+        ensures fault { CountsFault result (count_of self.old.faults) (count_of self.new.faults) }
+    {
+        self.calls.add_one();
+        self.faults.counted(outcome)
+    }
+}
+
+impl<'a, F: Files> FileDisk<'a, F>
+where
+    F::File: FileExt,
+{
+    fn read_range(&mut self, at: u64, buf: &mut [u8]) -> io::Result<()>
+        ensures calls { self.new.calls ≡ self.old.calls }
+        ensures faults { self.new.faults ≡ self.old.faults }
+    {
+        let size = self.known_size()?;
+        if at > size || buf.len() as u64 > size - at {
+            return Err(ErrorKind::UnexpectedEof.into());
+        }
+        match &self.file {
+            Some(file) => file.read_exact_at(buf, at),
+            None => Ok(()),
+        }
+    }
+
+    /// Makes the file, with these bytes.
+    fn make(&mut self, bytes: &[u8]) -> io::Result<()>
         ensures calls { self.new.calls ≡ self.old.calls }
         ensures faults { self.new.faults ≡ self.old.faults }
     {
@@ -67,79 +172,34 @@ impl<'a, F: Files> FileDisk<'a, F> {
             .read(true)
             .write(true)
             .create_new(true)
+            .mode(OWNER_ALONE)
             .open(self.files, self.path)?;
-        self.file = Some(file);
-        self.is_new = true;
-        Ok(())
-    }
-
-    /// How many bytes the file has.
-    fn find_size(&mut self) -> io::Result<u64>
-        ensures calls { self.new.calls ≡ self.old.calls }
-        ensures faults { self.new.faults ≡ self.old.faults }
-    {
-        self.open()?;
-        match &self.file {
-            Some(file) => Ok(file.metadata()?.len()),
-            None => Ok(0),
-        }
-    }
-
-    fn read_range(&mut self, at: u64, buf: &mut [u8]) -> io::Result<()>
-        ensures calls { self.new.calls ≡ self.old.calls }
-        ensures faults { self.new.faults ≡ self.old.faults }
-    {
-        let size = self.find_size()?;
-        if at > size || buf.len() as u64 > size - at {
-            return Err(ErrorKind::UnexpectedEof.into());
-        }
-        if let Some(file) = &mut self.file {
-            file.seek(SeekFrom::Start(at))?;
-            file.read_exact(buf)?;
-        }
-        Ok(())
+        let outcome = file.write_all_at(bytes, 0);
+        self.keep(file);
+        outcome
     }
 
     fn write_range(&mut self, at: u64, bytes: &[u8]) -> io::Result<()>
         ensures calls { self.new.calls ≡ self.old.calls }
         ensures faults { self.new.faults ≡ self.old.faults }
     {
-        if at > self.find_size()? {
+        let size = self.known_size()?;
+        let Some(end) = at.checked_add(bytes.len() as u64) else {
+            return Err(ErrorKind::InvalidInput.into());
+        };
+        if at > size {
             return Err(ErrorKind::InvalidInput.into());
         }
-        if self.file.is_none() {
-            self.make()?;
+        if end > size {
+            self.needs_all = true;
         }
-        if let Some(file) = &mut self.file {
-            file.seek(SeekFrom::Start(at))?;
-            file.write_all(bytes)?;
+        self.size = None;
+        match &self.file {
+            Some(file) => file.write_all_at(bytes, at)?,
+            None => self.make(bytes)?,
         }
+        self.size = Some(end.max(size));
         Ok(())
-    }
-
-    /// Syncs the file, and the folder of a file that is new. A file that is missing has nothing to sync.
-    fn settle(&mut self) -> io::Result<()>
-        ensures calls { self.new.calls ≡ self.old.calls }
-        ensures faults { self.new.faults ≡ self.old.faults }
-    {
-        self.open()?;
-        if let Some(file) = &self.file {
-            file.sync_all()?;
-        }
-        if self.is_new {
-            sync_folder(self.files, self.path)?;
-            self.is_new = false;
-        }
-        Ok(())
-    }
-
-    /// Counts a call, and hands on what came of it.
-    fn count<T: Drop>(&mut self, outcome: io::Result<T>) -> Result<T, Failed>
-        ensures calls { self.new.calls.value ≡ next_count self.old.calls.value }
-        ensures fault { CountsFault result self.old.faults.value self.new.faults.value }
-    {
-        self.calls.add_one();
-        self.faults.counted(outcome)
     }
 }
 
@@ -154,14 +214,17 @@ fn sync_folder<F: Files>(files: &F, path: &str) -> io::Result<()> {
     folder.sync_all()
 }
 
-impl<'a, F: Files> Disk for FileDisk<'a, F> {
+impl<'a, F: Files> Disk for FileDisk<'a, F>
+where
+    F::File: FileExt,
+{
     ghost seen = { λ _. None };
 
     ghost may_leave = { λ _ _ _. ⊥ };
 
-    ghost calls = { λ disk. disk.calls.value };
+    ghost calls = { λ disk. count_of disk.calls };
 
-    ghost faults = { λ disk. disk.faults.value };
+    ghost faults = { λ disk. count_of disk.faults };
 
     ghost counted_calls = { λ disk. disk.calls.within };
 

@@ -1,7 +1,7 @@
 //! Laws of every disk, of torn ranges, and of the disks in memory.
 
-ghost use Rattle.std.specs.Prelude.{◌≡◌, ℕ, ◌+◌, ◌≤◌, max, List, length, slice_range, Some, None};
-ghost use Rattle.store_spec.specs.Disk.{leaves_now, overwritten, IsTorn, IsSettled, AddsNoCrashImage, TearsAtMost, LeavesOnly};
+ghost use Rattle.std.specs.Prelude.{◌≡◌, ℕ, Bool, IsTrue, ◌+◌, ◌<◌, ◌≤◌, max, List, [], ◌∷◌, ◌++◌, length, slice_index, slice_range, Some, None};
+ghost use Rattle.store_spec.specs.Disk.{leaves_now, overwritten, IsTorn, IsSettled, AddsNoCrashImage, TearsAtMost, LeavesOnly, LeavesOnlyOnceSynced, SyncsFirst};
 ghost use Rattle.crash_disk.specs.Figures.{HasThreeCrashImages, HasOneCrashImage};
 
 use crate::disk::Disk;
@@ -31,6 +31,24 @@ pub fn two_writes_and_a_sync<D: Disk>()
         → LeavesOnly D.calls D.may_leave settled synced (IsTorn at n bytes) }
 {}
 
+/// A sync that succeeds and a run behind it: up to the sync's return a crash leaves what it might have left before.
+pub fn synced_first<D: Disk>()
+    ensures { (old synced new : D) (p : List ℕ → Bool)
+        → AddsNoCrashImage D.calls D.may_leave old synced
+        → LeavesOnly D.calls D.may_leave synced new (λ c. IsTrue (p c))
+        → LeavesOnlyOnceSynced D.calls D.may_leave old new (λ c. IsTrue (p c)) }
+{}
+
+/// What holds of each crash image of the start, and of each one from the first sync on, holds at each moment, whether
+/// that sync succeeds or fails.
+pub fn syncs_first<D: Disk>()
+    ensures { (old new : D) (p q : List ℕ → Bool)
+        → ((c : List ℕ) → leaves_now D.calls D.may_leave old c → IsTrue (p c))
+        → ((c : List ℕ) → IsTrue (q c) → IsTrue (p c))
+        → SyncsFirst D.calls D.may_leave old new (λ c. IsTrue (q c))
+        → LeavesOnly D.calls D.may_leave old new (λ c. IsTrue (p c)) }
+{}
+
 /// What a write that succeeds leaves for a read: its bytes in its range, and a size that covers it. It is one of the
 /// ways in which the range may be torn.
 pub fn written_range()
@@ -42,12 +60,28 @@ pub fn written_range()
         → IsTorn at (length bytes) old (overwritten at bytes old) }
 {}
 
+/// A byte that was written is read back. Two writes, one behind the other, are one, and a write of what stands there
+/// already, or of nothing, changes nothing.
+pub fn written_again()
+    ensures byte { (at x : ℕ) (old : List ℕ) → at ≤ length old
+        → slice_index (overwritten at (x ∷ []) old) at ≡ x }
+    ensures next { (at k : ℕ) (xs ys old : List ℕ) → at ≤ length old → length xs ≡ k
+        → overwritten (at + k) ys (overwritten at xs old) ≡ overwritten at (xs ++ ys) old }
+    ensures same { (at n : ℕ) (bytes old : List ℕ) → length bytes ≡ n
+        → bytes ≡ slice_range old at (at + n) → overwritten at bytes old ≡ old }
+    ensures nothing { (at : ℕ) (old : List ℕ) → overwritten at [] old ≡ old }
+{}
+
 /// A torn range leaves the bytes outside. It leaves the size, where it lies within the size.
 pub fn torn_range()
     ensures before { (at n i j : ℕ) (old new : List ℕ) → j ≤ at → IsTorn at n old new
         → slice_range new i j ≡ slice_range old i j }
     ensures behind { (at n i j : ℕ) (old new : List ℕ) → at + n ≤ i → IsTorn at n old new
         → slice_range new i j ≡ slice_range old i j }
+    ensures byte_before { (at n i : ℕ) (old new : List ℕ) → i < at → IsTorn at n old new
+        → slice_index new i ≡ slice_index old i }
+    ensures byte_behind { (at n i : ℕ) (old new : List ℕ) → at + n ≤ i → IsTorn at n old new
+        → slice_index new i ≡ slice_index old i }
     ensures size { (at n : ℕ) (old new : List ℕ) → at + n ≤ length old → IsTorn at n old new
         → length new ≡ length old }
 {}

@@ -55,15 +55,18 @@ impl MemoryDisk {
     /// The call with this index in the record, counted from 0, whether it succeeded or failed. There is none behind
     /// the calls that were made, or behind those that the record has room for.
     pub fn call_made(&self, index: u64) -> Option<DiskCall>
-        ensures call { result ≡ option_map (λ made. made.call) (slice_get (recorded_made self.now) index) }
-        ensures made { IsSome result ↔ (index < min (recorded_calls self.now) self.now.recording.room.calls) }
+        ensures call { result ≡ option_map
+            (λ made. made.call) (slice_get (recorded_made self.now) index) }
+        ensures made { IsSome result
+            ↔ (index < min (recorded_calls self.now) self.now.recording.room.calls) }
     {
         self.recording.call_made(index)
     }
 
     /// What that call put: the bytes of a write that succeeded, and none where it is another call or there is none.
     pub fn written(&self, index: u64) -> &[u8]
-        ensures { result.now ≡ option_map_or (λ made. made.put) (slice_get (recorded_made self.now) index) [] }
+        ensures { result.now ≡ option_map_or
+            (λ made. made.put) (slice_get (recorded_made self.now) index) [] }
     {
         self.recording.put_at(index)
     }
@@ -136,7 +139,8 @@ impl<W: Failing + Drop> Disk for RecordedDisk<W> {
     fn size(&mut self) -> Result<u64, Failed>
         ensures passes { is_ok result ≡ passes_next W.fails self.old }
         ensures recorded { Records (plain_call Size (is_ok result)) self.old self.new }
-        ensures size { IfOk result (λ size. IfSome (recorded_sees self.old) (λ bytes. size ≡ length bytes)) }
+        ensures size { IfOk result (λ size. IfSome (recorded_sees self.old)
+            (λ bytes. size ≡ length bytes)) }
         ensures same_bytes { recorded_sees self.new ≡ recorded_sees self.old }
         ensures crash_images { KeepsCrashImages recorded_calls recorded_leaves self.old self.new }
         ensures fault { CountsFault result (recorded_faults self.old) (recorded_faults self.new) }
@@ -148,7 +152,8 @@ impl<W: Failing + Drop> Disk for RecordedDisk<W> {
     fn read(&mut self, at: u64, buf: &mut [u8]) -> Result<(), Failed>
         requires { ForSome (recorded_sees self.old) (λ bytes. at + length buf.old ≤ length bytes) }
         ensures passes { is_ok result ≡ passes_next W.fails self.old }
-        ensures recorded { Records (plain_call (Read at (length buf.old)) (is_ok result)) self.old self.new }
+        ensures recorded { Records (plain_call (Read at (length buf.old))
+            (is_ok result)) self.old self.new }
         ensures read { OnOk result (IfSome (recorded_sees self.old)
             (λ bytes. buf.new ≡ slice_range bytes at (at + length buf.old))) }
         ensures same_bytes { recorded_sees self.new ≡ recorded_sees self.old }
@@ -161,17 +166,23 @@ impl<W: Failing + Drop> Disk for RecordedDisk<W> {
 
     fn write_at(&mut self, at: u64, bytes: &[u8]) -> Result<(), Failed>
         requires { ForSome (recorded_sees self.old) (λ old. at ≤ length old) }
-        ensures passes { is_ok result ≡ (passes_next W.fails self.old && has_room self.old.recording at (length bytes.now)) }
+        ensures passes { is_ok result ≡
+            (passes_next W.fails self.old && has_room self.old.recording at (length bytes.now)) }
         ensures recorded { OnOk result (Records (write_call at bytes.now) self.old self.new) }
         ensures recorded_failed { OnErr result
             (Records (plain_call (Write at (length bytes.now)) false) self.old self.new) }
         ensures unchanged { OnErr result (recorded_sees self.new ≡ recorded_sees self.old) }
-        ensures unchanged_crash_images { OnErr result (KeepsCrashImages recorded_calls recorded_leaves self.old self.new) }
+        ensures unchanged_crash_images { OnErr result
+            (KeepsCrashImages recorded_calls recorded_leaves self.old self.new) }
         ensures written { OnOk result
-            (recorded_sees self.new ≡ option_map (overwritten at bytes.now) (recorded_sees self.old)) }
-        ensures torn { OnErr result (SeenTorn at (length bytes.now) (recorded_sees self.old) (recorded_sees self.new)) }
-        ensures crash_images { TearsAtMost recorded_calls recorded_leaves at (length bytes.now) self.old self.new }
-        ensures any_bytes { OnOk result (TearsExactly recorded_calls recorded_leaves at (length bytes.now) self.old self.new) }
+            (recorded_sees self.new ≡ option_map (overwritten at bytes.now)
+            (recorded_sees self.old)) }
+        ensures torn { OnErr result (SeenTorn at (length bytes.now) (recorded_sees self.old)
+            (recorded_sees self.new)) }
+        ensures crash_images { TearsAtMost recorded_calls recorded_leaves at
+            (length bytes.now) self.old self.new }
+        ensures any_bytes { OnOk result (TearsExactly recorded_calls recorded_leaves at
+            (length bytes.now) self.old self.new) }
         ensures fault { CountsFault result (recorded_faults self.old) (recorded_faults self.new) }
     {
         let passes = self.may_pass();
@@ -186,8 +197,10 @@ impl<W: Failing + Drop> Disk for RecordedDisk<W> {
         ensures told { is_some (recorded_sees self.new) ≡ is_some (recorded_sees self.old) }
         ensures crash_images { AddsNoCrashImage recorded_calls recorded_leaves self.old self.new }
         ensures inside { KeepsThemInside recorded_calls recorded_leaves self.old self.new }
-        ensures settled { OnOk result (IsSettled recorded_sees recorded_calls recorded_leaves self.new) }
-        ensures unsettled { OnErr result (KeepsCrashImages recorded_calls recorded_leaves self.old self.new) }
+        ensures settled { OnOk result
+            (IsSettled recorded_sees recorded_calls recorded_leaves self.new) }
+        ensures unsettled { OnErr result
+            (KeepsCrashImages recorded_calls recorded_leaves self.old self.new) }
         ensures fault { CountsFault result (recorded_faults self.old) (recorded_faults self.new) }
     {
         let passes = self.may_pass();

@@ -90,7 +90,8 @@ impl Recording {
 
     /// The call with this index in the record.
     pub(crate) fn call_made(&self, index: u64) -> Option<DiskCall>
-        ensures call { result ≡ option_map (λ made. made.call) (slice_get (made_calls self.now) index) }
+        ensures call { result ≡ option_map
+            (λ made. made.call) (slice_get (made_calls self.now) index) }
         ensures made { IsSome result ↔ (index < min self.now.calls self.now.room.calls) }
     {
         self.entries.get(index as usize).map(|entry| entry.call)
@@ -98,7 +99,8 @@ impl Recording {
 
     /// What that call put.
     pub(crate) fn put_at(&self, index: u64) -> &[u8]
-        ensures { result.now ≡ option_map_or (λ made. made.put) (slice_get (made_calls self.now) index) [] }
+        ensures { result.now ≡ option_map_or
+            (λ made. made.put) (slice_get (made_calls self.now) index) [] }
     {
         match self.entries.get(index as usize) {
             Some(entry) => &self.written[entry.start..entry.start + entry.count],
@@ -155,7 +157,8 @@ impl Recording {
         ensures passes { is_ok result ≡ passes }
         ensures noted { Notes (plain_call (Read at (length buf.old)) passes) self.old self.new }
         ensures bytes { self.new.bytes.items ≡ self.old.bytes.items }
-        ensures read { OnOk result (buf.new ≡ slice_range self.old.bytes.items at (at + length buf.old)) }
+        ensures read { OnOk result (buf.new ≡ slice_range self.old.bytes.items at
+            (at + length buf.old)) }
     {
         let call = DiskCall::Read {
             at,
@@ -187,8 +190,10 @@ impl Recording {
         requires room { IsTrue passes → self.old.calls < self.old.room.calls }
         ensures passes { is_ok result ≡ (passes && has_room self.old at (length bytes.now)) }
         ensures noted { OnOk result (Notes (write_call at bytes.now) self.old self.new) }
-        ensures noted_failed { OnErr result (Notes (plain_call (Write at (length bytes.now)) false) self.old self.new) }
-        ensures written { OnOk result (self.new.bytes.items ≡ overwritten at bytes.now self.old.bytes.items) }
+        ensures noted_failed { OnErr result (Notes (plain_call (Write at
+            (length bytes.now)) false) self.old self.new) }
+        ensures written { OnOk result
+            (self.new.bytes.items ≡ overwritten at bytes.now self.old.bytes.items) }
         ensures unwritten { OnErr result (self.new.bytes.items ≡ self.old.bytes.items) }
     {
         if !(passes && self.may_write(at, bytes.len())) {

@@ -1,6 +1,10 @@
+pub mod Fed
+pub mod FirstCells
 pub mod FourTests
+pub mod Held
 pub mod Images
 pub mod Listings
+pub mod MediumParts
 pub mod OneSet
 pub mod Reaches
 pub mod Reading

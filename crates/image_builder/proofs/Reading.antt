@@ -131,14 +131,18 @@ pub record AreRead (e : Election) (bank : List ℕ) (place : ℕ) (numbers : Lis
   pub few : length ballots ≤ e.limit
   pub bytes : first_cells e place bank ≡ flat_map (cell_bytes e ballots) numbers
 
-pub listing_read : (e : Election) (bank : List ℕ) (place : ℕ) (numbers : List ℕ) (ballots : List Ballot) → AreRead e bank place numbers ballots → MayHold e ballots
-listing_read e bank place numbers ballots read = record {
+-- ordered numbers are those of a listing
+pub listing_ordered : (e : Election) (numbers : List ℕ) (ballots : List Ballot) → IsOrdered (home_in e) numbers → numbers_of ballots ≡ numbers_in numbers → All (IsValid e) ballots → length ballots ≤ e.limit → MayHold e ballots
+listing_ordered e numbers ballots ordered same valid few = record {
   listing = record {
-    valid = read.valid;
-    distinct = pairs_of_ballots (λ a b. a ≢ b) ballots (subst (λ (ns : List ℕ). AllPairs (λ a b. a ≢ b) ns) (sym read.same) (distinct_in (home_in e) numbers read.ordered));
+    valid = valid;
+    distinct = pairs_of_ballots (λ a b. a ≢ b) ballots (subst (λ (ns : List ℕ). AllPairs (λ a b. a ≢ b) ns) (sym same) (distinct_in (home_in e) numbers ordered));
   };
-  within_limit = read.few;
+  within_limit = few;
 }
+
+pub listing_read : (e : Election) (bank : List ℕ) (place : ℕ) (numbers : List ℕ) (ballots : List Ballot) → AreRead e bank place numbers ballots → MayHold e ballots
+listing_read e bank place numbers ballots read = listing_ordered e numbers ballots read.ordered read.same read.valid read.few
 
 pub front_read : (e : Election) (bank : List ℕ) (place : ℕ) (numbers : List ℕ) (ballots : List Ballot) → IsElection e → place ≤ cell_count e → AreRead e bank place numbers ballots → take place (cells_of e ballots) ≡ numbers
 front_read e bank place numbers ballots election le read =

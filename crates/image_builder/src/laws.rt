@@ -1,11 +1,12 @@
 //! Laws of images: that they show the set and nothing of an order. Each function here states a law and does nothing.
 
-ghost use Rattle.std.specs.Prelude.{◌≡◌, ℕ, ◌<◌, ◌↔◌, Contains, IsPermutation, List, length, take};
+ghost use Rattle.std.specs.Prelude.{◌≡◌, ℕ, ◌<◌, ◌↔◌, Contains, IsPermutation, List, Option, Some, length, take};
 ghost use Rattle.store_spec.specs.Ballot.{Ballot, IsBallotSet, IsListing, IsWithinLimit};
 ghost use Rattle.store_spec.specs.Build.{Builds};
 ghost use Rattle.store_spec.specs.Damage.{IsFirstFailing, IsFirstWrong, IsWrongCell};
 ghost use Rattle.store_spec.specs.Election.{Election, IsElection, bank_size, cell_count, header_size};
 ghost use Rattle.store_spec.specs.Image.{IsImageOf, header_of, image_of};
+ghost use Rattle.store_spec.specs.Medium.{Holds, IsMediumOf};
 
 /// A set of ballots has one image, in whatever order the ballots are listed.
 pub fn one_image()
@@ -20,6 +21,14 @@ pub fn one_set()
         → image_of e xs ≡ image_of e ys → xs ≡ ys }
     ensures bank { (e : Election) (bank : List ℕ) (xs ys : List Ballot) → IsElection e
         → IsImageOf e bank xs → IsImageOf e bank ys → xs ≡ ys }
+{}
+
+/// Bytes hold one thing: one set, or nothing. The medium of a set holds that set.
+pub fn one_held()
+    ensures held { (e : Election) (bytes : List ℕ) (a b : Option (List Ballot)) → IsElection e
+        → Holds e bytes a → Holds e bytes b → a ≡ b }
+    ensures medium { (e : Election) (bytes : List ℕ) (ballots : List Ballot) → IsElection e
+        → IsMediumOf e bytes ballots → Holds e bytes (Some ballots) }
 {}
 
 /// The first wrong cell is the first that fails one of the four tests, and no other cell is. Where the header is the

@@ -1,10 +1,14 @@
 //! Banks of the example election and of one with a single home.
 
-ghost use Rattle.std.specs.Prelude.{◌≡◌, ◌<◌, length};
+ghost use Rattle.image_builder.specs.Reading.{IsRefusedBank};
+ghost use Rattle.std.specs.Prelude.{◌≡◌, ◌≢◌, ◌<◌, IfErr, IfOk, length};
+ghost use Rattle.store_spec.specs.Election.{bank_size};
+ghost use Rattle.store_spec.specs.Image.{IsImageOf};
 
-use crate::{ImageFault, Scratch, image, image_part, read_image};
+use crate::{ImageFault, ImageReader, PAGE_BYTES, Scratch, image, image_part, read_image};
 use ballot_record::{Contest, Election, read_line};
 use body_store::Closed;
+use std::alloc::Global;
 
 const HEADER: [u8; 32] =
     *b"HIBSTORE\x00\x01\x03\x02\x00\x00\x00\x08\0\0\0\0\0\0\0\0\0\0\0\0\0\0\0\0";
@@ -67,7 +71,8 @@ fn no_ballots(rt: HostRuntime) {
         .expect(&rt, "an image");
     assert_eq!(rt; read.len(), 0);
     let scratch = Scratch::new(rt.alloc(), &election).expect(&rt, "memory");
-    assert_eq!(rt; scratch.bank.len(), 304);
+    assert_eq!(rt; scratch.found.len(), PAGE_BYTES);
+    assert_eq!(rt; scratch.made.len(), PAGE_BYTES);
 }
 
 #[test]
@@ -118,4 +123,99 @@ fn more_than_the_limit(rt: HostRuntime) {
     bytes[49..].copy_from_slice(&NINE);
     let fault = read_image(rt.alloc(), &bytes, &election).err();
     assert_eq!(rt; fault, Some(ImageFault::Damaged { cell: 1 }));
+}
+
+/// The store whose image a bank is, read in pieces of so many bytes with an empty one before each. That it is no other
+/// and no earlier answer than that of the whole bank takes nothing but what `feed` and `finish` say.
+fn read_in_pieces(
+    alloc: Global,
+    bank: &[u8],
+    size: usize,
+    election: &Election,
+) -> Result<Closed, ImageFault>
+    requires long { length bank.now ≡ bank_size election.now }
+    requires some { 0 < size }
+    ensures image { IfOk result (λ store. IsImageOf election.now bank.now store.ballots) }
+    ensures refused { IfErr result
+        (λ fault. fault ≢ ImageFault.Memory → IsRefusedBank election.now bank.now fault) }
+{
+    let mut reader = ImageReader::new(alloc, election)?;
+    let mut rest = bank;
+    while !rest.is_empty() {
+        let (piece, behind) = rest.split_at(size.min(rest.len()));
+        reader = reader.feed(alloc, &[], election)?;
+        reader = reader.feed(alloc, piece, election)?;
+        rest = behind;
+    }
+    Ok(reader.finish(alloc, election)?)
+}
+
+fn with_byte(place: usize, byte: u8) -> [u8; 304]
+    requires { place < 304 }
+{
+    let mut bank = bank(6);
+    bank[place] = byte;
+    bank
+}
+
+fn with_cell(place: usize, cell: &[u8; 17]) -> [u8; 304]
+    requires { place < 16 }
+{
+    let mut bank = bank(6);
+    put(&mut bank, place, cell);
+    bank
+}
+
+#[test]
+fn any_pieces(rt: HostRuntime) {
+    let election = Election::example();
+    let mut header = HEADER;
+    header[9] = 2;
+    let table = [
+        (bank(6), Ok(3)),
+        (with_byte(9, 2), Err(ImageFault::OtherElection { header })),
+        (with_byte(108, 2), Err(ImageFault::Damaged { cell: 4 })),
+        (with_byte(112, 0x10), Err(ImageFault::Damaged { cell: 4 })),
+        (with_cell(4, &[0; 17]), Err(ImageFault::Damaged { cell: 6 })),
+        (with_cell(5, &[0; 17]), Err(ImageFault::Damaged { cell: 6 })),
+        (with_cell(6, &NINE), Err(ImageFault::Damaged { cell: 6 })),
+        (with_cell(6, &[0; 17]), Ok(2)),
+    ];
+    for (bytes, wanted) in table {
+        for size in [1, 7, 17, 4096, 304] {
+            let answer = read_in_pieces(rt.alloc(), &bytes, size, &election);
+            let held = answer.map(|store| store.len());
+            assert_eq!(rt; held, wanted, "{size} bytes");
+        }
+        let answer = read_image(rt.alloc(), &bytes, &election);
+        let held = answer.map(|store| store.len());
+        assert_eq!(rt; held, wanted);
+    }
+}
+
+/// What the byte behind so many of a bank is refused with.
+fn refusal_behind(
+    alloc: Global,
+    bank: &[u8],
+    count: usize,
+    election: &Election,
+) -> Result<Option<ImageFault>, ImageFault>
+    requires long { length bank.now ≡ bank_size election.now }
+    requires within { count < length bank.now }
+{
+    let (front, behind) = bank.split_at(count);
+    let reader = ImageReader::new(alloc, election)?;
+    let reader = reader.feed(alloc, front, election)?;
+    Ok(reader.feed(alloc, &behind[..1], election).err())
+}
+
+#[test]
+fn refused_with_its_last_byte(rt: HostRuntime) {
+    let election = Election::example();
+    let mut header = HEADER;
+    header[9] = 2;
+    let other = refusal_behind(rt.alloc(), &with_byte(9, 2), 31, &election);
+    assert_eq!(rt; other, Ok(Some(ImageFault::OtherElection { header })));
+    let damaged = refusal_behind(rt.alloc(), &with_byte(108, 2), 116, &election);
+    assert_eq!(rt; damaged, Ok(Some(ImageFault::Damaged { cell: 4 })));
 }

@@ -3,7 +3,7 @@
 ghost use Rattle.std.specs.Prelude.{◌≡◌, ℕ, ◌+◌, ◌-◌, ◌≤◌, ◌<◌, List, take, drop, length, IfOk, IsPermutation};
 ghost use Rattle.body_store.specs.Contents.{IsStored};
 ghost use Rattle.store_spec.specs.Ballot.{Ballot};
-ghost use Rattle.store_spec.specs.Election.{bank_size, cell_size};
+ghost use Rattle.store_spec.specs.Election.{IsElection, bank_size, cell_size};
 ghost use Rattle.store_spec.specs.Image.{cell_bytes, cells_of, header_of, image_of};
 
 use ballot_record::Election;
@@ -132,7 +132,8 @@ fn put_from(bytes: &[u8], from: usize, out: &mut [u8]) -> usize
 
 /// The header of the images of an election.
 pub fn header(election: &Election) -> [u8; HEADER_BYTES]
-    ensures { result ≡ header_of election.now }
+    ensures header { result ≡ header_of election.now }
+    ensures valid { IsElection election.now }
 {
     let mut header = [0; HEADER_BYTES];
     header[..8].copy_from_slice(&MARK);
@@ -142,21 +143,4 @@ pub fn header(election: &Election) -> [u8; HEADER_BYTES]
     BigEndian::write_u32(&mut header[12..], election.limit());
     BigEndian::write_u64(&mut header[16..], election.salt());
     header
-}
-
-/// A buffer of one bank, for writing and comparing.
-#[derive(Drop)]
-pub struct Scratch {
-    /// As many bytes as a bank has.
-    pub bank: Vec<u8>,
-}
-
-impl Scratch {
-    /// A buffer as long as a bank of this election.
-    pub fn new(alloc: Global, election: &Election) -> Result<Scratch, Memory>
-        ensures { IfOk result (λ scratch. length scratch.bank.items ≡ bank_size election.now) }
-    {
-        let bank = vec![in alloc; 0; election.bank_bytes()]?;
-        Ok(Scratch { bank })
-    }
 }

@@ -1,5 +1,5 @@
 -- How a source is cut into lines, whatever the pieces in which it gives its bytes.
-use Rattle.std.specs.Prelude.{◌≡◌, ℕ, ◌+◌, ◌<◌, ◌≤◌, List, [], ◌∷◌, ◌++◌, length, take, drop, Option, Some, None, Result, Ok, Err}
+use Rattle.std.specs.Prelude.{◌≡◌, ℕ, ◌+◌, ◌<◌, ◌≤◌, List, [], ◌∷◌, ◌++◌, length, take, drop, Option, Some, None, Result, Ok, Err, codes}
 use Rattle.outside_io.specs.declared.lines.Found.{Found}
 use Rattle.outside_io.specs.declared.lines.Found.TheVariants.{Line, TooMuch, Nothing}
 use Rattle.outside_io.specs.declared.lines.LineEndFault.{LineEndFault}
@@ -46,6 +46,11 @@ Answers (Err ReadFault) text room now rest = LooksLike text rest × (now.room �
 -- the same, where the source tells its bytes
 pub record AnswersTold (answer : Result NextLine LineEndFault) (old : Kept) (before : Option (List ℕ)) (now : Kept) (left : Option (List ℕ)) : Type 0 where
   pub told : IfTold before left (λ before left. Answers answer (old.text ++ before) old.room now (now.text ++ left))
+
+-- what is printed of a fault
+abbrev pub fault_text : LineEndFault → List ℕ
+fault_text TooLong = codes "the input is too long"
+fault_text ReadFault = codes "the input failed"
 
 -- ---- what the parts of a call do
 

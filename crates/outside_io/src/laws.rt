@@ -21,7 +21,8 @@ pub fn first_lines()
     ensures first { (ending : Ending) (text left : List ℕ) (lines : List (Option (List ℕ)))
         → ReadLines ending text left lines → ReadFirst text left lines }
     ensures all { (ending : Ending) (text left : List ℕ) (lines : List (Option (List ℕ)))
-        → ending ≢ Faulted → ReadLines ending text left lines → lines ≡ taken_within script_limit text }
+        → ending ≢ Faulted → ReadLines ending text left lines
+        → lines ≡ taken_within script_limit text }
 {}
 
 /// The first line within a room stands up to the first line end, and the others are the lines behind it. A text of no
@@ -29,9 +30,11 @@ pub fn first_lines()
 pub fn first_line()
     ensures first { (room left : ℕ) (text : List ℕ) → 0 < length text → ¬ IsTooLong text room
         → room + length (drop (first_width text + 1) text) ≡ left + length text
-        → lines_within room text ≡ take (first_width text) text ∷ lines_within left (drop (first_width text + 1) text) }
+        → lines_within room text ≡ take (first_width text) text ∷ lines_within left (drop
+        (first_width text + 1) text) }
     ensures empty { (room : ℕ) → lines_within room [] ≡ [] }
-    ensures too_long { (room : ℕ) (text : List ℕ) → IsTooLong text room → lines_within room text ≡ [] }
+    ensures too_long { (room : ℕ) (text : List ℕ) → IsTooLong text room
+        → lines_within room text ≡ [] }
 {}
 
 /// Behind a front whose lines all have an end, the lines of a text are those of the front and those of the rest.

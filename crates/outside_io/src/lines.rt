@@ -2,7 +2,7 @@ ghost use Rattle.std.specs.Prelude.{◌≡◌, ◌≢◌, ◌==◌, ℕ, ◌+◌
 ghost use Rattle.store_spec.specs.Fault.{CountsFault, CountsFaultIf};
 ghost use Rattle.outside_io.specs.Stream.{GivesFront};
 ghost use Rattle.outside_io.specs.Told.{AsTold};
-ghost use Rattle.store_spec.specs.Input.{first_width, IsTooLong, script_limit};
+ghost use Rattle.store_spec.specs.Input.{IsTooLong, first_width, line_end, line_limit, script_limit};
 
 use crate::{Failed, Memory, Source, read_piece};
 use std::alloc::Global;
@@ -40,11 +40,16 @@ pub enum LineEndFault {
 }
 
 impl fmt::Display for LineEndFault {
+    ghost use Rattle.std.specs.Prelude.{Some};
+    ghost use Rattle.outside_io.specs.Lines.{fault_text};
+
+    ghost output = { λ fault. Some (fault_text fault) };
+
     fn fmt<W: fmt::Write>(&self, f: &mut fmt::Formatter<W>) -> fmt::Result {
-        f.write_str(match self {
-            LineEndFault::TooLong => "the input is too long",
-            LineEndFault::ReadFault => "the input failed",
-        })
+        match self {
+            LineEndFault::TooLong => f.write_str("the input is too long"),
+            LineEndFault::ReadFault => f.write_str("the input failed"),
+        }
     }
 }
 
@@ -95,7 +100,7 @@ impl Model for Lines {
 
 // Where the first line end stands.
 fn first_end(bytes: &[u8]) -> Option<usize>
-    ensures { result ≡ position (λ byte. byte == 10) bytes.now }
+    ensures { result ≡ position (λ byte. byte == line_end) bytes.now }
 {
     bytes.iter().position(|byte| *byte == LINE_END)
 }
@@ -111,8 +116,8 @@ fn line_width(bytes: &[u8]) -> usize
 }
 
 fn answer_for(width: usize) -> NextLine
-    ensures whole { width ≤ 8192 → result ≡ NextLine.Whole }
-    ensures too_wide { 8192 < width → result ≡ NextLine.TooWide }
+    ensures whole { width ≤ line_limit → result ≡ NextLine.Whole }
+    ensures too_wide { line_limit < width → result ≡ NextLine.TooWide }
 {
     if width <= LINE_LIMIT {
         NextLine::Whole
@@ -198,7 +203,7 @@ impl Lines {
         requires no_end { first_width self.old.text ≡ length self.old.text }
         ensures no_end { first_width self.new.text ≡ length self.new.text }
         ensures size { length self.new.text ≡ length self.old.text }
-        ensures narrow { length self.old.text ≤ 8192 → self.new.text ≡ self.old.text }
+        ensures narrow { length self.old.text ≤ line_limit → self.new.text ≡ self.old.text }
         ensures room { self.new.room ≡ self.old.room }
         ensures space { 0 < self.new.space }
     {
@@ -226,10 +231,12 @@ impl Lines {
             (λ before left. LooksLike (self.old.text ++ before) (self.new.text ++ left)) }
         ensures gives { AsTold S.left source.old source.new GivesFront }
         ensures size { IfOk result (λ count. length self.new.text ≡ length self.old.text + count) }
-        ensures end { IfOk result (λ count. count ≡ 0 → IfSome (S.left source.new) (λ left. left ≡ [])) }
+        ensures end { IfOk result (λ count. count ≡ 0 → IfSome (S.left source.new)
+            (λ left. left ≡ [])) }
         ensures kept { OnErr result (length self.new.text ≡ length self.old.text) }
         ensures no_end { OnErr result (first_width self.new.text ≡ length self.new.text) }
-        ensures still_none { IfOk result (λ count. count ≡ 0 → first_width self.new.text ≡ length self.new.text) }
+        ensures still_none { IfOk result (λ count. count ≡ 0
+            → first_width self.new.text ≡ length self.new.text) }
         ensures within { length self.new.text ≤ self.new.room + 1 }
         ensures room { self.new.room ≡ self.old.room }
         ensures fault { CountsFault result (S.faults source.old) (S.faults source.new) }
@@ -250,15 +257,20 @@ impl Lines {
     /// After `ReadFault` a further call goes on from what was read; after `TooLong` it answers `TooLong` again. Of the
     /// source no more is read than one byte past the room.
     pub fn next_line<S: Source>(&mut self, source: &mut S) -> Result<NextLine, LineEndFault>
-        ensures answers { AnswersTold result self.old (S.left source.old) self.new (S.left source.new) }
+        ensures answers { AnswersTold result self.old (S.left source.old) self.new
+            (S.left source.new) }
         ensures gives { AsTold S.left source.old source.new GivesFront }
         ensures over { result ≡ Err LineEndFault.TooLong → IsTooLong self.new.text self.new.room }
-        ensures still_over { IsTooLong self.old.text self.old.room → result ≡ Err LineEndFault.TooLong }
+        ensures still_over { IsTooLong self.old.text self.old.room
+            → result ≡ Err LineEndFault.TooLong }
         ensures none_whole { result ≡ Err LineEndFault.ReadFault
-            → (first_width self.new.text ≡ length self.new.text) × (length self.new.text ≤ self.new.room) }
-        ensures progress { IfOk result (λ answer. answer ≢ NextLine.End → self.new.room < self.old.room) }
+            → (first_width self.new.text ≡ length self.new.text)
+            × (length self.new.text ≤ self.new.room) }
+        ensures progress { IfOk result (λ answer. answer ≢ NextLine.End
+            → self.new.room < self.old.room) }
         ensures within_room { length self.new.text ≤ self.new.room + 1 }
-        ensures fault { CountsFaultIf (result ≡ Err LineEndFault.ReadFault) (S.faults source.old) (S.faults source.new) }
+        ensures fault { CountsFaultIf (result ≡ Err LineEndFault.ReadFault) (S.faults source.old)
+            (S.faults source.new) }
     {
         'lines: loop {
             match self.cut() {

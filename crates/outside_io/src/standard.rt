@@ -1,11 +1,12 @@
-ghost use Rattle.std.specs.Prelude.{◌≡◌, ◌≤◌, ℕ, List, length, None, IfOk};
+ghost use Rattle.std.specs.Prelude.{◌≡◌, ◌≤◌, ℕ, length, None, IsSome, IfOk, OnOk};
+ghost use Rattle.outside_io.specs.Count.{count_of};
 
 use crate::{Count, Failed, Sink, Source};
 use std::io::{ErrorKind, Read};
 use std::rt::Files;
 use std::{fs, io};
 
-/// Reads the next bytes, and tries again where a signal interrupted the call.
+/// Reads the next bytes, and tries again where a signal interrupted the call. Every other error is handed on.
 pub fn read_again<R: Read>(reader: &mut R, buf: &mut [u8]) -> io::Result<usize>
     ensures { IfOk result (λ count. count ≤ length buf.old) }
 {
@@ -20,32 +21,49 @@ pub fn read_again<R: Read>(reader: &mut R, buf: &mut [u8]) -> io::Result<usize>
 
 /// Standard input. No clause says what it gives: it is part of the trusted edge.
 #[derive(Drop)]
-pub struct StdinSource<'a, I> {
+pub struct StdinSource<'a, I: Input> {
     input: &'a I,
+    reader: Option<I::Reader>,
     faults: Count,
 }
 
 impl<'a, I: Input> StdinSource<'a, I> {
     /// Reads nothing yet.
     pub fn new(rt: &'a I) -> StdinSource<'a, I>
-        ensures { result.faults.value ≡ 0 }
+        ensures { ⟦<StdinSource<'a, I> as Source>⟧.faults result ≡ 0 }
     {
         StdinSource {
             input: rt,
+            reader: None,
             faults: Count::zero(),
         }
+    }
+
+    // Reads the next bytes of the input, by one reader for all calls.
+    fn read_input(&mut self, buf: &mut [u8]) -> io::Result<usize>
+        ensures within { IfOk result (λ count. count ≤ length buf.old) }
+        ensures stays_open { IsSome self.new.reader }
+        ensures faults { self.new.faults ≡ self.old.faults }
+    {
+        if let Some(reader) = &mut self.reader {
+            return read_again(reader, buf);
+        }
+        let mut reader = self.input.reader();
+        let outcome = read_again(&mut reader, buf);
+        self.reader = Some(reader);
+        outcome
     }
 }
 
 impl<I: Input> Source for StdinSource<'_, I> {
     ghost left = { λ _. None };
 
-    ghost faults = { λ source. source.faults.value };
+    ghost faults = { λ source. count_of source.faults };
 
     ghost counted = { λ source. source.faults.within };
 
     fn read(&mut self, buf: &mut [u8]) -> Result<usize, Failed> {
-        let outcome = read_again(&mut self.input.reader(), buf);
+        let outcome = self.read_input(buf);
         self.faults.counted(outcome)
     }
 }
@@ -64,7 +82,7 @@ impl<'a, F: Files> FileSource<'a, F> {
     /// Opens nothing yet. A file that is missing, or that cannot be read, is a fault of the first read; the next read
     /// then tries to open it again.
     pub fn new(rt: &'a F, path: &'a str) -> FileSource<'a, F>
-        ensures { result.faults.value ≡ 0 }
+        ensures { ⟦<FileSource<'a, F> as Source>⟧.faults result ≡ 0 }
     {
         FileSource {
             files: rt,
@@ -77,22 +95,24 @@ impl<'a, F: Files> FileSource<'a, F> {
     // Reads the next bytes of the file, which it opens where that is still to be done.
     fn read_file(&mut self, buf: &mut [u8]) -> io::Result<usize>
         ensures within { IfOk result (λ count. count ≤ length buf.old) }
+        ensures opens { OnOk result (IsSome self.new.file) }
+        ensures stays_open { IsSome self.old.file → IsSome self.new.file }
         ensures faults { self.new.faults ≡ self.old.faults }
     {
-        if self.file.is_none() {
-            self.file = Some(fs::open(self.files, self.path)?);
+        if let Some(file) = &mut self.file {
+            return read_again(file, buf);
         }
-        match &mut self.file {
-            Some(file) => read_again(file, buf),
-            None => Ok(0),
-        }
+        let mut file = fs::open(self.files, self.path)?;
+        let outcome = read_again(&mut file, buf);
+        self.file = Some(file);
+        outcome
     }
 }
 
 impl<F: Files> Source for FileSource<'_, F> {
     ghost left = { λ _. None };
 
-    ghost faults = { λ source. source.faults.value };
+    ghost faults = { λ source. count_of source.faults };
 
     ghost counted = { λ source. source.faults.within };
 
@@ -112,7 +132,7 @@ pub struct StdoutSink<'a, P> {
 impl<'a, P: Print> StdoutSink<'a, P> {
     /// Writes nothing yet.
     pub fn new(rt: &'a P) -> StdoutSink<'a, P>
-        ensures { result.faults.value ≡ 0 }
+        ensures { ⟦<StdoutSink<'a, P> as Sink>⟧.faults result ≡ 0 }
     {
         StdoutSink {
             output: rt,
@@ -124,7 +144,7 @@ impl<'a, P: Print> StdoutSink<'a, P> {
 impl<P: Print> Sink for StdoutSink<'_, P> {
     ghost taken = { λ _. None };
 
-    ghost faults = { λ sink. sink.faults.value };
+    ghost faults = { λ sink. count_of sink.faults };
 
     ghost counted = { λ sink. sink.faults.within };
 

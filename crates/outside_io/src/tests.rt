@@ -1,12 +1,10 @@
 ghost use Rattle.std.specs.Prelude.{◌≡◌, ◌≤◌, ℕ, length, vec_len, None};
 
-use crate::standard::read_again;
 use crate::*;
 use std::alloc::Global;
-use std::fmt::Display;
-use std::io::{ErrorKind, Read};
 use std::test::Fail;
-use std::{fs, io};
+
+mod edge;
 
 /// Gives its bytes in pieces of at most so many, and fails once, before the call with that number.
 #[derive(Drop)]
@@ -164,83 +162,4 @@ fn sources_and_sinks_fail_where_they_are_told(rt: HostRuntime) -> Result<(), Fai
     let mut sure = SureSink::new();
     assert_eq!(rt; sure.write_all(b"ab"), Ok(()));
     Ok(())
-}
-
-#[test]
-fn reads_standard_input(rt: HostRuntime) {
-    let mut buf = [0; 4];
-    let read = StdinSource::new(&rt).read(&mut buf);
-    assert!(rt; read.is_ok(), "standard input is empty in a test: {read:?}");
-}
-
-// A reader that so many signals interrupt before it gives its letters.
-#[derive(Drop)]
-struct Signals {
-    left: u8,
-}
-
-impl Read for Signals {
-    fn read(&mut self, buf: &mut [u8]) -> io::Result<usize> {
-        if self.left > 0 {
-            self.left -= 1;
-            return Err(ErrorKind::Interrupted.into());
-        }
-        buf.fill(b'a');
-        Ok(buf.len())
-    }
-}
-
-#[test]
-fn reads_again_after_signals(rt: HostRuntime) -> Result<(), Fail> {
-    let mut buf = [0; 3];
-    assert_eq!(rt; read_again(&mut Signals { left: 2 }, &mut buf)?, 3);
-    assert_eq!(rt; buf, *b"aaa");
-    Ok(())
-}
-
-#[test]
-fn reads_a_file(rt: HostRuntime) -> Result<(), Fail> {
-    let path = "outside_io_reads_a_file";
-    fs::write(&rt, path, "abc")?;
-    let mut source = FileSource::new(&rt, path);
-    let mut buf = [0; 2];
-    assert_eq!(rt; source.read(&mut buf), Ok(2));
-    assert_eq!(rt; buf, *b"ab");
-    assert_eq!(rt; source.read(&mut buf), Ok(1));
-    assert_eq!(rt; buf, *b"cb");
-    assert_eq!(rt; source.read(&mut buf), Ok(0));
-    fs::remove_file(&rt, path)?;
-
-    let mut missing = FileSource::new(&rt, path);
-    assert_eq!(rt; missing.read(&mut buf), Err(Failed));
-    assert_eq!(rt; missing.read(&mut buf), Err(Failed));
-    Ok(())
-}
-
-#[test]
-fn writes_standard_output(rt: HostRuntime) {
-    let written = StdoutSink::new(&rt).write_all(b"written by a test\n");
-    assert_eq!(rt; written, Ok(()));
-}
-
-// An output that is closed.
-struct Closed;
-
-impl Print for Closed {
-    fn print<D: Display + Drop>(&self, _: D) -> io::Result<()> {
-        Err(ErrorKind::BrokenPipe.into())
-    }
-
-    fn println<D: Display + Drop>(&self, _: D) -> io::Result<()> {
-        Err(ErrorKind::BrokenPipe.into())
-    }
-
-    fn write_all(&self, _: &[u8]) -> io::Result<()> {
-        Err(ErrorKind::BrokenPipe.into())
-    }
-}
-
-#[test]
-fn tells_that_an_output_is_closed(rt: HostRuntime) {
-    assert_eq!(rt; StdoutSink::new(&Closed).write_all(b"a"), Err(Failed));
 }

@@ -79,7 +79,8 @@ pub fn cast_after(shape: &Shape, state: CastState, found: u64) -> (CastState, Ca
     requires small { shape.now.cells + shape.now.claims < 2 ^ 32 }
     requires fits { FitsIn (table_of shape.now) (state_of state) }
     requires may_find { MayFind (state_of state) found }
-    ensures { LeadsTo (table_of shape.now) (state_of state) found (state_of result.0) (note_of result.1) }
+    ensures { LeadsTo (table_of shape.now) (state_of state) found (state_of result.0)
+        (note_of result.1) }
 {
     match state {
         CastState::Rest => unreachable!(),
@@ -112,7 +113,8 @@ pub fn cast_first(shape: &Shape, number: u64, found: u64) -> (CastState, CastNot
     requires small { shape.now.cells + shape.now.claims < 2 ^ 32 }
     requires some { number ≢ 0 }
     requires claims { shape.now.claims ≢ 0 }
-    ensures { LeadsTo (table_of shape.now) (Probing number 0) found (state_of result.0) (note_of result.1) }
+    ensures { LeadsTo (table_of shape.now) (Probing number 0) found (state_of result.0)
+        (note_of result.1) }
 {
     after_probe(shape, number, 0, found)
 }
@@ -120,7 +122,8 @@ pub fn cast_first(shape: &Shape, number: u64, found: u64) -> (CastState, CastNot
 fn after_probe(shape: &Shape, number: u64, tries: usize, found: u64) -> (CastState, CastNote)
     requires fits { FitsIn (table_of shape.now) (Probing number tries) }
     requires small { shape.now.cells + shape.now.claims < 2 ^ 32 }
-    ensures { LeadsTo (table_of shape.now) (Probing number tries) found (state_of result.0) (note_of result.1) }
+    ensures { LeadsTo (table_of shape.now) (Probing number tries) found (state_of result.0)
+        (note_of result.1) }
 {
     if found == 0 {
         let carrying = CastState::Carrying {

@@ -52,7 +52,8 @@ impl CastCore {
         requires some_list { 1 ≤ length lists.items }
         requires few_lists { length lists.items ≤ 64 }
         ensures opened { IfOk result
-            (λ core. core ≡ opened order.bits order.salt limit start.now (map (λ list. list.items) lists.items)) }
+            (λ core. core ≡ opened order.bits order.salt limit start.now (map
+            (λ list. list.items) lists.items)) }
         ensures invariant { IfOk result IsCasting }
     {
         let cells = order.homes() + limit as usize;
@@ -129,7 +130,8 @@ fn tabulators(
 ) -> Result<Vec<Tabulator>, Memory>
     requires { IsNonDecreasing base.now }
     ensures tabs { IfOk result
-        (λ tabs. map tab_of tabs.items ≡ opened_tabs base.now claims (map (λ list. list.items) lists.items)) }
+        (λ tabs. map tab_of tabs.items ≡ opened_tabs base.now claims (map
+        (λ list. list.items) lists.items)) }
     ensures room { IfOk result (λ tabs. All HasReplyRoom tabs.items) }
 {
     let mut tabs = Vec::with_capacity(alloc, lists.len())?;

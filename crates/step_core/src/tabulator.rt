@@ -80,7 +80,8 @@ impl Tabulator {
     /// The state from which the next step goes. `None` where nothing is left to do.
     fn next_from(&self) -> Option<CastState>
         ensures { MatchOption result (IsDone (tab_of self.now))
-            (λ from. (state_of from ≡ next_from (tab_of self.now).state (tab_of self.now).left) × (state_of from ≢ Rest)) }
+            (λ from. (state_of from ≡ next_from (tab_of self.now).state (tab_of self.now).left)
+            × (state_of from ≢ Rest)) }
     {
         match self.state {
             CastState::Rest => {
@@ -163,7 +164,9 @@ pub fn make_step(shape: &Shape, base: &[u64], words: &mut [u64], tab: &mut Tabul
     requires may_step { MayStep (table_of shape.now) words.old (tab_of tab.old) }
     ensures at_rest { (result ≡ Stepped.AtRest) ↔ IsDone (tab_of tab.old) }
     ensures unchanged { result ≡ Stepped.AtRest → (words.new ≡ words.old) × (tab.new ≡ tab.old) }
-    ensures row { result ≡ Stepped.Step → TabSteps (table_of shape.now) base.now words.old (tab_of tab.old) words.new (tab_of tab.new) }
+    ensures row { result ≡ Stepped.Step
+        → TabSteps (table_of shape.now) base.now words.old (tab_of tab.old) words.new
+        (tab_of tab.new) }
     ensures kept { HasReplyRoom tab.new }
 {
     let Some(from) = tab.next_from() else {

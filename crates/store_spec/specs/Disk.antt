@@ -1,7 +1,7 @@
 -- A disk: the bytes that a read gives now, and what a crash may leave at each moment. What was not synced may be lost,
 -- torn or reordered. The words take the members of a disk: `calls`, how many calls were made, and `may_leave`, what
 -- a crash at a moment may leave. Each list of bytes that it may leave is a crash image.
-use Rattle.std.specs.Prelude.{◌≡◌, ◌↔◌, ℕ, ◌+◌, ◌*◌, ◌<◌, ◌≤◌, max, List, ◌++◌, length, take, drop, Option, Some, None}
+use Rattle.std.specs.Prelude.{◌≡◌, ◌↔◌, ◌⊎◌, ℕ, ◌+◌, ◌*◌, ◌<◌, ◌≤◌, max, List, ◌++◌, length, take, drop, Option, Some, None}
 use Rattle.store_spec.specs.Fault.{last_count, next_count}
 
 -- ---- moments
@@ -93,11 +93,27 @@ abbrev pub EachCrashImage : (ℕ → List ℕ → Type 0) → ℕ → ℕ → (L
 EachCrashImage may_leave from to P = (m : ℕ) → from ≤ m → m ≤ to → (c : List ℕ) → may_leave m c → P c
 
 -- From one state of a disk to a later one: no moment up to the first changes, and from there on, with both ends,
--- each crash image of each moment has P. It speaks of moments where the count has not come to its last value.
+-- each crash image of each moment has P. It speaks of moments where the count has not come to its last value, and of
+-- what a crash now may leave.
 pub record LeavesOnly {D : Type 0} (calls : D → ℕ) (may_leave : D → ℕ → List ℕ → Type 0) (old new : D) (P : List ℕ → Type 0) : Type 0 where
   pub later : calls old ≤ calls new
   pub past : calls new < last_count → (m : ℕ) → m ≤ after_calls (calls old) → (c : List ℕ) → may_leave new m c ↔ may_leave old m c
   pub each : calls new < last_count → EachCrashImage (may_leave new) (after_calls (calls old)) (after_calls (calls new)) P
+  pub now : (c : List ℕ) → leaves_now calls may_leave new c → P c
+
+-- The same where the first call is a sync that succeeds: until it has returned a crash leaves what it might have left
+-- before, and from then on each crash image of each moment has P.
+pub record LeavesOnlyOnceSynced {D : Type 0} (calls : D → ℕ) (may_leave : D → ℕ → List ℕ → Type 0) (old new : D) (P : List ℕ → Type 0) : Type 0 where
+  pub later : calls old ≤ calls new
+  pub past : calls new < last_count → (m : ℕ) → m ≤ after_calls (calls old) → (c : List ℕ) → may_leave new m c ↔ may_leave old m c
+  pub before : calls new < last_count → EachCrashImage (may_leave new) (after_calls (calls old)) (inside_next (calls old)) (leaves_now calls may_leave old)
+  pub each : calls new < last_count → EachCrashImage (may_leave new) (after_calls (calls old + 1)) (after_calls (calls new)) P
+  pub now : (c : List ℕ) → leaves_now calls may_leave new c → P c
+
+-- Or that sync fails. Then nothing more is called, and a crash leaves what it might have left before.
+abbrev pub SyncsFirst : {D : Type 0} → (D → ℕ) → (D → ℕ → List ℕ → Type 0) → D → D → (List ℕ → Type 0) → Type 0
+SyncsFirst calls may_leave old new P =
+    LeavesOnlyOnceSynced calls may_leave old new P ⊎ KeepsCrashImages calls may_leave old new
 
 -- a crash now leaves these bytes, but for a range of n bytes from `at` on
 abbrev pub LeavesTorn : {D : Type 0} → (D → ℕ) → (D → ℕ → List ℕ → Type 0) → ℕ → ℕ → List ℕ → D → Type 0

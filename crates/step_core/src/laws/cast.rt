@@ -80,7 +80,8 @@ pub fn lost_to_a_lower_number()
 
 /// Any row of the table.
 pub fn any_row()
-    ensures { (t : Table) (from : CastState) (word found left : ℕ) (new : CastState) (note : CastNote)
+    ensures { (t : Table) (from : CastState) (word found left : ℕ) (new : CastState)
+        (note : CastNote)
         → CastRow t from word found left new note → IsKept t from word found left new note }
 {}
 
@@ -104,7 +105,8 @@ pub fn a_seat_taken_in()
         (view gone : CastView) → CastInvariant t base words views → id ≢ other
         → slice_get views id ≡ Some view → slice_get views other ≡ Some gone
         → view.state ≡ Rest → gone.state ≡ Rest
-        → CastInvariant t base words (slice_set (slice_set views id (joined_view view gone)) other fresh_view) }
+        → CastInvariant t base words (slice_set (slice_set views id
+        (joined_view view gone)) other fresh_view) }
 {}
 
 /// A number stands at most once in all cells and hands, and exactly where it is of the base or accepted.
@@ -114,7 +116,8 @@ pub fn each_number_stands_once()
         → count_of v (take t.cells words ++ hands_of views) ≤ 1 }
     ensures where_it_should { (t : Table) (base words : List ℕ) (views : List CastView) (v : ℕ)
         → CastInvariant t base words views → v ≢ 0
-        → Contains (take t.cells words ++ hands_of views) v ↔ Contains (base ++ accepted_of views) v }
+        → Contains (take t.cells words ++ hands_of views) v
+        ↔ Contains (base ++ accepted_of views) v }
     ensures accepted_once { (t : Table) (base words : List ℕ) (views : List CastView)
         → CastInvariant t base words views → EachOnce (base ++ accepted_of views) }
 {}
@@ -122,10 +125,12 @@ pub fn each_number_stands_once()
 /// The state of a tabulator fits the table: its place is a cell and a claim word is left to try. And what its step finds
 /// is not the number in its hand.
 pub fn a_state_fits()
-    ensures fits { (t : Table) (base words : List ℕ) (views : List CastView) (id : ℕ) (view : CastView)
+    ensures fits { (t : Table) (base words : List ℕ) (views : List CastView) (id : ℕ)
+        (view : CastView)
         → HasRoomFor t base → CastInvariant t base words views → slice_get views id ≡ Some view
         → FitsIn t view.state }
-    ensures finds { (t : Table) (base words : List ℕ) (views : List CastView) (id : ℕ) (view : CastView)
+    ensures finds { (t : Table) (base words : List ℕ) (views : List CastView) (id : ℕ)
+        (view : CastView)
         → HasRoomFor t base → CastInvariant t base words views → slice_get views id ≡ Some view
         → view.state ≢ Rest
         → MayFind view.state (slice_index words (word_of (cast_act t view.state))) }
@@ -142,7 +147,8 @@ pub fn the_measure_falls()
 
 /// A number that wins a claim word was met by its tabulator in no way before, and that met no full claim words.
 pub fn what_is_claimed_is_new()
-    ensures { (t : Table) (base words : List ℕ) (views : List CastView) (id : ℕ) (view : CastView) (x k : ℕ)
+    ensures { (t : Table) (base words : List ℕ) (views : List CastView) (id : ℕ) (view : CastView)
+        (x k : ℕ)
         → CastInvariant t base words views → slice_get views id ≡ Some view
         → view.state ≡ Probing x k → slice_index words (claim_word t x k) ≡ 0
         → (¬ Contains view.accepted x) × (¬ Contains view.taken x) × (view.full ≡ []) }
@@ -150,7 +156,8 @@ pub fn what_is_claimed_is_new()
 
 /// Where the claim words were full for a number, it is not accepted, and as many are as there are claim words.
 pub fn full_means_no_room()
-    ensures { (t : Table) (base words : List ℕ) (views : List CastView) (id : ℕ) (view : CastView) (x : ℕ)
+    ensures { (t : Table) (base words : List ℕ) (views : List CastView) (id : ℕ) (view : CastView)
+        (x : ℕ)
         → CastInvariant t base words views → slice_get views id ≡ Some view → Contains view.full x
         → (¬ Contains (accepted_of views) x) × (length (accepted_of views) ≡ t.claims) }
 {}
@@ -158,6 +165,7 @@ pub fn full_means_no_room()
 /// Once all tabulators are at rest, the cells are the layout of the base and what was accepted.
 pub fn at_rest_the_layout()
     ensures { (t : Table) (base words : List ℕ) (views : List CastView)
-        → HasRoomFor t base → CastInvariant t base words views → All (λ view. view.state ≡ Rest) views
+        → HasRoomFor t base → CastInvariant t base words views → All
+        (λ view. view.state ≡ Rest) views
         → take t.cells words ≡ layout_of t.home t.cells (base ++ accepted_of views) }
 {}

@@ -5,7 +5,8 @@ ghost use Rattle.step_core.specs.Casting.{Casting, FallsAt, HasEnded, IsCasting,
 
 /// What holds of a phase at its opening holds after any list of steps of its tabulators.
 pub fn every_list_of_steps()
-    ensures { (bits salt limit : ℕ) (start : List ℕ) (lists : List (List ℕ)) (schedule : List ℕ) (end : Casting)
+    ensures { (bits salt limit : ℕ) (start : List ℕ) (lists : List (List ℕ)) (schedule : List ℕ)
+        (end : Casting)
         → MayOpen bits limit start lists → Runs (opened bits salt limit start lists) schedule end
         → IsCasting end }
 {}
@@ -18,6 +19,8 @@ pub fn every_end()
 
 /// A step keeps what holds of the phase, and the measure of its tabulator falls.
 pub fn every_step()
-    ensures keeps { (phase now : Casting) (id : ℕ) → IsCasting phase → Steps phase id now → IsCasting now }
-    ensures falls { (phase now : Casting) (id : ℕ) → IsCasting phase → Steps phase id now → FallsAt phase id now }
+    ensures keeps { (phase now : Casting) (id : ℕ) → IsCasting phase → Steps phase id now
+        → IsCasting now }
+    ensures falls { (phase now : Casting) (id : ℕ) → IsCasting phase → Steps phase id now
+        → FallsAt phase id now }
 {}

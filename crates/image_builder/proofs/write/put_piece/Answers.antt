@@ -10,9 +10,9 @@ pub returns-then-at-lt-HEADER_BYTES-clause-bytes : goal.returns-then-at-lt-HEADE
 returns-then-at-lt-HEADER_BYTES-clause-bytes c =
     let e = c.args.election.now in
     let n = c.put_from.result in
-    let long : length c.header.result ≡ 32 = ap length c.header.ensures in
+    let long : length c.header.result ≡ 32 = ap length c.header.ensures.header in
     c.put_from.ensures.bytes
-    ∙ ap (λ bytes. take n (drop c.args.at bytes)) c.header.ensures
+    ∙ ap (λ bytes. take n (drop c.args.at bytes)) c.header.ensures.header
     ∙ sym (part_of_header e c.args.closed.now.ballots c.args.at n (omega (arith, c.put_from.ensures.within_bytes)))
 
 place_of_byte : (at size count : ℕ) → 0 < size → at < 32 + count * size → 32 ≤ at → (at - 32) / size < count

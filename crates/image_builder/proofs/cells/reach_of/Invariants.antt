@@ -1,5 +1,5 @@
 use Rattle.std.proofs.Common.{length}
-use Rattle.image_builder.proofs.read.reach_of.Given as goal
+use Rattle.image_builder.proofs.cells.reach_of.Given as goal
 use Rattle.image_builder.specs.Reaches.{IsReach}
 
 abbrev pub invariant-loop-from : goal.invariant-loop-from

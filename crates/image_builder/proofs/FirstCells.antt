@@ -1,0 +1,167 @@
+-- One cell behind those that were read: the bytes so far, and the cell that is wrong.
+use Rattle.std.proofs.Common.{◌≡◌, ℕ, ◌+◌, ◌-◌, ◌*◌, ◌<◌, ◌≤◌, ⊎_elim, List, [], ◌∷◌, ◌++◌, length, take, drop, refl, sym, ap, subst, ◌∙◌, arith, append_assoc}
+use Rattle.std.proofs.lemmas.Bool.{cases_lt}
+use Rattle.std.proofs.lemmas.List.{length-append, take_at, drop_at, take-append-drop}
+use Rattle.std.specs.List.{All}
+use Rattle.image_builder.proofs.Images.{length_pieces, length-cell_bytes}
+use Rattle.image_builder.proofs.Reaches.{reaches_empty, reaches_more}
+use Rattle.image_builder.proofs.Reading.{AreRead, one_cell_more}
+use Rattle.image_builder.proofs.Steps.{ballot_read, empty_read}
+use Rattle.image_builder.proofs.Wrong.{first_wrong}
+use Rattle.image_builder.specs.Cells.{AreCells, IsRefusedAt, bytes_in, front_of}
+use Rattle.image_builder.specs.Feeding.{Completes, IsRefusedPiece}
+use Rattle.image_builder.specs.Reaches.{AreReaches, IsReach}
+use Rattle.image_builder.specs.Reading.{IsRefusedBank}
+use Rattle.image_builder.specs.declared.read.ImageFault.{ImageFault}
+use Rattle.image_builder.specs.declared.read.ImageFault.TheVariants.{OtherElection, Damaged, Memory}
+use Rattle.store_spec.specs.Ballot.{Ballot, IsValid}
+use Rattle.store_spec.specs.Damage.{BeginsAnImage, cell_at}
+use Rattle.store_spec.specs.Election.{Election, IsElection, bank_size, cell_count, cell_size}
+use Rattle.store_spec.specs.Home.{home_in}
+use Rattle.store_spec.specs.Image.{IsEmptyCell, ballot_bytes, cell_bytes, header_of}
+use Rattle.store_spec.specs.Layout.{MayStand}
+
+-- ---- how many cells fit
+
+more_bytes : (n m size : ℕ) → n ≤ m → n * size ≤ m * size
+more_bytes n m size le = grind arith
+
+pub fewer_cells : (n m size : ℕ) → n * size < m * size → n < m
+fewer_cells n m size lt = ⊎_elim (λ (less : n < m). less) (λ (more : m ≤ n). absurd (omega (arith, more_bytes m n size more))) (cases_lt n m)
+
+-- ---- the bytes up to the end of some cells
+
+pub length-front_of : (e : Election) (numbers : List ℕ) (ballots : List Ballot) → IsElection e → All (IsValid e) ballots → length (front_of e numbers ballots) ≡ 32 + length numbers * cell_size e
+length-front_of e numbers ballots election valid =
+    length-append (header_of e) (bytes_in e numbers ballots)
+    ∙ ap (λ n. 32 + n) (length_pieces (cell_bytes e ballots) (cell_size e) numbers (λ x. length-cell_bytes e ballots x election valid))
+
+pub header_in_front : (e : Election) (numbers : List ℕ) (ballots : List Ballot) (rest : List ℕ) → take 32 (front_of e numbers ballots ++ rest) ≡ header_of e
+header_in_front e numbers ballots rest =
+    ap (take 32) (append_assoc (header_of e) (bytes_in e numbers ballots) rest) ∙ take_at (header_of e) (bytes_in e numbers ballots ++ rest) 32 refl
+
+pub read_in_front : (e : Election) (numbers reaches : List ℕ) (ballots : List Ballot) (rest : List ℕ) → IsElection e → AreCells e numbers reaches ballots → AreRead e (front_of e numbers ballots ++ rest) (length numbers) numbers ballots
+read_in_front e numbers reaches ballots rest election cells =
+    let bytes = bytes_in e numbers ballots in
+    let size = length numbers * cell_size e in
+    record {
+      size = refl;
+      ordered = cells.ordered;
+      same = cells.same;
+      valid = cells.valid;
+      few = cells.few;
+      bytes = ap (λ bank. take size (drop 32 bank)) (append_assoc (header_of e) bytes rest)
+          ∙ ap (take size) (drop_at (header_of e) (bytes ++ rest) 32 refl)
+          ∙ take_at bytes rest size (length_pieces (cell_bytes e ballots) (cell_size e) numbers (λ x. length-cell_bytes e ballots x election cells.valid));
+    }
+
+next_cell : (e : Election) (numbers : List ℕ) (ballots : List Ballot) (bytes rest : List ℕ) → IsElection e → All (IsValid e) ballots → length bytes ≡ cell_size e → cell_at e (length numbers) (front_of e numbers ballots ++ (bytes ++ rest)) ≡ bytes
+next_cell e numbers ballots bytes rest election valid long =
+    ap (take (cell_size e)) (drop_at (front_of e numbers ballots) (bytes ++ rest) (32 + length numbers * cell_size e) (length-front_of e numbers ballots election valid))
+    ∙ take_at bytes rest (cell_size e) long
+
+-- ---- one cell more
+
+-- these are the cells with the bytes of one more
+pub record AreNext (e : Election) (front bytes numbers reaches : List ℕ) (ballots : List Ballot) : Type 0 where
+  pub cells : AreCells e numbers reaches ballots
+  pub fed : front_of e numbers ballots ≡ front ++ bytes
+
+next_read : (e : Election) (bank : List ℕ) (place : ℕ) (numbers more reaches : List ℕ) (ballots others : List Ballot) (bytes : List ℕ) → AreRead e bank place numbers ballots → AreRead e bank (place + 1) more others
+    → cell_at e place bank ≡ bytes → AreReaches more reaches → AreNext e (front_of e numbers ballots) bytes more reaches others
+next_read e bank place numbers more reaches ballots others bytes before after cell reached = record {
+  cells = record { ordered = after.ordered; same = after.same; valid = after.valid; few = after.few; reached = reached };
+  fed = ap (λ xs. header_of e ++ xs)
+      (sym after.bytes ∙ one_cell_more e place bank ∙ ap (λ xs. xs ++ cell_at e place bank) before.bytes ∙ ap (λ xs. bytes_in e numbers ballots ++ xs) cell)
+      ∙ sym (append_assoc (header_of e) (bytes_in e numbers ballots) bytes);
+}
+
+pub empty_next : (e : Election) (numbers reaches : List ℕ) (ballots : List Ballot) (bytes : List ℕ) → IsElection e → AreCells e numbers reaches ballots → length bytes ≡ cell_size e → IsEmptyCell e bytes
+    → AreNext e (front_of e numbers ballots) bytes (numbers ++ 0 ∷ []) (reaches ++ length numbers ∷ []) ballots
+empty_next e numbers reaches ballots bytes election cells long empty =
+    let bank = front_of e numbers ballots ++ (bytes ++ []) in
+    let place = length numbers in
+    let read = read_in_front e numbers reaches ballots (bytes ++ []) election cells in
+    let cell = next_cell e numbers ballots bytes [] election cells.valid long in
+    next_read e bank place numbers (numbers ++ 0 ∷ []) (reaches ++ place ∷ []) ballots ballots bytes read
+    (empty_read e bank place numbers ballots read (cell ∙ empty)) cell (reaches_empty numbers reaches place cells.reached refl)
+
+pub ballot_next : (e : Election) (numbers reaches : List ℕ) (ballots : List Ballot) (b : Ballot) (from : ℕ) (bytes : List ℕ) → IsElection e → AreCells e numbers reaches ballots → length bytes ≡ cell_size e
+    → IsValid e b → bytes ≡ ballot_bytes e b → MayStand (home_in e) numbers b.number (length numbers) → length ballots < e.limit → IsReach numbers b.number (length numbers) from
+    → AreNext e (front_of e numbers ballots) bytes (numbers ++ b.number ∷ []) (reaches ++ from ∷ []) (ballots ++ b ∷ [])
+ballot_next e numbers reaches ballots b from bytes election cells long valid is may room reach =
+    let bank = front_of e numbers ballots ++ (bytes ++ []) in
+    let place = length numbers in
+    let read = read_in_front e numbers reaches ballots (bytes ++ []) election cells in
+    let cell = next_cell e numbers ballots bytes [] election cells.valid long in
+    next_read e bank place numbers (numbers ++ b.number ∷ []) (reaches ++ from ∷ []) ballots (ballots ++ b ∷ []) bytes read
+    (ballot_read e bank place numbers ballots b read valid (cell ∙ is) may room) cell (reaches_more numbers reaches b.number from cells.reached reach)
+
+-- ---- a wrong cell
+
+-- what every bank that goes on with these bytes is like
+pub record Goes (e : Election) (numbers : List ℕ) (ballots : List Ballot) (bytes bank : List ℕ) : Type 0 where
+  pub read : AreRead e bank (length numbers) numbers ballots
+  pub cell : cell_at e (length numbers) bank ≡ bytes
+
+pub wrong_next : (e : Election) (numbers reaches : List ℕ) (ballots : List Ballot) (bytes : List ℕ) → IsElection e → AreCells e numbers reaches ballots → length bytes ≡ cell_size e → length numbers < cell_count e
+    → ((bank : List ℕ) → Goes e numbers ballots bytes bank → ¬ BeginsAnImage e (length numbers + 1) bank) → IsRefusedAt e (front_of e numbers ballots ++ bytes) (Damaged (length numbers))
+wrong_next e numbers reaches ballots bytes election cells long lt wrong =
+    let front = front_of e numbers ballots in
+    let place = length numbers in
+    let size = length-front_of e numbers ballots election cells.valid in
+    record {
+      completes = (omega (arith, size, length-append front bytes, long), omega (arith, size, length-append front bytes, long));
+      each_bank = λ rest.
+          let bank = front ++ (bytes ++ rest) in
+          let read = read_in_front e numbers reaches ballots (bytes ++ rest) election cells in
+          let goes : Goes e numbers ballots bytes bank = record { read = read; cell = next_cell e numbers ballots bytes rest election cells.valid long } in
+          subst (λ (bank : List ℕ). IsRefusedBank e bank (Damaged place)) (sym (append_assoc front bytes rest))
+          (header_in_front e numbers ballots (bytes ++ rest), first_wrong e bank place numbers ballots election lt read (wrong bank goes));
+    }
+
+-- ---- refused pieces
+
+completes_more : (e : Election) (before after first last : ℕ) (fault : ImageFault) → first ≤ before → after ≤ last → Completes e before after fault → Completes e first last fault
+completes_more e before after first last (OtherElection header) low high completes = (omega (arith, completes.0), omega (arith, completes.1))
+completes_more e before after first last (Damaged cell) low high completes = (omega (arith, completes.0), omega (arith, completes.1))
+completes_more e before after first last Memory low high completes = tt
+
+-- the same piece as a part of a longer one
+pub refused_within : (e : Election) (fed piece before whole after : List ℕ) (fault : ImageFault) → length before ≤ length fed → (fed ++ piece) ++ after ≡ before ++ whole
+    → IsRefusedPiece e fed piece fault → IsRefusedPiece e before whole fault
+refused_within e fed piece before whole after fault low same refused = record {
+  completes = completes_more e (length fed) (length (fed ++ piece)) (length before) (length (before ++ whole)) fault low
+      (omega (arith, ap length same, length-append (fed ++ piece) after)) refused.completes;
+  each_bank = λ rest.
+      subst (λ (bank : List ℕ). IsRefusedBank e bank fault) (sym (append_assoc (fed ++ piece) after rest) ∙ ap (λ bytes. bytes ++ rest) same) (refused.each_bank (after ++ rest));
+}
+
+-- the bytes at whose end it is refused
+pub refused_behind : (e : Election) (told before whole after : List ℕ) (fault : ImageFault) → length before < length told → told ++ after ≡ before ++ whole → IsRefusedAt e told fault → IsRefusedPiece e before whole fault
+refused_behind e told before whole after fault less same refused = record {
+  completes = completes_more e (length told - 1) (length told) (length before) (length (before ++ whole)) fault (omega arith)
+      (omega (arith, ap length same, length-append told after)) refused.completes;
+  each_bank = λ rest.
+      subst (λ (bank : List ℕ). IsRefusedBank e bank fault) (sym (append_assoc told after rest) ∙ ap (λ bytes. bytes ++ rest) same) (refused.each_bank (after ++ rest));
+}
+
+-- a list that is parted in two
+pub parted : (front rest first last : List ℕ) (n : ℕ) → first ≡ take n rest → last ≡ drop n rest → (front ++ first) ++ last ≡ front ++ rest
+parted front rest first last n is_first is_last =
+    append_assoc front first last ∙ ap (λ bytes. front ++ (bytes ++ last)) is_first ∙ ap (λ bytes. front ++ (take n rest ++ bytes)) is_last ∙ ap (λ bytes. front ++ bytes) (take-append-drop n rest)
+
+-- there is room for a cell more
+pub room_next : (e : Election) (numbers : List ℕ) (ballots : List Ballot) (rest all : List ℕ) → IsElection e → All (IsValid e) ballots → front_of e numbers ballots ++ rest ≡ all → length all ≤ bank_size e → cell_size e ≤ length rest → length numbers < cell_count e
+room_next e numbers ballots rest all election valid same within long =
+    let size = length-front_of e numbers ballots election valid in
+    let some : 0 < cell_size e = omega arith in
+    fewer_cells (length numbers) (cell_count e) (cell_size e) (omega (arith, size, ap length same, length-append (front_of e numbers ballots) rest))
+
+-- the same cells under other names
+pub next_as : (e : Election) (front bytes numbers numbers_now reaches reaches_now : List ℕ) (ballots ballots_now : List Ballot) → AreNext e front bytes numbers reaches ballots
+    → numbers_now ≡ numbers → reaches_now ≡ reaches → ballots_now ≡ ballots → AreNext e front bytes numbers_now reaches_now ballots_now
+next_as e front bytes numbers numbers_now reaches reaches_now ballots ballots_now next same_numbers same_reaches same_ballots =
+    subst (λ (ns : List ℕ). AreNext e front bytes ns reaches_now ballots_now) (sym same_numbers)
+    (subst (λ (rs : List ℕ). AreNext e front bytes numbers rs ballots_now) (sym same_reaches)
+    (subst (λ (bs : List Ballot). AreNext e front bytes numbers reaches bs) (sym same_ballots) next))

@@ -1,0 +1,188 @@
+//! The adapters, over stand-ins for files and streams and over the real ones.
+
+use crate::standard::read_again;
+use crate::{Failed, FileSource, Sink, Source, StdinSource, StdoutSink};
+use fake_system::{Call, FAULT_KINDS, FakeFiles, FakeInput, FakeOutput, Stage};
+use std::alloc::Global;
+use std::fs::{self, Files};
+use std::io::{self, ErrorKind, Read};
+use std::process::Abort;
+use std::test::Fail;
+
+const PATH: &str = "folder/file";
+
+fn stage_of(alloc: Global, bytes: &[u8], most: usize) -> Result<Stage, Fail> {
+    Ok(Stage::new(alloc, Some(bytes.to_vec(alloc)?), most))
+}
+
+// What was done to a stage since it was last told what fails.
+fn assert_log(rt: &impl Abort, stage: &Stage, want: &[Call]) -> Result<(), Fail> {
+    let log = stage.log()?;
+    assert_eq!(rt; log.as_slice(), want);
+    Ok(())
+}
+
+// A reader that an error of this kind stops so many times before it gives its letters.
+#[derive(Drop)]
+struct Stopped {
+    kind: ErrorKind,
+    left: u8,
+}
+
+impl Read for Stopped {
+    fn read(&mut self, buf: &mut [u8]) -> io::Result<usize> {
+        if self.left > 0 {
+            self.left -= 1;
+            return Err(self.kind.into());
+        }
+        buf.fill(b'a');
+        Ok(buf.len())
+    }
+}
+
+#[test]
+fn reads_again_after_interruptions_alone(rt: HostRuntime) -> Result<(), Fail> {
+    let mut buf = [0; 3];
+    let mut signals = Stopped {
+        kind: ErrorKind::Interrupted,
+        left: 2,
+    };
+    assert_eq!(rt; read_again(&mut signals, &mut buf)?, 3);
+    assert_eq!(rt; buf, *b"aaa");
+    for kind in FAULT_KINDS {
+        match read_again(&mut Stopped { kind, left: 1 }, &mut buf) {
+            Ok(count) => assert_eq!(rt; count, 4, "{kind:?} is an error"),
+            Err(error) => assert_eq!(rt; error.kind(), kind),
+        }
+    }
+    Ok(())
+}
+
+// Three reads of a source over `abcdef` in pieces of two; the second fails, and the third goes on where the first ended.
+fn assert_goes_on(rt: &impl Abort, source: &mut impl Source, stage: &Stage) -> Result<(), Fail> {
+    for kind in FAULT_KINDS {
+        let mut buf = [0; 3];
+        stage.fail(1, kind)?;
+        assert_eq!(rt; source.read(&mut buf), Err(Failed), "{kind:?}");
+        assert_log(rt, stage, &[Call::Read(3)])?;
+    }
+    stage.fail(0, ErrorKind::Other)?;
+    let mut buf = [0; 3];
+    assert_eq!(rt; source.read(&mut buf), Ok(2));
+    assert_eq!(rt; buf, *b"cd\0");
+    stage.fail(2, ErrorKind::Other)?;
+    assert_eq!(rt; source.read(&mut buf), Ok(2));
+    assert_eq!(rt; source.read(&mut buf), Err(Failed));
+    assert_eq!(rt; source.read(&mut buf), Ok(0));
+    assert_eq!(rt; buf, *b"ef\0");
+    assert_log(rt, stage, &[Call::Read(3); 3])
+}
+
+#[test]
+fn a_file_goes_on_after_a_fault(rt: HostRuntime) -> Result<(), Fail> {
+    let alloc = rt.alloc();
+    let stage = stage_of(alloc, b"abcdef", 2)?;
+    let files = FakeFiles::new(alloc, &stage, PATH, "folder");
+    let mut source = FileSource::new(&files, PATH);
+    assert_log(&rt, &stage, &[])?;
+    for kind in FAULT_KINDS {
+        stage.fail(1, kind)?;
+        assert_eq!(rt; source.read(&mut [0; 3]), Err(Failed), "{kind:?}");
+        assert_log(&rt, &stage, &[Call::Open])?;
+    }
+    stage.fail(2, ErrorKind::Other)?;
+    assert_eq!(rt;
+        source.read(&mut [0; 3]),
+        Err(Failed),
+        "it is open from now on"
+    );
+    let mut buf = [0; 3];
+    assert_eq!(rt; source.read(&mut buf), Ok(2));
+    assert_eq!(rt; buf, *b"ab\0");
+    assert_log(&rt, &stage, &[Call::Open, Call::Read(3), Call::Read(3)])?;
+    assert_goes_on(&rt, &mut source, &stage)
+}
+
+#[test]
+fn a_file_that_is_missing_is_a_fault(rt: HostRuntime) -> Result<(), Fail> {
+    let alloc = rt.alloc();
+    let stage = Stage::new(alloc, None, 9);
+    let files = FakeFiles::new(alloc, &stage, PATH, "folder");
+    let mut source = FileSource::new(&files, PATH);
+    assert_eq!(rt; source.read(&mut [0; 3]), Err(Failed));
+    assert_eq!(rt; source.read(&mut [0; 3]), Err(Failed));
+    assert_log(&rt, &stage, &[Call::Open, Call::Open])
+}
+
+#[test]
+fn standard_input_goes_on_after_a_fault(rt: HostRuntime) -> Result<(), Fail> {
+    let stage = stage_of(rt.alloc(), b"abcdef", 2)?;
+    let input = FakeInput::new(&stage);
+    let reader = &input;
+    let mut source = StdinSource::new(&reader);
+    assert_log(&rt, &stage, &[])?;
+    stage.fail(1, ErrorKind::Other)?;
+    assert_eq!(rt; source.read(&mut [0; 3]), Err(Failed));
+    let mut buf = [0; 3];
+    assert_eq!(rt; source.read(&mut buf), Ok(2));
+    assert_eq!(rt; buf, *b"ab\0");
+    assert_goes_on(&rt, &mut source, &stage)
+}
+
+#[test]
+fn standard_output_takes_all_or_tells(rt: HostRuntime) -> Result<(), Fail> {
+    let alloc = rt.alloc();
+    let stage = stage_of(alloc, b"", 9)?;
+    let output = FakeOutput::new(&stage);
+    let mut sink = StdoutSink::new(&output);
+    assert_eq!(rt; sink.write_all(b"ab"), Ok(()));
+    assert_eq!(rt; sink.write_all(b"cde"), Ok(()));
+    assert_log(&rt, &stage, &[Call::Write(2), Call::Write(3)])?;
+    for kind in FAULT_KINDS {
+        stage.fail(1, kind)?;
+        assert_eq!(rt; sink.write_all(b"f"), Err(Failed), "{kind:?}");
+        assert_log(&rt, &stage, &[Call::Write(1)])?;
+    }
+    assert_eq!(rt; sink.write_all(b"g"), Ok(()));
+    assert_eq!(rt; stage.bytes()?, Some(b"abcdeg".to_vec(alloc)?));
+    Ok(())
+}
+
+#[test]
+fn reads_a_real_file(rt: HostRuntime) -> Result<(), Fail> {
+    let path = "outside_io_reads_a_file";
+    fs::write(&rt, path, "abc")?;
+    let mut source = FileSource::new(&rt, path);
+    let mut buf = [0; 2];
+    assert_eq!(rt; source.read(&mut buf), Ok(2));
+    assert_eq!(rt; buf, *b"ab");
+    assert_eq!(rt; source.read(&mut buf), Ok(1));
+    assert_eq!(rt; buf, *b"cb");
+    assert_eq!(rt; source.read(&mut buf), Ok(0));
+    fs::remove_file(&rt, path)?;
+    Ok(())
+}
+
+// The first two reads of the file of a path.
+fn read_twice(files: &impl Files, path: &str) -> [Result<usize, Failed>; 2] {
+    let mut source = FileSource::new(files, path);
+    [source.read(&mut [0; 2]), source.read(&mut [0; 2])]
+}
+
+#[test]
+fn a_path_that_is_no_file_is_a_fault(rt: HostRuntime) {
+    let faults = [Err(Failed), Err(Failed)];
+    assert_eq!(rt; read_twice(&rt, "."), faults);
+    assert_eq!(rt; read_twice(&rt, "/dev/null/inside"), faults);
+    assert_eq!(rt; read_twice(&rt, "outside_io_is_missing"), faults);
+    assert_eq!(rt; read_twice(&rt, ""), faults);
+    assert_eq!(rt; read_twice(&rt, "a\0b"), faults);
+}
+
+#[test]
+fn reads_and_writes_the_real_streams(rt: HostRuntime) {
+    let read = StdinSource::new(&rt).read(&mut [0; 4]);
+    assert_eq!(rt; read, Ok(0), "standard input is empty in a test");
+    let written = StdoutSink::new(&rt).write_all(b"written by a test\n");
+    assert_eq!(rt; written, Ok(()));
+}
