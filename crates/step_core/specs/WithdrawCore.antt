@@ -1,5 +1,6 @@
 -- How the withdrawers of a core are seen, and what one step does with a withdrawer and the words.
 use Rattle.std.specs.Prelude.{◌≡◌, ◌≢◌, ℕ, ◌+◌, ◌^◌, ◌<◌, ◌≤◌, All, List, [], ◌∷◌, length, drop, slice_index, slice_set, vec_len, vec_capacity}
+use Rattle.step_core.specs.Shape.{homes_of}
 use Rattle.step_core.specs.WithdrawTables.{FitsIn, MayFind, state_of}
 use Rattle.step_core.specs.Withdrawing as phase
 use Rattle.step_core.specs.Withdrawing.{IsNext, after_step, next_number}
@@ -8,7 +9,6 @@ use Rattle.step_core.specs.declared.withdrawer.WithdrawReply.{WithdrawReply}
 use Rattle.step_core.specs.declared.withdrawer.WithdrawReply.TheVariants as replies
 use Rattle.step_core.specs.declared.withdrawer.Withdrawer.{Withdrawer}
 use Rattle.store_spec.specs.Act.{word_of}
-use Rattle.store_spec.specs.Home.{home_of}
 use Rattle.store_spec.specs.Layout.{layout_of}
 use Rattle.store_spec.specs.WithdrawPhase as outcome
 use Rattle.store_spec.specs.WithdrawPhase.WithdrawReply.{Withdrawn, Gone, Absent}
@@ -53,7 +53,7 @@ MayTell notes.Done left = 0 < length left
 
 -- the cells at the opening of a phase of this shape, which held these numbers
 abbrev pub base_of : Shape → List ℕ → List ℕ
-base_of shape held = layout_of (home_of shape.order.bits shape.order.salt) shape.cells held
+base_of shape held = layout_of (homes_of shape) shape.cells held
 
 -- the shape is that of a withdrawing phase over this base
 pub record IsShape (shape : Shape) (base : List ℕ) : Type 0 where
@@ -79,5 +79,5 @@ pub record Moves (home : ℕ → ℕ) (base words : List ℕ) (from : WithdrawSt
 pub record TabSteps (shape : Shape) (held words : List ℕ) (tab : phase.Withdrawer) (words_now : List ℕ) (tab_now : phase.Withdrawer) : Type 0 where
   pub new : WithdrawState
   pub note : WithdrawNote
-  pub moves : Moves (home_of shape.order.bits shape.order.salt) (base_of shape held) words tab.state (next_number tab.state tab.left) words_now new note
+  pub moves : Moves (homes_of shape) (base_of shape held) words tab.state (next_number tab.state tab.left) words_now new note
   pub is : tab_now ≡ after_step held tab new note

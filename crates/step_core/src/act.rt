@@ -30,8 +30,8 @@ pub enum Stepped {
 pub fn perform(words: &mut [u64], act: Act) -> u64
     requires { word_of (act_of act) < length words.old }
     ensures found { result ≡ slice_index words.old (word_of (act_of act)) }
-    ensures left { words.new ≡ slice_set words.old (word_of (act_of act)) (left_by
-        (act_of act) result) }
+    ensures left { words.new
+        ≡ slice_set words.old (word_of (act_of act)) (left_by (act_of act) result) }
 {
     match act {
         Act::Nothing => words[0],

@@ -2,8 +2,8 @@
 
 ghost use Rattle.std.specs.Prelude.{◌≡◌, ◌≢◌, ℕ, ◌+◌, ◌^◌, ◌<◌, ◌≤◌, ◌↔◌, IsTrue};
 ghost use Rattle.step_core.specs.Act.{act_of};
+ghost use Rattle.step_core.specs.Shape.{homes_of};
 ghost use Rattle.step_core.specs.WithdrawTables.{FitsIn, LeadsTo, MayFind, note_of, state_of};
-ghost use Rattle.store_spec.specs.Home.{home_of};
 ghost use Rattle.store_spec.specs.WithdrawStep.{FirstRow, Fits, withdraw_act};
 ghost use Rattle.store_spec.specs.WithdrawStep.WithdrawState.{Chosen, Owing, Up, Down};
 
@@ -94,7 +94,7 @@ pub fn withdraw_after(
     requires small { shape.now.cells + shape.now.claims < 2 ^ 32 }
     requires fits { FitsIn shape.now.cells (state_of state) }
     requires may_find { MayFind (state_of state) found }
-    ensures { LeadsTo (home_of shape.now.order.bits shape.now.order.salt) (state_of state) found
+    ensures { LeadsTo (homes_of shape.now) (state_of state) found
         (state_of result.0) (note_of result.1) }
 {
     match state {
@@ -125,8 +125,8 @@ pub fn withdraw_after(
 /// On the walk a greater word is passed. Before another one the walk ends, and a removal is owed from here on down.
 fn after_walk(number: u64, place: usize, found: u64) -> (WithdrawState, WithdrawNote)
     requires { place < 2 ^ 32 }
-    ensures { (home : ℕ → ℕ)
-        → LeadsTo home (Chosen number place) found (state_of result.0) (note_of result.1) }
+    ensures { (home : ℕ → ℕ) → LeadsTo home (Chosen number place) found
+        (state_of result.0) (note_of result.1) }
 {
     if found > number {
         let place = place + 1;
@@ -141,8 +141,8 @@ fn after_walk(number: u64, place: usize, found: u64) -> (WithdrawState, Withdraw
 fn after_owed(number: u64, bound: usize, found: u64) -> (WithdrawState, WithdrawNote)
     requires small { bound < 2 ^ 32 }
     requires lower { found ≢ number → 0 < bound }
-    ensures { (home : ℕ → ℕ)
-        → LeadsTo home (Owing number bound) found (state_of result.0) (note_of result.1) }
+    ensures { (home : ℕ → ℕ) → LeadsTo home (Owing number bound) found
+        (state_of result.0) (note_of result.1) }
 {
     let state = if found == number {
         let place = bound + 1;
@@ -168,8 +168,8 @@ fn after_up(
 ) -> (WithdrawState, WithdrawNote)
     requires small { place < 2 ^ 32 }
     requires above { bound < place }
-    ensures { LeadsTo (home_of shape.now.order.bits shape.now.order.salt)
-        (Up number bound place) found (state_of result.0) (note_of result.1) }
+    ensures { LeadsTo (homes_of shape.now) (Up number bound place) found
+        (state_of result.0) (note_of result.1) }
 {
     let state = if fits(shape, number, bound, found) {
         WithdrawState::Down {
@@ -201,8 +201,8 @@ fn after_down(
     found: u64,
 ) -> (WithdrawState, WithdrawNote)
     requires { bound < place }
-    ensures { LeadsTo (home_of shape.now.order.bits shape.now.order.salt)
-        (Down number bound place candidate source) found (state_of result.0) (note_of result.1) }
+    ensures { LeadsTo (homes_of shape.now) (Down number bound place candidate source) found
+        (state_of result.0) (note_of result.1) }
 {
     let below = place - 1;
     let state = if fits(shape, number, bound, found) {
@@ -235,9 +235,8 @@ fn after_exchange(
     found: u64,
 ) -> (WithdrawState, WithdrawNote)
     requires { found ≢ number → 0 < bound }
-    ensures { (home : ℕ → ℕ)
-        → LeadsTo home (Down number bound bound candidate source) found (state_of result.0)
-        (note_of result.1) }
+    ensures { (home : ℕ → ℕ) → LeadsTo home (Down number bound bound candidate source) found
+        (state_of result.0) (note_of result.1) }
 {
     if found != number {
         let bound = bound - 1;
@@ -258,8 +257,7 @@ pub fn withdraw_first(shape: &Shape, number: u64, found: u64) -> (WithdrawState,
     requires small { shape.now.cells + shape.now.claims < 2 ^ 32 }
     requires some { number ≢ 0 }
     requires flag { found ≤ 1 }
-    ensures { FirstRow (home_of shape.now.order.bits shape.now.order.salt) number found
-        (state_of result.0) (note_of result.1) }
+    ensures { FirstRow (homes_of shape.now) number found (state_of result.0) (note_of result.1) }
 {
     if found == 1 {
         return (WithdrawState::Rest, WithdrawNote::Gone);
@@ -270,8 +268,7 @@ pub fn withdraw_first(shape: &Shape, number: u64, found: u64) -> (WithdrawState,
 
 /// Whether a word fits the hole that a number leaves.
 fn fits(shape: &Shape, number: u64, hole: usize, word: u64) -> bool
-    ensures { IsTrue result
-        ↔ Fits (home_of shape.now.order.bits shape.now.order.salt) number hole word }
+    ensures { IsTrue result ↔ Fits (homes_of shape.now) number hole word }
 {
     word == 0 || (word < number && shape.order.home(word) <= hole)
 }

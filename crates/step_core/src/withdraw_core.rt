@@ -1,5 +1,8 @@
 //! A core of withdrawing: withdrawers that make their steps one by one, in any order.
 
+#[cfg(test)]
+mod tests;
+
 ghost use Rattle.std.specs.Prelude.{◌≡◌, ◌≢◌, ◌↔◌, ◌+◌, ◌^◌, ◌<◌, ◌≤◌, All, AllPairs, IfOk, IsTrue, length, map, vec_len};
 ghost use Rattle.step_core.specs.Seats.{AreSeats};
 ghost use Rattle.step_core.specs.WithdrawCore.{HasReplyRoom, reply_of, tab_of};
@@ -54,8 +57,8 @@ impl WithdrawCore {
         requires some_list { 1 ≤ length lists.items }
         requires few_lists { length lists.items ≤ 64 }
         ensures opened { IfOk result
-            (λ core. core ≡ opened order.bits order.salt limit start.now (map
-            (λ list. list.items) lists.items)) }
+            (λ core. core ≡ opened order.bits order.salt limit start.now
+            (map (λ list. list.items) lists.items)) }
         ensures invariant { IfOk result IsWithdrawing }
     {
         let cells = order.homes() + limit as usize;

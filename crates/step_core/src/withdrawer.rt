@@ -2,11 +2,11 @@
 
 ghost use Rattle.std.specs.Prelude.{◌≡◌, ◌≢◌, ◌↔◌, ◌+◌, ◌^◌, ◌<◌, ◌≤◌, ◌==◌, ℕ, List, [], Contains, IfOk, IsTrue, length, slice_get, slice_index};
 ghost use Rattle.step_core.specs.Seats.{AreSeats};
+ghost use Rattle.step_core.specs.Shape.{homes_of};
 ghost use Rattle.step_core.specs.WithdrawCore.{HasReplyRoom, IsShape, KeepsList, MayStep, MayTell, Moves, TabSteps, base_of, reply_of, tab_of};
 ghost use Rattle.step_core.specs.WithdrawTables.{FitsIn, MayFind, note_of, state_of};
 ghost use Rattle.step_core.specs.Withdrawing.{IsDone, after_step, answered, next_number, opened_tab, settled};
 ghost use Rattle.store_spec.specs.Act.{word_of};
-ghost use Rattle.store_spec.specs.Home.{home_of};
 ghost use Rattle.store_spec.specs.WithdrawStep.{number_of, withdraw_act};
 ghost use Rattle.store_spec.specs.WithdrawStep.WithdrawState.{Rest};
 
@@ -126,7 +126,7 @@ impl Withdrawer {
         requires may_step { MayStep (base_of shape.now seats.now.numbers.items)
             seats.now.numbers.items words.old (tab_of self.now) }
         ensures { let tab = tab_of self.now in
-            Moves (home_of shape.now.order.bits shape.now.order.salt)
+            Moves (homes_of shape.now)
             (base_of shape.now seats.now.numbers.items) words.old
             tab.state (next_number tab.state tab.left)
             words.new (state_of result.0) (note_of result.1) }
@@ -155,7 +155,7 @@ fn first_act(
         seats.now.numbers.items seats.now.places.items }
     requires size { length words.old ≡ shape.now.cells + shape.now.cells }
     requires flags { (cell : ℕ) → slice_index words.old (shape.now.cells + cell) ≤ 1 }
-    ensures { Moves (home_of shape.now.order.bits shape.now.order.salt)
+    ensures { Moves (homes_of shape.now)
         (base_of shape.now seats.now.numbers.items) words.old
         Rest number
         words.new (state_of result.0) (note_of result.1) }
@@ -178,8 +178,7 @@ fn next_act(shape: &Shape, words: &mut [u64], state: WithdrawState) -> (Withdraw
     requires fits { FitsIn shape.now.cells (state_of state) }
     requires finds { MayFind (state_of state)
         (slice_index words.old (word_of (withdraw_act (state_of state)))) }
-    ensures { (base : List ℕ)
-        → Moves (home_of shape.now.order.bits shape.now.order.salt) base words.old
+    ensures { (base : List ℕ) → Moves (homes_of shape.now) base words.old
         (state_of state) (number_of (state_of state))
         words.new (state_of result.0) (note_of result.1) }
 {

@@ -59,8 +59,8 @@ pub fn looked_higher()
 /// A word that fits ends the way up.
 pub fn found_candidate()
     ensures { (home : ℕ → ℕ) (base : List ℕ) (x bound place word : ℕ) → Fits home x bound word
-        → IsKept home base x (Up x bound (place + 1)) (place + 1) word word (Down x bound place word
-        (place + 1)) Quiet }
+        → IsKept home base x (Up x bound (place + 1)) (place + 1) word word
+        (Down x bound place word (place + 1)) Quiet }
 {}
 
 /// A word that fits is the candidate from here on.
@@ -122,8 +122,7 @@ pub fn seat_made()
 
 /// A withdrawer at rest hands its lists to another at rest, and is as a new one then.
 pub fn seat_taken_in()
-    ensures { (home : ℕ
-        → ℕ) (base words : List ℕ) (views : List WithdrawView) (id other : ℕ)
+    ensures { (home : ℕ → ℕ) (base words : List ℕ) (views : List WithdrawView) (id other : ℕ)
         (view from : WithdrawView)
         → WithdrawInvariant home base words views
         → slice_get views id ≡ Some view → slice_get views other ≡ Some from → id ≢ other
@@ -139,8 +138,8 @@ pub fn seat_taken_in()
 pub fn at_rest()
     ensures cells { (home : ℕ → ℕ) (base words : List ℕ) (views : List WithdrawView)
         → WithdrawInvariant home base words views → All (λ view. view.state ≡ Rest) views
-        → cell_words base words ≡ layout_of home (length base) (without (numbers_in base)
-        (begun_by views)) }
+        → cell_words base words
+        ≡ layout_of home (length base) (without (numbers_in base) (begun_by views)) }
     ensures once { (home : ℕ → ℕ) (base words : List ℕ) (views : List WithdrawView) (x : ℕ)
         → WithdrawInvariant home base words views → All (λ view. view.state ≡ Rest) views
         → times (begun_by views) x ≤ 1 }
@@ -154,18 +153,17 @@ pub fn at_rest()
 /// A withdrawer that is not at rest meets what the tables ask of its state and of the word that it finds, and each row
 /// leaves it less to do.
 pub fn a_step_may_be_made()
-    ensures fits { (home : ℕ
-        → ℕ) (base words : List ℕ) (views : List WithdrawView) (id : ℕ) (view : WithdrawView)
+    ensures fits { (home : ℕ → ℕ) (base words : List ℕ) (views : List WithdrawView) (id : ℕ)
+        (view : WithdrawView)
         → WithdrawInvariant home base words views → slice_get views id ≡ Some view
         → FitsIn (length base) view.state }
-    ensures may_find { (home : ℕ
-        → ℕ) (base words : List ℕ) (views : List WithdrawView) (id : ℕ) (view : WithdrawView)
+    ensures may_find { (home : ℕ → ℕ) (base words : List ℕ) (views : List WithdrawView) (id : ℕ)
+        (view : WithdrawView)
         → WithdrawInvariant home base words views → slice_get views id ≡ Some view
         → view.state ≢ Rest
         → MayFind view.state (slice_index words (word_of (withdraw_act view.state))) }
-    ensures falls { (home : ℕ
-        → ℕ) (base words : List ℕ) (views : List WithdrawView) (id : ℕ) (view : WithdrawView)
-        (word found left : ℕ) (new : WithdrawState) (note : WithdrawNote)
+    ensures falls { (home : ℕ → ℕ) (base words : List ℕ) (views : List WithdrawView) (id : ℕ)
+        (view : WithdrawView) (word found left : ℕ) (new : WithdrawState) (note : WithdrawNote)
         → WithdrawInvariant home base words views → slice_get views id ≡ Some view
         → WithdrawRow home view.state word found left new note
         → Falls (withdraw_measure (length base) new) (withdraw_measure (length base) view.state) }
@@ -173,15 +171,13 @@ pub fn a_step_may_be_made()
 
 /// A flag is 0 or 1, and it is 1 for a number that the withdrawer has begun to remove or found gone before.
 pub fn a_flag()
-    ensures zero_or_one { (home : ℕ
-        → ℕ) (base words : List ℕ) (views : List WithdrawView) (cell : ℕ)
+    ensures zero_or_one { (home : ℕ → ℕ) (base words : List ℕ) (views : List WithdrawView)
+        (cell : ℕ)
         → WithdrawInvariant home base words views → slice_index words (length base + cell) ≤ 1 }
-    ensures found_again { (home : ℕ
-        → ℕ) (base words : List ℕ) (views : List WithdrawView) (id : ℕ) (view : WithdrawView)
-        (x cell : ℕ)
+    ensures found_again { (home : ℕ → ℕ) (base words : List ℕ) (views : List WithdrawView) (id : ℕ)
+        (view : WithdrawView) (x cell : ℕ)
         → WithdrawInvariant home base words views → slice_get views id ≡ Some view
-        → IsSeated base x cell
-        → Contains view.begun x ⊎ Contains view.gone x
+        → IsSeated base x cell → Contains view.begun x ⊎ Contains view.gone x
         → slice_index words (length base + cell) ≡ 1 }
 {}
 
@@ -189,8 +185,8 @@ pub fn a_flag()
 pub fn one_row()
     ensures first { (home : ℕ → ℕ) (x found : ℕ) (a b : WithdrawState) (m n : WithdrawNote)
         → FirstRow home x found a m → FirstRow home x found b n → (a ≡ b) × (m ≡ n) }
-    ensures later { (home : ℕ
-        → ℕ) (from : WithdrawState) (v w found l k : ℕ) (a b : WithdrawState) (m n : WithdrawNote)
+    ensures later { (home : ℕ → ℕ) (from : WithdrawState) (v w found l k : ℕ)
+        (a b : WithdrawState) (m n : WithdrawNote)
         → WithdrawRow home from v found l a m → WithdrawRow home from w found k b n
         → (v ≡ w) × (l ≡ k) × (a ≡ b) × (m ≡ n) }
 {}
