@@ -106,6 +106,8 @@ fn withdrawn_twice_and_not_held(rt: HostRuntime) {
 
 // ---- many withdrawers on four homes
 
+const LISTS: usize = 8;
+
 const FEW_HOMES: Salted = Salted {
     bits: 2,
     salt: 0x5eed,
@@ -161,7 +163,7 @@ fn eight_lists(alloc: Global, numbers: &[u64], seed: u64) -> Result<Vec<Vec<u64>
 {
     let mut seed = seed;
     let mut lists = Vec::new(alloc);
-    for _ in 0..8 {
+    for _ in 0..LISTS {
         lists.push(drawn_list(alloc, numbers, &mut seed)?)?;
     }
     Ok(lists)
@@ -177,7 +179,7 @@ fn run(core: &mut WithdrawCore, seed: u64)
         if core.at_rest() {
             return;
         }
-        let _ = step(core, drawn(&mut seed, 8));
+        let _ = step(core, drawn(&mut seed, LISTS));
     }
 }
 
@@ -196,7 +198,7 @@ fn withdrawn(core: &WithdrawCore) -> usize
     requires { length core.now.tabs ≡ 8 }
 {
     let mut count: usize = 0;
-    for tab in 0..8 {
+    for tab in 0..LISTS {
         for reply in core.replies(tab) {
             if *reply == WithdrawReply::Withdrawn {
                 count = count.saturating_add(1);
