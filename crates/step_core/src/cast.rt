@@ -28,8 +28,6 @@ pub enum CastNote {
 /// What a tabulator is about.
 #[derive(Clone, Copy, Debug, PartialEq, Eq)]
 pub enum CastState {
-    /// Nothing.
-    Rest,
     /// A number looks for a claim word, and so many were tried in vain.
     Probing {
         number: u64,
@@ -46,6 +44,8 @@ pub enum CastState {
         place: usize,
         seen: u64,
     },
+    /// Nothing.
+    Rest,
 }
 
 /// What a tabulator does next.
