@@ -1,5 +1,7 @@
 -- What the bytes of a cell say of the ballot that is read from them.
-use Rattle.std.proofs.Common.{◌≡◌, ℕ, List, length, replicate, All, sym, ap, subst, ◌∙◌}
+use Rattle.std.proofs.Common.{◌≡◌, ℕ, List, length, take, replicate, All, refl, sym, ap, subst, ◌∙◌, arith}
+use Rattle.std.proofs.lemmas.List.{take-replicate}
+use Rattle.std.specs.Int.{from_be_bytes, w64}
 use Rattle.store_spec.specs.Ballot.{Ballot, IsValid}
 use Rattle.store_spec.specs.Election.{Election, IsElection, cell_size}
 use Rattle.store_spec.specs.Image.{ballot_bytes}
@@ -44,3 +46,14 @@ zeros_of e bytes long all = zeros_from_all bytes all ∙ ap (λ n. replicate n 0
 
 pub each_zero : (bytes : List ℕ) (n : ℕ) → bytes ≡ replicate n 0 → All {X = ℕ} (λ byte. byte ≡ 0) bytes
 each_zero bytes n zeros = subst (All {X = ℕ} (λ byte. byte ≡ 0)) (sym zeros) (all_from_zeros n)
+
+-- a cell of zeros is that of no ballot, since no number is 0
+pub no_ballot : (e : Election) (bytes : List ℕ) → IsElection e → bytes ≡ replicate (cell_size e) 0 → (b : Ballot) → IsValid e b → bytes ≡ ballot_bytes e b → ⊥
+no_ballot e bytes election zeros b valid is =
+    let n = length e.contests in
+    let none = replicate (cell_size e) 0 in
+    let again : ballot_at n none ≡ b = ap (ballot_at n) (sym zeros ∙ is) ∙ cell_again e b election valid in
+    let front : take 8 none ≡ replicate 8 0 = take-replicate 8 (cell_size e) 0 (omega arith) in
+    let number : from_be_bytes w64 (replicate 8 0) ≡ b.number = sym (ap (from_be_bytes w64) front) ∙ ap (λ (b : Ballot). b.number) again in
+    let zero : from_be_bytes w64 (replicate 8 0) ≡ 0 = refl in
+    omega (arith, number, zero, valid.some_number)

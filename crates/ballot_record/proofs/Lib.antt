@@ -18,4 +18,5 @@ pub mod Lookups
 pub mod MarkSets
 mod OnStyle
 mod Places
+pub mod Reasons
 pub mod ValidMarks

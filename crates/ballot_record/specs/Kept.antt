@@ -32,7 +32,8 @@ pub record IsKept (a : Inside) : Type 0 where
   pub style_count : a.style_count ≤ 255
   pub contest_places : length a.contests ≡ 16
   pub style_places : length a.styles ≡ 255
-  pub no_more_contests : drop a.contest_count a.contests ≡ replicate (16 - a.contest_count) no_contest
+  pub no_more_contests : drop a.contest_count a.contests
+      ≡ replicate (16 - a.contest_count) no_contest
   pub no_more_styles : drop a.style_count a.styles ≡ replicate (255 - a.style_count) 0
 
 contests_back : (contests : List Contest) → map contest_like (contests_of contests) ≡ contests
@@ -40,7 +41,9 @@ contests_back [] = refl
 contests_back (contest ∷ contests) = ap (λ rest. contest ∷ rest) (contests_back contests)
 
 -- the front and what stands behind it are the whole
-whole : {X : Type 0} (xs : List X) (n total : ℕ) (none : X) → length xs ≡ total → n ≤ total → drop n xs ≡ replicate (total - n) none → (length (take n xs) ≡ n) × (take n xs ++ replicate (total - n) none ≡ xs)
+whole : {X : Type 0} (xs : List X) (n total : ℕ) (none : X) → length xs ≡ total → n ≤ total
+    → drop n xs ≡ replicate (total - n) none
+    → (length (take n xs) ≡ n) × (take n xs ++ replicate (total - n) none ≡ xs)
 whole xs n total none all within behind =
     (length-take-le n xs (omega arith), ap (λ rest. take n xs ++ rest) (sym behind) ∙ take-append-drop n xs)
 

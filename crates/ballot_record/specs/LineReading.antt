@@ -19,7 +19,8 @@ digits_at limit value (byte ∷ bytes) =
 -- what comes of the bytes after this one where it stands first, and otherwise the last argument
 abbrev pub past_byte : {A : Type 0} → ℕ → List ℕ → (List ℕ → A) → A → A
 past_byte wanted [] goes_on otherwise = otherwise
-past_byte wanted (byte ∷ bytes) goes_on otherwise = if byte == wanted then goes_on bytes else otherwise
+past_byte wanted (byte ∷ bytes) goes_on otherwise =
+    if byte == wanted then goes_on bytes else otherwise
 
 abbrev pub with_first : {A B : Type 0} → A → List A × B → List A × B
 with_first first others = (first ∷ others.0, others.1)
@@ -45,7 +46,8 @@ groups_of zero bytes = None
 groups_of (suc more) bytes =
     option_and_then (λ (first : List ℕ × List ℕ).
     if length first.1 == 0 then Some (first.0 ∷ [])
-    else past_byte slash first.1 (λ rest. option_map (λ others. first.0 ∷ others) (groups_of more rest)) None)
+    else past_byte slash first.1
+    (λ rest. option_map (λ others. first.0 ∷ others) (groups_of more rest)) None)
     (group_at bytes)
 
 -- all of a line
@@ -55,7 +57,8 @@ line_of bytes =
     past_byte space number.1 (λ bytes.
     option_and_then (λ (style : ℕ × List ℕ).
     past_byte space style.1 (λ bytes.
-    option_map (λ groups. record { number = number.0; style = style.0; groups = groups }) (groups_of 16 bytes))
+    option_map (λ groups. record { number = number.0; style = style.0; groups = groups })
+    (groups_of 16 bytes))
     None)
     (digits_at most_styles 0 bytes))
     None)

@@ -80,11 +80,13 @@ pub fn take_cell(bytes: &[u8], election: &Election) -> CellRead
         ↔ (¬ IsEmptyCell election.now bytes.now
         × ((b : Ballot) → ¬ IsCellOf election.now bytes.now b)) }
 {
-    let record = record_at(bytes, election.contests());
+    let contests = election.contests();
+    if are_zero(bytes) {
+        return CellRead::Empty;
+    }
+    let record = record_at(bytes, contests);
     if record.valid(election) {
         CellRead::Held(record)
-    } else if are_zero(bytes) {
-        CellRead::Empty
     } else {
         CellRead::Bad
     }

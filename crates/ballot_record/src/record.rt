@@ -17,6 +17,13 @@ pub struct Record {
     pub marks: [u32; MAX_MARK_SETS],
 }
 
+/// Whether a mark set has only choices that this contest offers on this style.
+fn has_choices(set: u32, election: &Election, style: u8, contest: usize) -> bool
+    ensures { IsTrue result ↔ set < 2 ^ choices_on election.now style contest }
+{
+    set == 0 || u64::from(set) < 1 << election.choices_on(style, contest)
+}
+
 impl Record {
     ghost use Rattle.ballot_record.specs.Record.{ballot};
 
@@ -35,8 +42,7 @@ impl Record {
         ensures { IsTrue result ↔ HasMarks election.now self.now.style self.now.marks }
     {
         for (place, marks) in self.marks.iter().enumerate() {
-            let choices = election.choices_on(self.style, place + 1);
-            if u64::from(*marks) >= 1 << choices {
+            if !has_choices(*marks, election, self.style, place + 1) {
                 return false;
             }
         }

@@ -2,8 +2,8 @@
 use Rattle.std.proofs.Common.{◌≡◌, ℕ, List, Err, ap, arith, refl}
 use Rattle.std.specs.List.{AllZip}
 use Rattle.std.specs.Prelude.{IsPermutation}
-use Rattle.ballot_store_cli.specs.Build.{BuildEnds, IsReadOut, OfScript, WritesImage}
-use Rattle.ballot_store_cli.specs.Outside.{NoFault, Outside, Output}
+use Rattle.ballot_store_cli.specs.Build.{BuildEnds, WritesImage}
+use Rattle.outside_io.specs.Outside.{IsReadOut, NoFault, OfScript, Outside, Output}
 use Rattle.ballot_store_cli.specs.Script.{Reads}
 use Rattle.ballot_store_cli.specs.Status.{build_fault, build_fault_status}
 use Rattle.ballot_store_cli.specs.declared.build.script.ScriptFault.{ScriptFault}

@@ -1,6 +1,9 @@
 mod Building
+mod Carrying
 mod Causes
 mod Index
 mod OneAnswer
+mod OneBuild
+mod OneElection
 mod Reading
 mod Texts

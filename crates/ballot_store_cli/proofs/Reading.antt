@@ -5,7 +5,8 @@ use Rattle.std.proofs.lemmas.List.Sorted.{Contains-permutation, IsPermutation-sy
 use Rattle.std.proofs.lemmas.Slice.Zip.{AllZip-long}
 use Rattle.std.specs.List.{AllZip}
 use Rattle.std.specs.Prelude.{Any, IsPermutation, slice_get}
-use Rattle.ballot_store_cli.specs.Build.{HasBadLine, HasTooMuch, IsGoodSoFar, IsReadOut}
+use Rattle.ballot_store_cli.specs.Build.{HasBadLine, HasTooMuch, IsGoodSoFar}
+use Rattle.outside_io.specs.Outside.{IsReadOut}
 use Rattle.outside_io.proofs.EndedLines.{front_of_within}
 use Rattle.outside_io.proofs.FirstLine.{all_within}
 use Rattle.outside_io.proofs.TakenLines.{IsBehind, line_behind, whole_line, whole_lines, wide_line}

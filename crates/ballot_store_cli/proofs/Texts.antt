@@ -3,7 +3,7 @@ use Rattle.std.proofs.Common.{◌≡◌, ℕ, ◌+◌, ◌-◌, ◌<◌, ◌≤�
 use Rattle.std.proofs.lemmas.List.{append-nil, length-append, length-take}
 use Rattle.std.specs.Prelude.{IfSome, slice_range}
 use Rattle.ballot_store_cli.specs.ElectionText.{election_limit, IsElectionRead, IsNoElectionRead, IsWhole, RefusesElection}
-use Rattle.ballot_store_cli.specs.Outside.{Input}
+use Rattle.outside_io.specs.Outside.{Input}
 use Rattle.ballot_store_cli.specs.Status.{no_election, no_election_status}
 use Rattle.election_def.specs.declared.fault.ElectionFault.{ElectionFault}
 use Rattle.election_def.specs.declared.fault.ElectionFault.TheVariants.{NotElection, Memory}

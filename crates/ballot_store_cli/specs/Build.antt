@@ -1,12 +1,11 @@
 -- What the command `build` makes of a script. `text` is what the script's source had left before the run, and `left`
 -- what it has after it.
-use Rattle.std.specs.Prelude.{◌≡◌, ℕ, ◌+◌, ◌≤◌, List, [], ◌++◌, length}
+use Rattle.std.specs.Prelude.{◌≡◌, ℕ, ◌+◌, ◌≤◌, List, ◌++◌, length}
 use Rattle.ballot_record.specs.LineWhy.{reason}
-use Rattle.ballot_store_cli.specs.Outside.{Outside, NoFault}
+use Rattle.outside_io.specs.Outside.{Outside, NoFault, IsReadOut, OfScript, RefusesScript}
 use Rattle.ballot_store_cli.specs.declared.status.Status.{Status}
 use Rattle.ballot_store_cli.specs.declared.status.Status.TheVariants as status
 use Rattle.ballot_store_cli.specs.declared.status.Which.TheVariants as which
-use Rattle.outside_io.specs.Told.{IfTold}
 use Rattle.outside_io.specs.Stream.{GivesAtMost, GivesExactly, TakesAll, TakesSome}
 use Rattle.store_spec.specs.Ballot.{Ballot, IsBallotSet, IsWithinLimit}
 use Rattle.store_spec.specs.Build.{Builds, IsFirstBad, Reason}
@@ -14,10 +13,6 @@ use Rattle.store_spec.specs.Election.{Election}
 use Rattle.store_spec.specs.Fault.{Rose}
 use Rattle.store_spec.specs.Image.{image_of}
 use Rattle.store_spec.specs.Input.{script_limit, ended_lines, lines_of, lines_within}
-
--- the script was read to its end, within its limit
-abbrev pub IsReadOut : List ℕ → List ℕ → Type 0
-IsReadOut text left = (length text ≤ script_limit) × (left ≡ [])
 
 -- the script was read out, and its lines build this set
 abbrev pub BuildsSet : Election → List Ballot → List ℕ → List ℕ → Type 0
@@ -35,10 +30,6 @@ HasTooMuch e text left = GivesExactly (script_limit + 1) text left × (set : Lis
 abbrev pub IsGoodSoFar : Election → List ℕ → List ℕ → Type 0
 IsGoodSoFar e text left = (given : List ℕ) × (text ≡ given ++ left) × (length given ≤ script_limit) × (set : List Ballot) × Builds e (ended_lines given) set
 
--- a relation of what the script's source had left before and has now, where it tells
-abbrev pub OfScript : {S K : Type 0} → Outside S K → Outside S K → (List ℕ → List ℕ → Type 0) → Type 0
-OfScript before after Related = IfTold before.script.left after.script.left Related
-
 -- the script's lines build some set, and the sink took of its image as this says
 pub record WritesImage {S K : Type 0} (e : Election) (before after : Outside S K) (Takes : List ℕ → Type 0) : Type 0 where
   pub set : List Ballot
@@ -46,11 +37,6 @@ pub record WritesImage {S K : Type 0} (e : Election) (before after : Outside S K
   pub within_limit : IsWithinLimit e set
   pub built : OfScript before after (BuildsSet e set)
   pub taken : Takes (image_of e set)
-
--- the script was refused, as this says, and the sink was left alone
-pub record RefusesScript {S K : Type 0} (before after : Outside S K) (Why : List ℕ → List ℕ → Type 0) : Type 0 where
-  pub why : OfScript before after Why
-  pub untouched : after.sink ≡ before.sink
 
 -- All that a run of `build` promises under an election: why each status comes, what was read, and what was written.
 abbrev pub BuildEnds : {S K : Type 0} → Election → Status → Outside S K → Outside S K → Type 0

@@ -1,6 +1,6 @@
 -- What the source of an election gives.
 use Rattle.std.specs.Prelude.{◌≡◌, ℕ, ◌+◌, ◌≤◌, List, [], length}
-use Rattle.ballot_store_cli.specs.Outside.{Input}
+use Rattle.outside_io.specs.Outside.{Input}
 use Rattle.ballot_store_cli.specs.declared.status.Status.{Status}
 use Rattle.ballot_store_cli.specs.declared.status.Status.TheVariants as status
 use Rattle.ballot_store_cli.specs.declared.status.Which.TheVariants as which

@@ -3,6 +3,6 @@ pub mod Build
 pub mod Command
 pub mod ElectionText
 pub mod Outcome
-pub mod Outside
+pub mod Replay
 pub mod Script
 pub mod Status

@@ -4,7 +4,8 @@ use Rattle.std.specs.List.{AllZip}
 use Rattle.std.specs.declared.alloc.Global.{Global}
 use Rattle.ballot_record.specs.LineWhy.{reason}
 use Rattle.ballot_record.specs.declared.record.Record.{Record}
-use Rattle.ballot_store_cli.specs.Build.{HasBadLine, HasTooMuch, IsGoodSoFar, IsReadOut}
+use Rattle.ballot_store_cli.specs.Build.{HasBadLine, HasTooMuch, IsGoodSoFar}
+use Rattle.outside_io.specs.Outside.{IsReadOut}
 use Rattle.ballot_store_cli.specs.declared.build.script.ScriptFault.{ScriptFault}
 use Rattle.ballot_store_cli.specs.declared.build.script.ScriptFault.TheVariants.{BadLine, TooLong, ReadFault, Memory}
 use Rattle.body_store.specs.Contents.{ballots_of}

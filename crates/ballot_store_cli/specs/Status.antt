@@ -10,6 +10,8 @@ use Rattle.ballot_store_cli.specs.declared.build.script.ScriptFault.TheVariants 
 use Rattle.election_def.specs.declared.fault.ElectionFault.{ElectionFault}
 use Rattle.election_def.specs.declared.fault.ElectionFault.TheVariants as election
 use Rattle.ballot_store_cli.specs.declared.build.BuildFault.TheVariants as build
+use Rattle.schedule_replay.specs.declared.fault.ReplayFault.{ReplayFault}
+use Rattle.schedule_replay.specs.declared.fault.ReplayFault.TheVariants as replay
 use Rattle.ballot_store_cli.specs.declared.election.NoElection.{NoElection}
 use Rattle.ballot_store_cli.specs.declared.election.NoElection.TheVariants as none
 
@@ -57,10 +59,21 @@ build_fault_status build.ReadFault = ReadFault Script
 build_fault_status build.WriteFault = WriteFault
 build_fault_status build.Memory = Memory
 
+abbrev pub replay_fault_status : ReplayFault → Status
+replay_fault_status (replay.BadLine line why) = BadLine line why
+replay_fault_status replay.TooLong = TooLong Script
+replay_fault_status replay.ReadFault = ReadFault Script
+replay_fault_status replay.WriteFault = WriteFault
+replay_fault_status replay.Memory = Memory
+
 -- the status of what a command answered
 abbrev pub ended_as : {F : Type 0} → (F → Status) → Result (Unit {0}) F → Status
 ended_as fault_status (Fine done) = Ok
 ended_as fault_status (Err fault) = fault_status fault
+
+abbrev pub ended : Result (Unit {0}) Status → Status
+ended (Fine done) = Ok
+ended (Err status) = status
 
 -- what reading a text, or a script of record lines, answers, as the part above tells it
 abbrev pub no_election : ElectionFault → NoElection

@@ -1,7 +1,7 @@
 //! The command `build`: the image of the set of the script's record lines.
 
 ghost use Rattle.ballot_store_cli.specs.Build.{BuildEnds};
-ghost use Rattle.ballot_store_cli.specs.Outside.{input, output, outside};
+ghost use Rattle.outside_io.specs.Outside.{input, output, outside};
 ghost use Rattle.ballot_store_cli.specs.Status.{build_fault_status, ended_as};
 
 mod ballots;

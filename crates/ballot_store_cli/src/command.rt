@@ -1,11 +1,13 @@
-ghost use Rattle.std.specs.Prelude.{◌≡◌, ◌↔◌, IsTrue, IfSome, IfNone, codes, map, string_bytes};
-ghost use Rattle.ballot_store_cli.specs.Command.{Forms, FormNone, IsPlain};
+ghost use Rattle.std.specs.Prelude.{◌≡◌, ◌↔◌, ◌∷◌, [], IsTrue, IfSome, IfNone, map, string_bytes};
+ghost use Rattle.ballot_store_cli.specs.Command.{Forms, FormNone, IsPlain, NameNone, Names};
 
 /// What a run is asked to do.
 #[derive(Clone, Copy, Debug, PartialEq, Eq)]
 pub enum Command {
     /// Write the image of a set of record lines.
     Build,
+    /// Replay a schedule of steps over a phase, and write what comes of it.
+    Replay,
 }
 
 fn is_plain(word: &str) -> bool
@@ -17,12 +19,16 @@ fn is_plain(word: &str) -> bool
     }
 }
 
-// Whether these are a medium, an election and a command.
-fn are_words_of_build(medium: &str, election: &str, command: &str) -> bool
-    ensures { IsTrue result
-        ↔ (IsPlain medium.now × IsPlain election.now × (command.now ≡ codes "build")) }
+/// The command that this word names.
+fn command_named(word: &str) -> Option<Command>
+    ensures named { IfSome result (Names (word.now ∷ [])) }
+    ensures none { IfNone result (NameNone (word.now ∷ [])) }
 {
-    is_plain(medium) && is_plain(election) && command == "build"
+    match word {
+        "build" => Some(Command::Build),
+        "replay" => Some(Command::Replay),
+        _ => None,
+    }
 }
 
 /// The command that the words form.
@@ -31,8 +37,8 @@ pub fn command_of(words: &[String]) -> Option<Command>
     ensures none { IfNone result (FormNone (map string_bytes words.now)) }
 {
     match words {
-        [medium, election, command] if are_words_of_build(medium, election, command) => {
-            Some(Command::Build)
+        [medium, election, command] if is_plain(medium) && is_plain(election) => {
+            command_named(command)
         }
         _ => None,
     }

@@ -1,7 +1,7 @@
 ghost use Rattle.std.specs.Prelude.{◌≡◌, ◌++◌, IfOk, IfErr, OnOk, vec_len};
 ghost use Rattle.outside_io.specs.Told.{AsTold};
 ghost use Rattle.ballot_store_cli.specs.ElectionText.{IsElectionRead, IsWhole, RefusesElection};
-ghost use Rattle.ballot_store_cli.specs.Outside.{input};
+ghost use Rattle.outside_io.specs.Outside.{input};
 ghost use Rattle.ballot_store_cli.specs.Status.{no_election_status};
 ghost use Rattle.store_spec.specs.Election.{IsElection};
 

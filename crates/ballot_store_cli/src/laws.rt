@@ -3,7 +3,7 @@
 ghost use Rattle.std.specs.Prelude.{◌≡◌, ℕ, List, IsSome};
 ghost use Rattle.ballot_store_cli.specs.Command.{Forms};
 ghost use Rattle.ballot_store_cli.specs.Outcome.{Ends};
-ghost use Rattle.ballot_store_cli.specs.Outside.{Input, Outside};
+ghost use Rattle.outside_io.specs.Outside.{Input, Outside};
 ghost use Rattle.ballot_store_cli.specs.Status.{IsDecided};
 ghost use Rattle.ballot_store_cli.specs.declared.command.Command.{Command};
 ghost use Rattle.ballot_store_cli.specs.declared.status.Status.{Status};

@@ -1,17 +1,22 @@
 ghost use Rattle.std.specs.Prelude.{map, string_bytes};
-ghost use Rattle.ballot_store_cli.specs.Outcome.{Ends};
-ghost use Rattle.ballot_store_cli.specs.Outside.{input, output, outside};
+ghost use Rattle.ballot_store_cli.specs.Outcome.{CommandEnds, Ends};
+ghost use Rattle.ballot_store_cli.specs.Status.{ended};
+ghost use Rattle.outside_io.specs.Outside.{input, output, outside};
 
 use crate::build::build;
 use crate::command::{Command, command_of};
 use crate::election::election_from;
 use crate::status::Status;
+use ballot_record::Election;
 use outside_io::{Sink, Source};
+use schedule_replay::replay;
 use std::alloc::Global;
 use std::thread::Threads;
 
-/// Carries out the command that the words form: `MEDIUM ELECTION build` reads an election whole from its source, then
-/// record lines from the script, and writes the image of their set to the sink.
+/// Carries out the command that the words form, under the election that its source describes:
+///
+/// - `MEDIUM ELECTION build` writes the image of the set of the script's record lines to the sink;
+/// - `MEDIUM ELECTION replay` replays the schedule of a script over a phase.
 pub fn run<R: Threads + Sync, E: Source, S: Source, K: Sink>(
     _rt: &R,
     alloc: Global,
@@ -32,11 +37,27 @@ pub fn run<R: Threads + Sync, E: Source, S: Source, K: Sink>(
         Ok(election) => election,
         Err(cause) => return cause.into(),
     };
-    let ended = match command {
-        Command::Build => build(alloc, &election, script, out),
-    };
-    match ended {
+    match carry_out(alloc, command, &election, script, out) {
         Ok(()) => Status::Ok,
-        Err(fault) => fault.into(),
+        Err(status) => status,
     }
+}
+
+/// Carries out a command under an election.
+fn carry_out<S: Source, K: Sink>(
+    alloc: Global,
+    command: Command,
+    election: &Election,
+    script: &mut S,
+    out: &mut K,
+) -> Result<(), Status>
+    ensures { CommandEnds command election.now (ended result)
+        (outside (input S.left S.faults script.old) (output K.taken K.faults out.old))
+        (outside (input S.left S.faults script.new) (output K.taken K.faults out.new)) }
+{
+    match command {
+        Command::Build => build(alloc, election, script, out)?,
+        Command::Replay => replay(alloc, election, script, out)?,
+    }
+    Ok(())
 }

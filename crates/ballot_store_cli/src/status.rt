@@ -3,6 +3,7 @@ ghost use Rattle.std.specs.Prelude.{◌≡◌};
 use crate::build::BuildFault;
 use crate::election::NoElection;
 use ballot_record::LineWhy;
+use schedule_replay::ReplayFault;
 use std::fmt;
 
 /// Which of the two inputs of a run.
@@ -90,6 +91,27 @@ impl From<BuildFault> for Status {
             },
             BuildFault::WriteFault => Status::WriteFault,
             BuildFault::Memory => Status::Memory,
+        }
+    }
+}
+
+impl From<ReplayFault> for Status {
+    ghost use Rattle.std.specs.Prelude.{◌≡◌};
+    ghost use Rattle.ballot_store_cli.specs.Status.{replay_fault_status};
+
+    ghost from_gives = { λ fault status. status ≡ replay_fault_status fault };
+
+    fn from(fault: ReplayFault) -> Self {
+        match fault {
+            ReplayFault::BadLine { line, why } => Status::BadLine { line, why },
+            ReplayFault::TooLong => Status::TooLong {
+                which: Which::Script,
+            },
+            ReplayFault::ReadFault => Status::ReadFault {
+                which: Which::Script,
+            },
+            ReplayFault::WriteFault => Status::WriteFault,
+            ReplayFault::Memory => Status::Memory,
         }
     }
 }

@@ -9,6 +9,8 @@ use std::alloc::{AllocError, Global};
 use std::test::Fail;
 use std::thread::Threads;
 
+mod replay;
+
 fn words(alloc: Global, texts: &[&str]) -> Result<Vec<String>, AllocError> {
     let mut words = Vec::new(alloc);
     for text in texts {
@@ -381,12 +383,13 @@ fn width_and_faults_of_the_election(rt: HostRuntime) -> Result<(), Fail> {
 #[test]
 fn command_forms(rt: HostRuntime) -> Result<(), Fail> {
     let alloc = rt.alloc();
-    let rows: [(&[&str], Status); 10] = [
+    let rows: [(&[&str], Status); 11] = [
         (&["m", "e", "build"], Status::Ok),
         (&[], Status::Usage),
         (&["m", "e"], Status::Usage),
         (&["m", "e", "sort"], Status::Usage),
         (&["m", "e", "build", "x"], Status::Usage),
+        (&["m", "e", "Replay"], Status::Usage),
         (&["m", "e", ""], Status::Usage),
         (&["", "e", "build"], Status::Usage),
         (&["m", "", "build"], Status::Usage),

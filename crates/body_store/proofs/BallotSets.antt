@@ -14,7 +14,7 @@ use Rattle.layout_def.proofs.Ascending.{ascending-IsPermutation}
 use Rattle.layout_def.proofs.LaidOut.{layout_of_is}
 use Rattle.store_spec.specs.Ballot.{Ballot, IsBallotSet, IsListing, IsValid, IsWithinLimit, numbers_of}
 use Rattle.store_spec.specs.Election.{Election, IsElection, cell_count}
-use Rattle.store_spec.specs.Home.{home_of}
+use Rattle.store_spec.specs.Home.{home_in}
 use Rattle.store_spec.specs.Image.{cells_of}
 use Rattle.store_spec.specs.Layout.{HasRoom, IsLayout, laid_out}
 
@@ -27,7 +27,7 @@ pub may_hold_set : (e : Election) (ballots : List Ballot) → IsBallotSet e ball
 may_hold_set e ballots set few = record { listing = listing_from_set e ballots set; within_limit = few }
 
 -- the cells of an election have room for each of its sets, however it is listed
-pub has_room : (e : Election) (ballots : List Ballot) → IsElection e → MayHold e ballots → HasRoom (home_of e.bits e.salt) (2 ^ e.bits) (cell_count e) (numbers_of ballots)
+pub has_room : (e : Election) (ballots : List Ballot) → IsElection e → MayHold e ballots → HasRoom (home_in e) (2 ^ e.bits) (cell_count e) (numbers_of ballots)
 has_room e ballots election held = record {
   distinct = pairs_of_numbers (λ a b. a ≢ b) ballots held.listing.distinct;
   some = All-map (λ v. v ≢ 0) (λ b. b.number) ballots
@@ -38,26 +38,29 @@ has_room e ballots election held = record {
 
 pub cells_of-IsPermutation : (e : Election) (xs ys : List Ballot) → IsPermutation xs ys → cells_of e xs ≡ cells_of e ys
 cells_of-IsPermutation e xs ys p =
-    ap (laid_out (home_of e.bits e.salt) (cell_count e)) (sym (ascending-IsPermutation _ _ (IsPermutation-map (λ b. b.number) xs ys p)))
+    ap (laid_out (home_in e) (cell_count e)) (sym (ascending-IsPermutation _ _ (IsPermutation-map (λ b. b.number) xs ys p)))
 
 pub limit-IsPermutation : (e : Election) (xs ys : List Ballot) → IsPermutation xs ys → IsWithinLimit e xs → IsWithinLimit e ys
 limit-IsPermutation e xs ys p few = let size = length_permutation xs ys p in omega arith
 
+pub may_hold-IsPermutation : (e : Election) (xs ys : List Ballot) → IsPermutation xs ys → MayHold e xs → MayHold e ys
+may_hold-IsPermutation e xs ys p held = record { listing = listing-IsPermutation e xs ys p held.listing; within_limit = limit-IsPermutation e xs ys p held.within_limit }
+
 -- a listing may be stored where it is put in order
-pub stored_in_order : (e : Election) (xs ys : List Ballot) → IsElection e → IsListing e xs → IsWithinLimit e xs → IsPermutation xs ys → IsNonDecreasing (numbers_of ys) → IsStored (record { election = e; ballots = ys })
-stored_in_order e xs ys election listing few p up =
-    let moved = listing-IsPermutation e xs ys p listing in
-    let apart = pairs_of_numbers (λ a b. a ≢ b) ys moved.distinct in
+pub stored_in_order : (e : Election) (xs ys : List Ballot) → IsElection e → MayHold e xs → IsPermutation xs ys → IsNonDecreasing (numbers_of ys) → IsStored (record { election = e; ballots = ys })
+stored_in_order e xs ys election held p up =
+    let moved = may_hold-IsPermutation e xs ys p held in
+    let apart = pairs_of_numbers (λ a b. a ≢ b) ys moved.listing.distinct in
     record {
       election = election;
       set = record {
-        valid = moved.valid;
+        valid = moved.listing.valid;
         ascending = pairs_of_ballots (λ a b. a < b) ys (λ i j d lt within.
             let least = up i j d (omega arith) within in
             let other = apart i j d lt within in
             omega arith);
       };
-      within_limit = limit-IsPermutation e xs ys p few;
+      within_limit = moved.within_limit;
     }
 
 -- so may what is left of a stored set
@@ -75,5 +78,5 @@ stored_without store numbers h =
     }
 
 -- the cells of what is stored
-pub stored_layout : (store : Contents) → IsStored store → IsLayout (home_of store.election.bits store.election.salt) (cell_count store.election) (numbers_of store.ballots) (cells_of store.election store.ballots)
+pub stored_layout : (store : Contents) → IsStored store → IsLayout (home_in store.election) (cell_count store.election) (numbers_of store.ballots) (cells_of store.election store.ballots)
 stored_layout store h = layout_of_is _ _ _ _ (has_room store.election store.ballots h.election (may_hold_set store.election store.ballots h.set h.within_limit))

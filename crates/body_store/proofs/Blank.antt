@@ -7,8 +7,10 @@ use Rattle.std.specs.List.{All, AllPairs}
 use Rattle.ballot_record.specs.declared.record.Record.{Record}
 use Rattle.body_store.specs.Contents.{ballots_of}
 use Rattle.ballot_record.proofs.BallotNumbers.{pairs_of_ballots}
-use Rattle.store_spec.specs.Ballot.{Ballot, IsListing, IsValid, numbers_of}
-use Rattle.store_spec.specs.Election.{example, choices_on}
+use Rattle.ballot_record.proofs.BallotSets.{same_in_order}
+use Rattle.std.specs.List.Sorted.{IsPermutation}
+use Rattle.store_spec.specs.Ballot.{Ballot, IsBallotSet, IsListing, IsValid, numbers_of}
+use Rattle.store_spec.specs.Election.{Election, example, choices_on}
 
 abbrev pub blank : ℕ → Ballot
 blank number = record { number = number; style = 1; marks = replicate 16 0 }
@@ -42,6 +44,10 @@ pub ballots_of-blank : (ns : List ℕ) → ballots_of (map blank_record ns) ≡ 
 ballots_of-blank [] = refl
 ballots_of-blank (n ∷ ns) = ap (λ rest. blank n ∷ rest) (ballots_of-blank ns)
 
-pub blanks_rise : (ns : List ℕ) → AllPairs (λ a b. a < b) ns → AllPairs (λ a b. a.number < b.number) (map blank ns)
+blanks_rise : (ns : List ℕ) → AllPairs (λ a b. a < b) ns → AllPairs (λ a b. a.number < b.number) (map blank ns)
 blanks_rise ns rise =
     pairs_of_ballots (λ a b. a < b) (map blank ns) (subst (λ (l : List ℕ). AllPairs (λ a b. a < b) l) (sym (numbers_of-blank ns)) rise)
+
+-- a store that holds these ballots holds them in the order of their numbers
+pub blanks_stored : (e : Election) (ns : List ℕ) (held : List Ballot) → AllPairs (λ a b. a < b) ns → IsBallotSet e held → IsPermutation (map blank ns) held → held ≡ map blank ns
+blanks_stored e ns held rise set p = sym (same_in_order (map blank ns) held (blanks_rise ns rise) set.ascending p)

@@ -22,4 +22,5 @@ ballots_of records = map ballot records
 
 -- the ballots whose number is none of these
 abbrev pub ballots_without : List Ballot → List ℕ → List Ballot
-ballots_without ballots numbers = filter (λ b. not (list_any (λ number. number == b.number) numbers)) ballots
+ballots_without ballots numbers =
+    filter (λ b. not (list_any (λ number. number == b.number) numbers)) ballots

@@ -8,17 +8,13 @@ use Rattle.crash_disk.specs.History.Event.{Wrote, Synced, Unchanged}
 use Rattle.crash_disk.specs.SeenIsImage.{state_at-end}
 use Rattle.crash_disk.proofs.Histories.{state-past, state-inside, state-after}
 use Rattle.crash_disk.specs.SeenIsImage.{length-history, recording-image}
-use Rattle.crash_disk.specs.Notes.{Notes, made_calls, history_of}
+use Rattle.crash_disk.specs.Notes.{Notes, made_calls, history_of, state_of}
 use Rattle.crash_disk.specs.declared.entry.DiskCall.TheVariants.{Size, Read, Write, Sync}
 use Rattle.crash_disk.specs.Recorded.{recorded_sees, recorded_leaves, recorded_calls}
 use Rattle.crash_disk.specs.declared.recorded.RecordedDisk.{RecordedDisk}
 use Rattle.crash_disk.specs.declared.recording.Recording.{Recording}
 use Rattle.crash_disk.proofs.TornBytes.{torn-same}
 use Rattle.crash_disk.proofs.Record.{map-one_more}
-
--- the state of a recording at a moment
-abbrev pub state_of : Recording → ℕ → State
-state_of m t = state_at (settled_state m.first.items) (history_of m) t
 
 module _ (old new : Recording) (made : MadeCall) (notes : Notes made old new) (full : old.room.calls ≤ old.calls → event_of made ≡ Unchanged) where
   grows : history_of new ≡ with_one_more old.room.calls (history_of old) (event_of made)

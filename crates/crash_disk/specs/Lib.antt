@@ -4,3 +4,4 @@ pub mod History
 pub mod Recorded
 pub mod Notes
 pub mod SeenIsImage
+pub mod Stop

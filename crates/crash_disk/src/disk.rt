@@ -7,7 +7,7 @@ ghost use Rattle.store_spec.specs.Disk.{leaves_now, overwritten, SeenTorn, Keeps
 
 use outside_io::Failed;
 
-/// A recording of bytes that may crash at any moment: after so many calls, or inside the next one. A disk need not tell
+/// Bytes that a crash may change at any moment: after so many calls, or inside the next one. A disk need not tell
 /// its bytes. Then nothing is said of its bytes and crash images, and a caller learns only why a call failed.
 pub trait Disk {
     /// The bytes that a read gives now, where the disk tells them.
@@ -42,13 +42,13 @@ pub trait Disk {
     /// size between the old and the new. After `Failed` a read may give such bytes too.
     fn write_at(&mut self, at: u64, bytes: &[u8]) -> Result<(), Failed>
         requires { ForSome (seen self.old) (λ old. at ≤ length old) }
-        ensures written { OnOk result (seen self.new ≡ option_map (overwritten at bytes.now)
-            (seen self.old)) }
-        ensures torn { OnErr result (SeenTorn at (length bytes.now) (seen self.old)
-            (seen self.new)) }
+        ensures written { OnOk result
+            (seen self.new ≡ option_map (overwritten at bytes.now) (seen self.old)) }
+        ensures torn { OnErr result
+            (SeenTorn at (length bytes.now) (seen self.old) (seen self.new)) }
         ensures crash_images { TearsAtMost calls may_leave at (length bytes.now) self.old self.new }
-        ensures any_bytes { OnOk result (TearsExactly calls may_leave at
-            (length bytes.now) self.old self.new) }
+        ensures any_bytes { OnOk result
+            (TearsExactly calls may_leave at (length bytes.now) self.old self.new) }
         ensures fault { CountsFault result (faults self.old) (faults self.new) };
 
     /// Once it has succeeded, a crash can leave only what a read gives. After `Failed` nothing is safe, and a read may
@@ -77,6 +77,7 @@ pub trait Disk {
         → leaves_now calls may_leave disk bytes };
 
     /// A disk that does not tell its bytes has no crash images.
-    ghost crash_images_told: { (disk : Self) (moment : ℕ) (image : List ℕ) → may_leave disk moment image
+    ghost crash_images_told: { (disk : Self) (moment : ℕ) (image : List ℕ)
+        → may_leave disk moment image
         → IsSome (seen disk) };
 }

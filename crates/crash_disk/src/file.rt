@@ -113,8 +113,8 @@ impl<'a, F: Files> FileDisk<'a, F> {
         ensures calls { self.new.calls ≡ self.old.calls }
         ensures faults { self.new.faults ≡ self.old.faults }
         ensures needs_all { OnErr result (self.old.needs_all ≡ true → self.new.needs_all ≡ true) }
-        ensures owes_folder { OnErr result (self.old.owes_folder ≡ true
-            → self.new.owes_folder ≡ true) }
+        ensures owes_folder { OnErr result
+            (self.old.owes_folder ≡ true → self.new.owes_folder ≡ true) }
     {
         self.open()?;
         let Some(file) = &self.file else {

@@ -8,6 +8,7 @@ mod file;
 pub mod laws;
 mod recorded;
 mod recording;
+mod stop;
 mod sure;
 
 pub use disk::Disk;
@@ -15,6 +16,7 @@ pub use entry::{DiskCall, Room};
 pub use failing::{Failing, LaterCalls, ListedCalls};
 pub use file::FileDisk;
 pub use recorded::{FusedDisk, MemoryDisk, RecordedDisk};
+pub use stop::Torn;
 pub use sure::SureDisk;
 
 #[cfg(test)]

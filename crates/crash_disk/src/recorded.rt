@@ -1,6 +1,6 @@
 //! A disk in memory, which fails at the calls that it is told.
 
-ghost use Rattle.std.specs.Prelude.{◌≡◌, ◌≤◌, ◌<◌, ◌↔◌, ◌+◌, ◌&&◌, ℕ, min, true, false, [], length, slice_get, slice_range, Some, option_map, is_some, IsSome, IfSome, is_ok, IfOk, OnOk, OnErr, refl};
+ghost use Rattle.std.specs.Prelude.{◌≡◌, IsTrue, ◌≤◌, ◌<◌, ◌↔◌, ◌+◌, ◌&&◌, ℕ, min, true, false, [], length, slice_get, slice_range, Some, option_map, is_some, IsSome, IfSome, is_ok, IfOk, OnOk, OnErr, refl};
 ghost use Rattle.std.specs.Option.{ForSome};
 ghost use Rattle.crash_disk.specs.SeenIsImage.{recording-image};
 
@@ -8,6 +8,7 @@ use crate::disk::Disk;
 use crate::entry::{DiskCall, Room};
 use crate::failing::{Failing, LaterCalls, ListedCalls};
 use crate::recording::Recording;
+use crate::stop::Torn;
 use outside_io::{Failed, Memory};
 use std::alloc::Global;
 
@@ -27,7 +28,9 @@ pub type FusedDisk = RecordedDisk<LaterCalls>;
 impl MemoryDisk {
     ghost use Rattle.std.specs.Option.{option_map_or};
     ghost use Rattle.store_spec.specs.Disk.{IsSettled};
+    ghost use Rattle.crash_disk.specs.Notes.{state_of};
     ghost use Rattle.crash_disk.specs.Recorded.{recorded_sees, recorded_leaves, recorded_calls, recorded_faults, recorded_made};
+    ghost use Rattle.crash_disk.specs.Stop.{left_as, moment_of};
 
     /// A disk with these bytes, all of them settled. All its memory is taken here. `failing` has the numbers of the
     /// calls that are to fail, counted from 1.
@@ -55,8 +58,8 @@ impl MemoryDisk {
     /// The call with this index in the record, counted from 0, whether it succeeded or failed. There is none behind
     /// the calls that were made, or behind those that the record has room for.
     pub fn call_made(&self, index: u64) -> Option<DiskCall>
-        ensures call { result ≡ option_map
-            (λ made. made.call) (slice_get (recorded_made self.now) index) }
+        ensures call { result
+            ≡ option_map (λ made. made.call) (slice_get (recorded_made self.now) index) }
         ensures made { IsSome result
             ↔ (index < min (recorded_calls self.now) self.now.recording.room.calls) }
     {
@@ -65,10 +68,36 @@ impl MemoryDisk {
 
     /// What that call put: the bytes of a write that succeeded, and none where it is another call or there is none.
     pub fn written(&self, index: u64) -> &[u8]
-        ensures { result.now ≡ option_map_or
-            (λ made. made.put) (slice_get (recorded_made self.now) index) [] }
+        ensures { result.now ≡ option_map_or (λ made. made.put)
+            (slice_get (recorded_made self.now) index) [] }
     {
         self.recording.put_at(index)
+    }
+
+    /// The disk as a stop leaves it, settled, with no calls made and none that are to fail: a stop after so many calls,
+    /// or inside the next one. A call that failed changed nothing, so a stop at it or behind it is one like any other.
+    pub fn after_stop(
+        &self,
+        alloc: Global,
+        calls: u64,
+        inside: bool,
+        torn: Torn,
+    ) -> Result<MemoryDisk, Memory>
+        requires calls { calls ≤ recorded_calls self.now }
+        requires next { IsTrue inside → calls < recorded_calls self.now }
+        ensures bytes { IfOk result (λ stopped. recorded_sees stopped
+            ≡ Some (left_as torn (state_of self.now.recording (moment_of calls inside)))) }
+        ensures image { IfOk result (λ stopped. IfSome (recorded_sees stopped)
+            (recorded_leaves self.now (moment_of calls inside))) }
+        ensures settled { IfOk result (IsSettled recorded_sees recorded_calls recorded_leaves) }
+        ensures no_calls { IfOk result (λ stopped. recorded_calls stopped ≡ 0) }
+        ensures no_faults { IfOk result (λ stopped. recorded_faults stopped ≡ 0) }
+        ensures none_made { IfOk result (λ stopped. recorded_made stopped ≡ []) }
+        ensures failing { IfOk result (λ stopped. stopped.when.numbers.items ≡ []) }
+        ensures room { IfOk result (λ stopped. stopped.recording.room ≡ self.now.recording.room) }
+    {
+        let bytes = self.recording.left(alloc, calls, inside, torn)?;
+        MemoryDisk::new(alloc, bytes, Vec::new(alloc), self.recording.room)
     }
 }
 
@@ -139,8 +168,8 @@ impl<W: Failing + Drop> Disk for RecordedDisk<W> {
     fn size(&mut self) -> Result<u64, Failed>
         ensures passes { is_ok result ≡ passes_next W.fails self.old }
         ensures recorded { Records (plain_call Size (is_ok result)) self.old self.new }
-        ensures size { IfOk result (λ size. IfSome (recorded_sees self.old)
-            (λ bytes. size ≡ length bytes)) }
+        ensures size { IfOk result
+            (λ size. IfSome (recorded_sees self.old) (λ bytes. size ≡ length bytes)) }
         ensures same_bytes { recorded_sees self.new ≡ recorded_sees self.old }
         ensures crash_images { KeepsCrashImages recorded_calls recorded_leaves self.old self.new }
         ensures fault { CountsFault result (recorded_faults self.old) (recorded_faults self.new) }
@@ -152,8 +181,8 @@ impl<W: Failing + Drop> Disk for RecordedDisk<W> {
     fn read(&mut self, at: u64, buf: &mut [u8]) -> Result<(), Failed>
         requires { ForSome (recorded_sees self.old) (λ bytes. at + length buf.old ≤ length bytes) }
         ensures passes { is_ok result ≡ passes_next W.fails self.old }
-        ensures recorded { Records (plain_call (Read at (length buf.old))
-            (is_ok result)) self.old self.new }
+        ensures recorded { Records
+            (plain_call (Read at (length buf.old)) (is_ok result)) self.old self.new }
         ensures read { OnOk result (IfSome (recorded_sees self.old)
             (λ bytes. buf.new ≡ slice_range bytes at (at + length buf.old))) }
         ensures same_bytes { recorded_sees self.new ≡ recorded_sees self.old }
@@ -166,8 +195,8 @@ impl<W: Failing + Drop> Disk for RecordedDisk<W> {
 
     fn write_at(&mut self, at: u64, bytes: &[u8]) -> Result<(), Failed>
         requires { ForSome (recorded_sees self.old) (λ old. at ≤ length old) }
-        ensures passes { is_ok result ≡
-            (passes_next W.fails self.old && has_room self.old.recording at (length bytes.now)) }
+        ensures passes { is_ok result
+            ≡ (passes_next W.fails self.old && has_room self.old.recording at (length bytes.now)) }
         ensures recorded { OnOk result (Records (write_call at bytes.now) self.old self.new) }
         ensures recorded_failed { OnErr result
             (Records (plain_call (Write at (length bytes.now)) false) self.old self.new) }
@@ -175,14 +204,14 @@ impl<W: Failing + Drop> Disk for RecordedDisk<W> {
         ensures unchanged_crash_images { OnErr result
             (KeepsCrashImages recorded_calls recorded_leaves self.old self.new) }
         ensures written { OnOk result
-            (recorded_sees self.new ≡ option_map (overwritten at bytes.now)
-            (recorded_sees self.old)) }
-        ensures torn { OnErr result (SeenTorn at (length bytes.now) (recorded_sees self.old)
-            (recorded_sees self.new)) }
+            (recorded_sees self.new
+            ≡ option_map (overwritten at bytes.now) (recorded_sees self.old)) }
+        ensures torn { OnErr result
+            (SeenTorn at (length bytes.now) (recorded_sees self.old) (recorded_sees self.new)) }
         ensures crash_images { TearsAtMost recorded_calls recorded_leaves at
             (length bytes.now) self.old self.new }
-        ensures any_bytes { OnOk result (TearsExactly recorded_calls recorded_leaves at
-            (length bytes.now) self.old self.new) }
+        ensures any_bytes { OnOk result
+            (TearsExactly recorded_calls recorded_leaves at (length bytes.now) self.old self.new) }
         ensures fault { CountsFault result (recorded_faults self.old) (recorded_faults self.new) }
     {
         let passes = self.may_pass();

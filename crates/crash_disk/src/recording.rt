@@ -24,8 +24,10 @@ pub(crate) struct Recording {
     ghost counted_faults: { faults ≤ last_count },
     ghost recorded: { length entries.items ≡ min calls room.calls },
     ghost stored: { AreStored written.items entries.items },
-    ghost replayed: { bytes.items ≡ seen_after first.items (events_in written.items entries.items) },
-    ghost begins: { IsTrue (begin_within (settled_state first.items) (events_in written.items entries.items)) },
+    ghost replayed: { bytes.items
+        ≡ seen_after first.items (events_in written.items entries.items) },
+    ghost begins: { IsTrue
+        (begin_within (settled_state first.items) (events_in written.items entries.items)) },
     ghost size: { length bytes.items ≤ room.size },
     ghost put: { length written.items ≤ room.written },
     ghost room_for_bytes: { room.size ≤ vec_capacity bytes },
@@ -45,7 +47,7 @@ fn add(entries: &mut Vec<Entry>, room: u64, entry: Entry)
 }
 
 /// Puts bytes over those of a file from `at` on, and past its end.
-fn overwrite(file: &mut Vec<u8>, at: usize, bytes: &[u8])
+pub(crate) fn overwrite(file: &mut Vec<u8>, at: usize, bytes: &[u8])
     requires at { at ≤ length file.old.items }
     requires room { at + length bytes.now ≤ vec_capacity file.old }
     ensures items { file.new.items ≡ overwritten at bytes.now file.old.items }
@@ -90,8 +92,8 @@ impl Recording {
 
     /// The call with this index in the record.
     pub(crate) fn call_made(&self, index: u64) -> Option<DiskCall>
-        ensures call { result ≡ option_map
-            (λ made. made.call) (slice_get (made_calls self.now) index) }
+        ensures call { result
+            ≡ option_map (λ made. made.call) (slice_get (made_calls self.now) index) }
         ensures made { IsSome result ↔ (index < min self.now.calls self.now.room.calls) }
     {
         self.entries.get(index as usize).map(|entry| entry.call)
@@ -99,8 +101,8 @@ impl Recording {
 
     /// What that call put.
     pub(crate) fn put_at(&self, index: u64) -> &[u8]
-        ensures { result.now ≡ option_map_or
-            (λ made. made.put) (slice_get (made_calls self.now) index) [] }
+        ensures { result.now ≡ option_map_or (λ made. made.put)
+            (slice_get (made_calls self.now) index) [] }
     {
         match self.entries.get(index as usize) {
             Some(entry) => &self.written[entry.start..entry.start + entry.count],
@@ -157,8 +159,8 @@ impl Recording {
         ensures passes { is_ok result ≡ passes }
         ensures noted { Notes (plain_call (Read at (length buf.old)) passes) self.old self.new }
         ensures bytes { self.new.bytes.items ≡ self.old.bytes.items }
-        ensures read { OnOk result (buf.new ≡ slice_range self.old.bytes.items at
-            (at + length buf.old)) }
+        ensures read { OnOk result
+            (buf.new ≡ slice_range self.old.bytes.items at (at + length buf.old)) }
     {
         let call = DiskCall::Read {
             at,
@@ -190,8 +192,8 @@ impl Recording {
         requires room { IsTrue passes → self.old.calls < self.old.room.calls }
         ensures passes { is_ok result ≡ (passes && has_room self.old at (length bytes.now)) }
         ensures noted { OnOk result (Notes (write_call at bytes.now) self.old self.new) }
-        ensures noted_failed { OnErr result (Notes (plain_call (Write at
-            (length bytes.now)) false) self.old self.new) }
+        ensures noted_failed { OnErr result
+            (Notes (plain_call (Write at (length bytes.now)) false) self.old self.new) }
         ensures written { OnOk result
             (self.new.bytes.items ≡ overwritten at bytes.now self.old.bytes.items) }
         ensures unwritten { OnErr result (self.new.bytes.items ≡ self.old.bytes.items) }

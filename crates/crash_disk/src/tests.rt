@@ -9,13 +9,14 @@ use outside_io::Failed;
 use std::test::Fail;
 
 mod file;
+mod stop;
 
 // Writes over a range and settles it. At each moment a crash leaves what was there, but for that range.
 fn replace<D: Disk>(disk: &mut D, at: u64, bytes: &[u8]) -> Result<(), Failed>
     requires settled { IsSettled D.seen D.calls D.may_leave disk.old }
     requires at { ForSome (D.seen disk.old) (λ old. at ≤ length old) }
-    ensures written { OnOk result (D.seen disk.new ≡ option_map (overwritten at bytes.now)
-        (D.seen disk.old)) }
+    ensures written { OnOk result
+        (D.seen disk.new ≡ option_map (overwritten at bytes.now) (D.seen disk.old)) }
     ensures settled { OnOk result (IsSettled D.seen D.calls D.may_leave disk.new) }
     ensures any_moment { (old : List ℕ) → D.seen disk.old ≡ Some old
         → LeavesOnly D.calls D.may_leave disk.old disk.new (IsTorn at (length bytes.now) old) }

@@ -69,7 +69,8 @@ pub record IsSaltText (text : List ℕ) (salt : ℕ) : Type 0 where
   pub size : length text ≡ 16
   pub digits : All IsSaltDigit text
   pub short : salt < 2 ^ 64
-  pub each : (place : ℕ) → place < 16 → salt / 16 ^ (15 - place) % 16 ≡ salt_digit (slice_index text place)
+  pub each : (place : ℕ) → place < 16
+      → salt / 16 ^ (15 - place) % 16 ≡ salt_digit (slice_index text place)
 
 -- ---- an election
 
@@ -78,11 +79,14 @@ election_keys = codes "contests" ∷ codes "styles" ∷ codes "limit" ∷ codes 
 
 pub record IsElectionIn (d : Data) (e : Election) : Type 0 where
   pub no_other_key : HasNoKeyBut election_keys d
-  pub contests : IsSomeAnd (get (codes "contests") d) (IsArrayOf (IsContestIn (most_choices e)) e.contests)
-  pub styles : IsSomeAnd (get (codes "styles") d) (IsArrayOf (IsStyleIn (length e.contests)) e.styles)
+  pub contests : IsSomeAnd (get (codes "contests") d)
+      (IsArrayOf (IsContestIn (most_choices e)) e.contests)
+  pub styles : IsSomeAnd (get (codes "styles") d)
+      (IsArrayOf (IsStyleIn (length e.contests)) e.styles)
   pub limit : number_at (codes "limit") d ≡ Some e.limit
   pub bits : number_at (codes "bits") d ≡ Some e.bits
-  pub salt : IsSomeAnd (option_and_then as_str (get (codes "salt") d)) (λ text. IsSaltText text e.salt)
+  pub salt : IsSomeAnd (option_and_then as_str (get (codes "salt") d))
+      (λ text. IsSaltText text e.salt)
   pub valid : IsElection e
 
 -- the bytes are text that describes the election

@@ -37,7 +37,8 @@ pub fn has_no_key_but(value: &Value, keys: &[&str]) -> bool
 
 /// The number that a value is, where it is at most so much.
 pub fn number(value: &Value, most: u64) -> Option<u64>
-    ensures value { IfSome result (λ n. (number_in (view value.now) ≡ Some n) × (n ≤ most)) }
+    ensures value { IfSome result (λ n. number_in (view value.now) ≡ Some n) }
+    ensures at_most { IfSome result (λ n. n ≤ most) }
     ensures refused { IsNone result → (n : ℕ) → number_in (view value.now) ≡ Some n → most < n }
 {
     match value.as_u64() {
@@ -48,7 +49,8 @@ pub fn number(value: &Value, most: u64) -> Option<u64>
 
 /// The number at a key of a value, where it is at most so much.
 pub fn number_at(value: &Value, key: &str, most: u64) -> Option<u64>
-    ensures value { IfSome result (λ n. (number_at key.now (view value.now) ≡ Some n) × (n ≤ most)) }
+    ensures value { IfSome result (λ n. number_at key.now (view value.now) ≡ Some n) }
+    ensures at_most { IfSome result (λ n. n ≤ most) }
     ensures refused { IsNone result
         → (n : ℕ) → number_at key.now (view value.now) ≡ Some n → most < n }
 {
@@ -97,7 +99,8 @@ pub fn style(value: &Value, contests: usize) -> Option<u32>
 }
 
 fn salt_digit(digit: u8) -> Option<u8>
-    ensures value { IfSome result (λ d. IsSaltDigit digit × (d ≡ salt_digit digit)) }
+    ensures digit { IfSome result (λ _. IsSaltDigit digit) }
+    ensures value { IfSome result (λ d. d ≡ salt_digit digit) }
     ensures refused { IsNone result → ¬ IsSaltDigit digit }
 {
     match digit {

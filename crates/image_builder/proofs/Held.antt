@@ -6,12 +6,12 @@ use Rattle.image_builder.proofs.MediumParts.{AreBoth, both_of, both_is}
 use Rattle.image_builder.proofs.OneSet.{one_set}
 use Rattle.store_spec.specs.Ballot.{Ballot, IsBallotSet, IsWithinLimit}
 use Rattle.store_spec.specs.Election.{Election, IsElection, bank_size}
-use Rattle.store_spec.specs.Image.{IsImageOf, image_of}
+use Rattle.store_spec.specs.Image.{image_of}
 use Rattle.store_spec.specs.Medium.{Bank, Holds, HoldsSet, IsChosen, IsMediumOf, bank_of}
 use Rattle.store_spec.specs.Medium.Bank.{A, B}
 
 -- one bank is read
-one_bank : (e : Election) (bytes : List ℕ) (a b : Bank) → IsChosen e bytes a → IsChosen e bytes b → a ≡ b
+pub one_bank : (e : Election) (bytes : List ℕ) (a b : Bank) → IsChosen e bytes a → IsChosen e bytes b → a ≡ b
 one_bank e bytes A A one two = refl
 one_bank e bytes A B one two = absurd (two.0 one)
 one_bank e bytes B A one two = absurd (one.0 two)

@@ -1,5 +1,6 @@
 -- The bytes of an image, piece by piece.
 use Rattle.std.proofs.Common.{◌≡◌, ℕ, zero, suc, ◌+◌, ◌*◌, ◌<◌, ◌≤◌, ⊎_elim, List, [], ◌∷◌, ◌++◌, length, get_or, take, drop, replicate, Some, None, refl, sym, ap, ◌∙◌, arith}
+use Rattle.std.proofs.Math.Seq.{take-add}
 use Rattle.std.proofs.lemmas.List.{length-append, length-take, length-drop, length-replicate, length-take-le, take_at, take-append-le, drop-append-le, drop_at, drop-drop}
 use Rattle.std.proofs.lemmas.List.Concat.{flat_map-cons}
 use Rattle.std.proofs.lemmas.List.Elements.{All-contains}
@@ -15,15 +16,6 @@ use Rattle.store_spec.specs.Election.{Election, IsElection, bank_size, cell_coun
 use Rattle.store_spec.specs.Image.{ballot_bytes, cell_bytes, cells_of, header_of, image_of}
 
 -- ---- lists of pieces
-
-take_nil : {X : Type 0} (n : ℕ) → take {A = X} n [] ≡ []
-take_nil zero = refl
-take_nil (suc n) = refl
-
-pub take-add : {X : Type 0} (m n : ℕ) (xs : List X) → take (m + n) xs ≡ take m xs ++ take n (drop m xs)
-take-add zero n xs = ap (λ k. take k xs) (let e : zero + n ≡ n = omega arith in e)
-take-add (suc m) n [] = take_nil (suc m + n) ∙ sym (take_nil n)
-take-add (suc m) n (x ∷ xs) = ap (λ k. take k (x ∷ xs)) (let e : suc m + n ≡ suc (m + n) = omega arith in e) ∙ ap (λ l. x ∷ l) (take-add m n xs)
 
 -- pieces of one width
 pub drop_pieces : (f : ℕ → List ℕ) (width : ℕ) (xs : List ℕ) (i : ℕ) → ((x : ℕ) → length (f x) ≡ width) → i < length xs → drop (i * width) (flat_map f xs) ≡ f (get_or xs i 0) ++ flat_map f (drop (suc i) xs)

@@ -1,9 +1,8 @@
 -- A medium in its four parts: two banks and two gates.
-use Rattle.std.proofs.Common.{◌≡◌, ℕ, zero, suc, ◌+◌, ◌-◌, ◌*◌, ◌≤◌, ◌<◌, List, [], ◌∷◌, ◌++◌, length, get_or, take, drop, refl, sym, ◌∙◌, ap, arith, length-append, append_assoc}
+use Rattle.std.proofs.Common.{◌≡◌, ℕ, ◌+◌, ◌-◌, ◌*◌, List, [], ◌∷◌, ◌++◌, length, get_or, take, drop, refl, sym, ◌∙◌, ap, arith, length-append, append_assoc}
 use Rattle.std.proofs.lemmas.List.{drop-drop, take_at, drop_at, get_or-append_right, get_or-drop, take-append-drop, length-drop}
-use Rattle.store_spec.specs.Ballot.{Ballot}
 use Rattle.store_spec.specs.Election.{Election, bank_size, medium_size}
-use Rattle.store_spec.specs.Medium.{Bank, IsOpen, bank_of, bank_place, gate_place, open_gate}
+use Rattle.store_spec.specs.Medium.{Bank, IsOpen, bank_of, open_gate}
 use Rattle.store_spec.specs.Medium.Bank.{A, B}
 
 -- the bytes are two banks with this image, and open gates
@@ -13,10 +12,10 @@ pub record AreBoth (e : Election) (image bytes : List ℕ) : Type 0 where
   pub gates : (bank : Bank) → IsOpen e bank bytes
 
 module _ (n : ℕ) (a b rest : List ℕ) (long_a : length a ≡ n) (long_b : length b ≡ n) where
-  part_a : take n (a ++ b ++ rest) ≡ a
+  pub part_a : take n (a ++ b ++ rest) ≡ a
   part_a = ap (take n) (append_assoc a b rest) ∙ take_at a (b ++ rest) n long_a
 
-  part_b : take n (drop n (a ++ b ++ rest)) ≡ b
+  pub part_b : take n (drop n (a ++ b ++ rest)) ≡ b
   part_b = ap (λ (xs : List ℕ). take n (drop n xs)) (append_assoc a b rest) ∙ ap (take n) (drop_at a (b ++ rest) n long_a) ∙ take_at b rest n long_b
 
   part_behind : (i : ℕ) → get_or (a ++ b ++ rest) (2 * n + i) 0 ≡ get_or rest i 0

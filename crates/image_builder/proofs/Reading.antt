@@ -1,6 +1,7 @@
 -- The first cells of a bank, as they are read in order.
 use Rattle.std.proofs.Common.{◌≡◌, ◌≢◌, ℕ, zero, suc, ◌+◌, ◌*◌, ◌^◌, ◌<◌, ◌≤◌, ⊎_elim, List, [], ◌∷◌, ◌++◌, length, get_or, take, drop, replicate, None, refl, sym, ap, subst, ◌∙◌, arith}
 use Rattle.std.proofs.lemmas.Bool.{cases_eq}
+use Rattle.std.proofs.Math.Seq.{take-add}
 use Rattle.std.proofs.lemmas.List.{append-nil, append_assoc, take_at, drop_at, drop-drop, take-take, take-replicate}
 use Rattle.std.proofs.lemmas.List.Concat.{flat_map-cons, flat_map-append}
 use Rattle.std.proofs.lemmas.List.Elements.{All-contains}
@@ -10,7 +11,7 @@ use Rattle.std.specs.Int.{to_be_bytes, from_be_bytes, w8, w32, w64}
 use Rattle.body_store.proofs.BallotSets.{MayHold, has_room, limit-IsPermutation}
 use Rattle.ballot_record.proofs.BallotSets.{in_order, in_order-IsPermutation, set_of_listing}
 use Rattle.image_builder.proofs.Listings.{image_of-IsPermutation}
-use Rattle.image_builder.proofs.Images.{take-add, length-cell_bytes, cell_of_found, cell_of_none}
+use Rattle.image_builder.proofs.Images.{length-cell_bytes, cell_of_found, cell_of_none}
 use Rattle.ballot_record.proofs.Lookups.{option_cases, found_in, missing_from}
 use Rattle.ballot_record.proofs.BallotNumbers.{ballot_with, pairs_of_ballots}
 use Rattle.layout_def.proofs.Fronts.{distinct_in, front_is_layout}

@@ -9,4 +9,5 @@ pub record IsReach (cells : List ℕ) (v place from : ℕ) : Type 0 where
 -- a reach for the number of each cell
 pub record AreReaches (cells reaches : List ℕ) : Type 0 where
   pub one_each : length reaches ≡ length cells
-  pub each : (place : ℕ) → place < length cells → IsReach cells (slice_index cells place) place (slice_index reaches place)
+  pub each : (place : ℕ) → place < length cells
+      → IsReach cells (slice_index cells place) place (slice_index reaches place)

@@ -119,7 +119,6 @@ fn read_cell(cells: &mut CellsRead, bytes: &[u8], election: &Election) -> Result
     ensures refused { IfErr result
         (IsRefusedAt election.now (kept_front election.now cells.old ++ bytes.now)) }
 {
-    prove!(cells.numbers.len() < election.cells());
     let place = cells.numbers.len();
     match take_cell(bytes, election) {
         CellRead::Empty => {

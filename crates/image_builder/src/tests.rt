@@ -2,7 +2,7 @@
 
 ghost use Rattle.image_builder.specs.Reading.{IsRefusedBank};
 ghost use Rattle.std.specs.Prelude.{◌≡◌, ◌≢◌, ◌<◌, IfErr, IfOk, length};
-ghost use Rattle.store_spec.specs.Election.{bank_size};
+ghost use Rattle.store_spec.specs.Election.{bank_size, cell_count, example};
 ghost use Rattle.store_spec.specs.Image.{IsImageOf};
 
 use crate::{ImageFault, ImageReader, PAGE_BYTES, Scratch, image, image_part, read_image};
@@ -20,8 +20,8 @@ const FOURTEEN: [u8; 17] = *b"\0\0\0\0\0\0\0\x0e\x01\0\0\0\0\0\0\0\x02";
 const ONE: [u8; 17] = *b"\0\0\0\0\0\0\0\x01\x01\0\0\0\x02\0\0\0\x05";
 
 fn put(bank: &mut [u8], place: usize, cell: &[u8; 17])
-    requires size { length bank.old ≡ 304 }
-    requires within { place < 16 }
+    requires size { length bank.old ≡ bank_size example }
+    requires within { place < cell_count example }
 {
     let from = 32 + 17 * place;
     bank[from..from + 17].copy_from_slice(cell);
@@ -29,7 +29,7 @@ fn put(bank: &mut [u8], place: usize, cell: &[u8; 17])
 
 /// The bank of the ballots 9, 14 and 1, of which the last stands in this cell.
 fn bank(one: usize) -> [u8; 304]
-    requires { one < 16 }
+    requires { one < cell_count example }
 {
     let mut bank = [0; 304];
     bank[..32].copy_from_slice(&HEADER);

@@ -49,18 +49,27 @@ pub first_width-zeros : (n : ℕ) → first_width (replicate n 0) ≡ n
 first_width-zeros zero = refl
 first_width-zeros (suc n) = omega (arith, first_width-zeros n)
 
--- the first line and the others, where it has an end
+-- The first line and the others, where it has an end, by two ways of cutting: `lines_of` and `ended_lines`.
+module _ (cut : List ℕ → List (List ℕ)) (grow : ℕ → List (List ℕ) → List (List ℕ)) (step : (byte : ℕ) (text : List ℕ) → cut (byte ∷ text) ≡ cond (eqb byte line_end) ([] ∷ cut text) (grow byte (cut text))) (grown : (byte : ℕ) (line : List ℕ) (lines : List (List ℕ)) → grow byte (line ∷ lines) ≡ (byte ∷ line) ∷ lines) where
+  cut-ended : (text : List ℕ) → first_width text < length text → cut text ≡ take (first_width text) text ∷ cut (drop (first_width text + 1) text)
+  cut-ended [] ends = absurd (omega arith)
+  cut-ended (b ∷ text) ends =
+      let w = first_width text in
+      let one : 1 + w ≡ suc w = omega arith in
+      let two : 1 + w + 1 ≡ suc (w + 1) = omega arith in
+      let both : (is_end : Bool) → width_of is_end w < suc (length text) → cond is_end ([] ∷ cut text) (grow b (cut text)) ≡ take (width_of is_end w) (b ∷ text) ∷ cut (drop (width_of is_end w + 1) (b ∷ text)) = elim [
+        | true ↦ λ h. refl
+        | false ↦ λ h.
+            ap (grow b) (cut-ended text (omega arith)) ∙ grown b (take w text) (cut (drop (w + 1) text))
+            ∙ sym (ap (λ n. take n (b ∷ text) ∷ cut (drop (1 + w + 1) (b ∷ text))) one ∙ ap (λ n. (b ∷ take w text) ∷ cut (drop n (b ∷ text))) two)
+      ] in
+      step b text ∙ both (eqb b line_end) ends
+
 pub lines_of-ended : (text : List ℕ) → first_width text < length text → lines_of text ≡ take (first_width text) text ∷ lines_of (drop (first_width text + 1) text)
-lines_of-ended [] ends = absurd (omega arith)
-lines_of-ended (b ∷ text) ends =
-    let w = first_width text in
-    let one : 1 + w ≡ suc w = omega arith in
-    let two : 1 + w + 1 ≡ suc (w + 1) = omega arith in
-    let both : (is_end : Bool) → width_of is_end w < suc (length text) → cond is_end ([] ∷ lines_of text) (begun_with b (lines_of text)) ≡ take (width_of is_end w) (b ∷ text) ∷ lines_of (drop (width_of is_end w + 1) (b ∷ text)) = elim [
-      | true ↦ λ h. refl
-      | false ↦ λ h. ap (begun_with b) (lines_of-ended text (omega arith)) ∙ sym (ap (λ n. take n (b ∷ text) ∷ lines_of (drop (1 + w + 1) (b ∷ text))) one ∙ ap (λ n. (b ∷ take w text) ∷ lines_of (drop n (b ∷ text))) two)
-    ] in
-    both (eqb b line_end) ends
+lines_of-ended = cut-ended lines_of begun_with (λ byte text. refl) (λ byte line lines. refl)
+
+pub ended_lines-ended : (text : List ℕ) → first_width text < length text → ended_lines text ≡ take (first_width text) text ∷ ended_lines (drop (first_width text + 1) text)
+ended_lines-ended = cut-ended ended_lines continued (λ byte text. refl) (λ byte line lines. refl)
 
 -- the only line, where it has none
 pub lines_of-last : (text : List ℕ) → first_width text ≡ length text → 0 < length text → lines_of text ≡ text ∷ []
@@ -99,19 +108,7 @@ first_width-take_none (suc n) (b ∷ text) none =
     ] in
     both (eqb b line_end) none
 
--- the same of the lines that have an end
-pub ended_lines-ended : (text : List ℕ) → first_width text < length text → ended_lines text ≡ take (first_width text) text ∷ ended_lines (drop (first_width text + 1) text)
-ended_lines-ended [] ends = absurd (omega arith)
-ended_lines-ended (b ∷ text) ends =
-    let w = first_width text in
-    let one : 1 + w ≡ suc w = omega arith in
-    let two : 1 + w + 1 ≡ suc (w + 1) = omega arith in
-    let both : (is_end : Bool) → width_of is_end w < suc (length text) → cond is_end ([] ∷ ended_lines text) (continued b (ended_lines text)) ≡ take (width_of is_end w) (b ∷ text) ∷ ended_lines (drop (width_of is_end w + 1) (b ∷ text)) = elim [
-      | true ↦ λ h. refl
-      | false ↦ λ h. ap (continued b) (ended_lines-ended text (omega arith)) ∙ sym (ap (λ n. take n (b ∷ text) ∷ ended_lines (drop (1 + w + 1) (b ∷ text))) one ∙ ap (λ n. (b ∷ take w text) ∷ ended_lines (drop n (b ∷ text))) two)
-    ] in
-    both (eqb b line_end) ends
-
+-- no line ends
 pub ended_lines-none : (text : List ℕ) → first_width text ≡ length text → ended_lines text ≡ []
 ended_lines-none [] none = refl
 ended_lines-none (b ∷ text) none =

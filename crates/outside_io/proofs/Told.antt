@@ -1,6 +1,6 @@
 -- Relations of the bytes that are told before and after.
 use Rattle.std.proofs.Common.{◌≡◌, ℕ, List, ◌++◌, Option, Some, None, refl, sym, ◌∙◌, ap, subst, append_assoc}
-use Rattle.std.specs.Option.{IfSome, is_some, option_map}
+use Rattle.std.specs.Option.{IfSome, IsSome, is_some, option_map}
 use Rattle.outside_io.specs.Stream.{Gives, GivesFront}
 use Rattle.outside_io.specs.Told.{IfTold}
 
@@ -9,6 +9,15 @@ told_too : (a b : Option (List ℕ)) (x : List ℕ) → is_some b ≡ is_some a 
 told_too None b x told is = absurd cc
 told_too (Some x) None y told is = absurd cc
 told_too (Some x) (Some z) y told is = (z, refl)
+
+-- what is told of these bytes
+pub told_at : {a b : Option (List ℕ)} {R : List ℕ → List ℕ → Type 0} (x : List ℕ) → a ≡ Some x → IfTold a b R → (y : List ℕ) × R x y
+told_at {a} {b} x is told = let after = told_too a b x told.told is in (after.0, told.related x after.0 is after.1)
+
+-- bytes that are told
+pub some_told : (a : Option (List ℕ)) → IsSome a → (x : List ℕ) × (a ≡ Some x)
+some_told None is = absurd cc
+some_told (Some x) is = (x, refl)
 
 -- the bytes stay
 pub told_still : {a b : Option (List ℕ)} {R : List ℕ → List ℕ → Type 0} → b ≡ a → ((x : List ℕ) → R x x) → IfTold a b R

@@ -1,6 +1,7 @@
 pub mod Count
 pub mod Lines
 pub mod Memory
+pub mod Outside
 pub mod Reading
 pub mod Stream
 pub mod Sure

@@ -12,6 +12,10 @@ pub record Kept : Type 0 where
   pub line : List ℕ
   pub space : ℕ
 
+-- how many bytes the buffer holds
+abbrev pub buffer_size : ℕ
+buffer_size = 65536
+
 -- the bytes in the buffer that were read and not handed out
 abbrev pub window_of : Inside → List ℕ
 window_of a = slice_range a.buffer.items a.start a.end
@@ -21,15 +25,15 @@ kept_of a = record {
   text = replicate a.skipped 0 ++ window_of a;
   room = a.room;
   line = slice_range a.buffer.items a.line_start a.line_end;
-  space = 65536 - a.end;
+  space = buffer_size - a.end;
 }
 
 pub record IsWindow (a : Inside) : Type 0 where
-  pub size : vec_len a.buffer ≡ 65536
+  pub size : vec_len a.buffer ≡ buffer_size
   pub ordered : a.start ≤ a.end
-  pub within : a.end ≤ 65536
+  pub within : a.end ≤ buffer_size
   pub line_ordered : a.line_start ≤ a.line_end
-  pub line_within : a.line_end ≤ 65536
+  pub line_within : a.line_end ≤ buffer_size
   pub searched : a.searched ≤ a.end - a.start
   pub no_end : first_width (take a.searched (window_of a)) ≡ a.searched
   pub wide : 0 < a.skipped → line_limit < a.skipped

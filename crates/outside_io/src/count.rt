@@ -39,8 +39,8 @@ impl Count {
     /// Hands on what came of a call, and counts it where the call failed.
     pub fn counted<T: Drop, E: Drop>(&mut self, outcome: Result<T, E>) -> Result<T, Failed>
         ensures outcome { MatchResult outcome (λ value. result ≡ Ok value) (λ error. IsErr result) }
-        ensures count { count_of self.new ≡ (if is_err outcome then next_count
-            (count_of self.old) else count_of self.old) }
+        ensures count { count_of self.new
+            ≡ (if is_err outcome then next_count (count_of self.old) else count_of self.old) }
         ensures fault { CountsFault result (count_of self.old) (count_of self.new) }
     {
         match outcome {

@@ -30,8 +30,8 @@ pub fn first_lines()
 pub fn first_line()
     ensures first { (room left : ℕ) (text : List ℕ) → 0 < length text → ¬ IsTooLong text room
         → room + length (drop (first_width text + 1) text) ≡ left + length text
-        → lines_within room text ≡ take (first_width text) text ∷ lines_within left (drop
-        (first_width text + 1) text) }
+        → lines_within room text
+        ≡ take (first_width text) text ∷ lines_within left (drop (first_width text + 1) text) }
     ensures empty { (room : ℕ) → lines_within room [] ≡ [] }
     ensures too_long { (room : ℕ) (text : List ℕ) → IsTooLong text room
         → lines_within room text ≡ [] }

@@ -2,7 +2,7 @@ ghost use Rattle.std.specs.Prelude.{◌≡◌, ◌≢◌, ◌==◌, ℕ, ◌+◌
 ghost use Rattle.store_spec.specs.Fault.{CountsFault, CountsFaultIf};
 ghost use Rattle.outside_io.specs.Stream.{GivesFront};
 ghost use Rattle.outside_io.specs.Told.{AsTold};
-ghost use Rattle.store_spec.specs.Input.{IsTooLong, first_width, line_end, line_limit, script_limit};
+ghost use Rattle.store_spec.specs.Input.{first_width, line_end, line_limit, script_limit, IsTooLong};
 
 use crate::{Failed, Memory, Source, read_piece};
 use std::alloc::Global;
@@ -231,12 +231,12 @@ impl Lines {
             (λ before left. LooksLike (self.old.text ++ before) (self.new.text ++ left)) }
         ensures gives { AsTold S.left source.old source.new GivesFront }
         ensures size { IfOk result (λ count. length self.new.text ≡ length self.old.text + count) }
-        ensures end { IfOk result (λ count. count ≡ 0 → IfSome (S.left source.new)
-            (λ left. left ≡ [])) }
+        ensures end { IfOk result
+            (λ count. count ≡ 0 → IfSome (S.left source.new) (λ left. left ≡ [])) }
         ensures kept { OnErr result (length self.new.text ≡ length self.old.text) }
         ensures no_end { OnErr result (first_width self.new.text ≡ length self.new.text) }
-        ensures still_none { IfOk result (λ count. count ≡ 0
-            → first_width self.new.text ≡ length self.new.text) }
+        ensures still_none { IfOk result
+            (λ count. count ≡ 0 → first_width self.new.text ≡ length self.new.text) }
         ensures within { length self.new.text ≤ self.new.room + 1 }
         ensures room { self.new.room ≡ self.old.room }
         ensures fault { CountsFault result (S.faults source.old) (S.faults source.new) }
@@ -257,8 +257,8 @@ impl Lines {
     /// After `ReadFault` a further call goes on from what was read; after `TooLong` it answers `TooLong` again. Of the
     /// source no more is read than one byte past the room.
     pub fn next_line<S: Source>(&mut self, source: &mut S) -> Result<NextLine, LineEndFault>
-        ensures answers { AnswersTold result self.old (S.left source.old) self.new
-            (S.left source.new) }
+        ensures answers { AnswersTold result
+            self.old (S.left source.old) self.new (S.left source.new) }
         ensures gives { AsTold S.left source.old source.new GivesFront }
         ensures over { result ≡ Err LineEndFault.TooLong → IsTooLong self.new.text self.new.room }
         ensures still_over { IsTooLong self.old.text self.old.room
@@ -266,11 +266,11 @@ impl Lines {
         ensures none_whole { result ≡ Err LineEndFault.ReadFault
             → (first_width self.new.text ≡ length self.new.text)
             × (length self.new.text ≤ self.new.room) }
-        ensures progress { IfOk result (λ answer. answer ≢ NextLine.End
-            → self.new.room < self.old.room) }
+        ensures progress { IfOk result
+            (λ answer. answer ≢ NextLine.End → self.new.room < self.old.room) }
         ensures within_room { length self.new.text ≤ self.new.room + 1 }
-        ensures fault { CountsFaultIf (result ≡ Err LineEndFault.ReadFault) (S.faults source.old)
-            (S.faults source.new) }
+        ensures fault { CountsFaultIf (result ≡ Err LineEndFault.ReadFault)
+            (S.faults source.old) (S.faults source.new) }
     {
         'lines: loop {
             match self.cut() {

@@ -54,9 +54,8 @@ impl Source for MemorySource {
     fn read(&mut self, buf: &mut [u8]) -> Result<usize, Failed>
         ensures within { IfOk result
             (λ n. n ≡ min (length buf.old) (length (source_left self.old))) }
-        ensures gives { IfOk result
-            (λ n. Gives (Some (source_left self.old)) (take n buf.new) (Some
-            (source_left self.new))) }
+        ensures gives { IfOk result (λ n. Gives (Some (source_left self.old)) (take n buf.new)
+            (Some (source_left self.new))) }
         ensures unmoved { OnErr result (source_left self.new ≡ source_left self.old) }
         ensures fault { CountsFault result (source_faults self.old) (source_faults self.new) }
 
@@ -129,8 +128,8 @@ impl Sink for MemorySink {
     ghost counted = { λ sink. sink.faults.within };
 
     fn write_all(&mut self, bytes: &[u8]) -> Result<(), Failed>
-        ensures all { OnOk result (TakesAll (Some (sink_taken self.old)) bytes.now (Some
-            (sink_taken self.new))) }
+        ensures all { OnOk result
+            (TakesAll (Some (sink_taken self.old)) bytes.now (Some (sink_taken self.new))) }
         ensures none { OnErr result (sink_taken self.new ≡ sink_taken self.old) }
         ensures fault { CountsFault result (sink_faults self.old) (sink_faults self.new) }
 

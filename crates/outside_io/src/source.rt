@@ -17,8 +17,8 @@ pub trait Source {
     fn read(&mut self, buf: &mut [u8]) -> Result<usize, Failed>
         ensures within { IfOk result (λ n. n ≤ length buf.old) }
         ensures gives { IfOk result (λ n. Gives (left self.old) (take n buf.new) (left self.new)) }
-        ensures end { IfOk result (λ n. n ≡ 0 → 0 < length buf.old → IfSome (left self.old)
-            (λ rest. rest ≡ [])) }
+        ensures end { IfOk result
+            (λ n. n ≡ 0 → 0 < length buf.old → IfSome (left self.old) (λ rest. rest ≡ [])) }
         ensures unmoved { OnErr result (left self.new ≡ left self.old) }
         ensures fault { CountsFault result (faults self.old) (faults self.new) };
 
@@ -36,11 +36,10 @@ pub fn read_piece<S: Source>(
     requires { at + asked ≤ length buffer.old }
     ensures before { take at buffer.new ≡ take at buffer.old }
     ensures within { IfOk result (λ count. count ≤ asked) }
-    ensures gives { IfOk result
-        (λ count. Gives (S.left source.old) (slice_range buffer.new at (at + count))
-        (S.left source.new)) }
-    ensures end { IfOk result (λ count. count ≡ 0 → 0 < asked → IfSome (S.left source.old)
-        (λ left. left ≡ [])) }
+    ensures gives { IfOk result (λ count. Gives (S.left source.old)
+        (slice_range buffer.new at (at + count)) (S.left source.new)) }
+    ensures end { IfOk result
+        (λ count. count ≡ 0 → 0 < asked → IfSome (S.left source.old) (λ left. left ≡ [])) }
     ensures unmoved { OnErr result (S.left source.new ≡ S.left source.old) }
     ensures behind { drop (at + asked) buffer.new ≡ drop (at + asked) buffer.old }
     ensures fault { CountsFault result (S.faults source.old) (S.faults source.new) }

@@ -5,6 +5,7 @@ mod claim;
 pub mod laws;
 
 ghost use Rattle.std.specs.Prelude.{◌≡◌, ℕ, ◌^◌, ◌<◌, ◌≤◌};
+ghost use Rattle.store_spec.specs.Election.{most_bits};
 ghost use Rattle.store_spec.specs.Home.{home_of};
 ghost use Rattle.probe_order.specs.Below.{home_of-lt};
 
@@ -39,7 +40,7 @@ pub struct Salted {
     /// How many bits a home has, at most 16.
     pub bits: u8,
     pub salt: u64,
-    ghost few_bits: { bits ≤ 16 },
+    ghost few_bits: { bits ≤ most_bits },
 }
 
 impl Order for Salted {

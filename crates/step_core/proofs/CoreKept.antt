@@ -2,11 +2,13 @@
 use Rattle.std.proofs.Common.{◌≡◌, ◌↔◌, Bool, true, [], ℕ, ◌+◌, ◌-◌, ◌^◌, ◌<◌, Some, List, length, get_or, set, map, refl, sym, ap, ◌∙◌, subst, arith}
 use Rattle.std.proofs.lemmas.List.{length-map, map-set, set-get_or}
 use Rattle.std.proofs.lemmas.List.Elements.{All-map, All-set}
-use Rattle.std.proofs.lemmas.Option.{slice_get_read}
+use Rattle.std.proofs.lemmas.Option.{get_or_from_slice_get, slice_get_read, slice_get_within}
 use Rattle.std.specs.List.{All}
 use Rattle.std.specs.Option.{option_map_or}
 use Rattle.std.specs.Prelude.{Vec, slice_get}
 use Rattle.std.specs.declared.alloc.Global.{Global}
+use Rattle.step_core.proofs.CastingEnds.{ends}
+use Rattle.step_core.proofs.CastingLists.{steps_list}
 use Rattle.step_core.proofs.CastingMeasure.{steps_fall}
 use Rattle.step_core.proofs.CastingSteps.{steps_keep}
 use Rattle.step_core.proofs.CoreSteps.{may_step}
@@ -14,7 +16,7 @@ use Rattle.step_core.proofs.CoreTabs.{mets_are}
 use Rattle.step_core.proofs.Sets.{All-from_map, stands-map}
 use Rattle.step_core.specs.CastCore.{HasReplyRoom, MayStep, TabSteps, met_of, tab_of}
 use Rattle.step_core.specs.CastCoreKept.{IsCoreKept, casting_of}
-use Rattle.step_core.specs.Casting.{Casting, FallsAt, IsCasting, IsDone, Steps, mets_at, table_in}
+use Rattle.step_core.specs.Casting.{Casting, FallsAt, HasEnded, IsCasting, IsDone, Steps, lists_in, mets_at, table_in}
 use Rattle.step_core.specs.Casting as casting
 use Rattle.store_spec.specs.Phase.{Answer}
 use Rattle.step_core.specs.Shape.{table_of}
@@ -24,6 +26,13 @@ use Rattle.step_core.specs.declared.cast_core.CastCore.TheInside.{Inside}
 use Rattle.step_core.specs.declared.tabulator.Tabulator.{Tabulator}
 use Rattle.store_spec.specs.CastStep.{Table}
 use Rattle.store_spec.specs.Home.{home_of}
+
+-- one tabulator by itself that is done is all of them
+alone_done : (tabs : List casting.Tabulator) (id : ℕ) (tab : casting.Tabulator) → length tabs ≡ 1 → slice_get tabs id ≡ Some tab → IsDone tab → All IsDone tabs
+alone_done tabs id tab one stands done k d within =
+    let lt = slice_get_within tabs id tab stands in
+    let same : k ≡ id = omega arith in
+    subst IsDone (sym (ap (λ i. get_or tabs i d) same ∙ get_or_from_slice_get tabs id tab d stands)) done
 
 -- the shape is the table of the phase
 pub shape_is : (a : Inside) → IsCoreKept a → table_of a.shape ≡ table_in (casting_of a)
@@ -73,6 +82,10 @@ module _ (a : Inside) (h : IsCoreKept a) (id : ℕ) (within : id < length a.tabs
   casting_after AtRest words now unchanged stepped = let same = unchanged refl in subst IsCasting (sym (with_none words now same.0 same.1)) h.casting
   casting_after Step words now unchanged stepped = steps_keep (casting_of a) id (with_step a id words now) h.casting (steps words now (stepped refl))
 
+  pub lists_after : (result : Stepped) (words : List ℕ) (now : Tabulator) → (result ≡ AtRest → (words ≡ a.words.items) × (now ≡ tab)) → (result ≡ Step → TabSteps (table_of a.shape) a.base.items a.words.items (tab_of tab) words (tab_of now)) → lists_in (with_step a id words now) ≡ lists_in (casting_of a)
+  lists_after AtRest words now unchanged stepped = let same = unchanged refl in ap lists_in (with_none words now same.0 same.1)
+  lists_after Step words now unchanged stepped = steps_list (casting_of a) id (with_step a id words now) (steps words now (stepped refl))
+
   -- the core that is kept after it
   pub kept_after : (result : Stepped) (words : Vec ℕ Global) (tabs : Vec Tabulator Global) (now : Tabulator) → tabs.items ≡ set a.tabs.items id now → (result ≡ AtRest → (words.items ≡ a.words.items) × (now ≡ tab)) → (result ≡ Step → TabSteps (table_of a.shape) a.base.items a.words.items (tab_of tab) words.items (tab_of now)) → HasReplyRoom now → IsCoreKept (record { shape = a.shape; base = a.base; words = words; tabs = tabs })
   kept_after result words tabs now put unchanged stepped room = record {
@@ -113,6 +126,16 @@ module _ (a : Inside) (h : IsCoreKept a) (seen : Casting) (is_seen : casting_of 
 
   pub invariant_seen : IsCasting (with_step a id kept_words now)
   invariant_seen = casting_after a h id within tab is result kept_words now unchanged_now stepped_now
+
+  pub lists_seen : lists_in (with_step a id kept_words now) ≡ lists_in seen
+  lists_seen = lists_after a h id within tab is result kept_words now unchanged_now stepped_now ∙ ap lists_in is_seen
+
+  -- one that was alone, and is done
+  pub alone_seen : length seen.tabs ≡ 1 → result ≡ AtRest → IsDone (tab_of tab) → HasEnded (with_step a id kept_words now)
+  alone_seen one e done =
+      let none = unchanged_now e in
+      let all : All IsDone (casting_of a).tabs = alone_done (casting_of a).tabs id (tab_of tab) (ap (λ (c : Casting). length c.tabs) is_seen ∙ one) (stands a h id within tab is) done in
+      subst HasEnded (sym (with_none a h id within tab is kept_words now none.0 none.1)) (ends (casting_of a) h.casting all)
 
   pub kept_seen : (words_vec : Vec ℕ Global) (tabs : Vec Tabulator Global) → words_vec.items ≡ kept_words → tabs.items ≡ set a.tabs.items id now → HasReplyRoom now → IsCoreKept (record { shape = a.shape; base = a.base; words = words_vec; tabs = tabs })
   kept_seen words_vec tabs words_are put room =

@@ -1,14 +1,14 @@
 -- Counts over all withdrawers: debts, and how often a number was chosen or begun; what one withdrawer changes in them.
-use Rattle.std.proofs.Common.{◌≡◌, ◌≢◌, ◌==◌, ◌&&◌, ℕ, zero, suc, ◌+◌, ◌<◌, ◌≤◌, ◌⊎◌, inl, inr, ⊎_elim, Bool, true, false, cond, List, [], ◌∷◌, ◌++◌, length, get_or, set, sym, refl, ap, ◌∙◌, subst, arith}
+use Rattle.std.proofs.Common.{◌≡◌, ◌≢◌, ◌==◌, ◌&&◌, ℕ, ◌+◌, ◌<◌, ◌≤◌, ⊎_elim, cond, List, [], ◌∷◌, ◌++◌, length, get_or, set, sym, ap, ◌∙◌, subst, arith}
 use Rattle.std.proofs.lemmas.Bool.{cases_eq, cases_lt, eq-eqb, ne_eqb, lt-ltb, le-ltb, and_from, and_left, and_right}
 use Rattle.std.proofs.lemmas.List.{get_or_default}
 use Rattle.std.proofs.lemmas.List.Sums.{sum_by-set, get_or-le-sum_by, sum_by-le-sum_by, sum_by_push}
-use Rattle.std.specs.List.{sum_by, count_by}
+use Rattle.std.specs.List.{count_by}
 use Rattle.std.specs.Prelude.{nat_lt}
-use Rattle.step_core.proofs.Copies.{hit, hit_yes, hit_no}
+use Rattle.step_core.proofs.Copies.{hit}
 use Rattle.step_core.proofs.WordSets.{two_within}
-use Rattle.store_spec.specs.WithdrawInvariant.{times, owes, debts, times_begun, walks_to, times_taken}
-use Rattle.store_spec.specs.WithdrawStep.{WithdrawState, WithdrawView, fresh_view}
+use Rattle.store_spec.specs.WithdrawInvariant.{times, owes, debts, times_begun, walks_to}
+use Rattle.store_spec.specs.WithdrawStep.{WithdrawState, WithdrawView}
 use Rattle.store_spec.specs.WithdrawStep.WithdrawState.{Rest, Chosen, Owing, Up, Down}
 
 -- ---- one state

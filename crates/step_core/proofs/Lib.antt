@@ -9,7 +9,9 @@ pub mod CastRows
 pub mod CastSteps
 pub mod CastingAnswers
 pub mod CastingEnds
+pub mod CastingLists
 pub mod CastingMeasure
+pub mod CastingRuns
 pub mod CastingSteps
 pub mod CastingViews
 pub mod Copies
@@ -42,6 +44,7 @@ pub mod WithdrawStates
 pub mod WithdrawingAnswers
 pub mod WithdrawingBase
 pub mod WithdrawingEnds
+pub mod WithdrawingLists
 pub mod WithdrawingRuns
 pub mod WithdrawingSteps
 pub mod WordSets

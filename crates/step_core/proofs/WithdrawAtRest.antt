@@ -5,7 +5,7 @@ use Rattle.std.proofs.lemmas.List.{length-take, get_or_default, get_or_past, tak
 use Rattle.std.proofs.lemmas.List.Elements.{All-weaker}
 use Rattle.std.specs.List.{All, Contains, count_by}
 use Rattle.layout_def.proofs.OwnLayout.{ordered_is_own_layout}
-use Rattle.step_core.proofs.Copies.{hit, hit_yes, copies_more, copies_rise, copy_here}
+use Rattle.step_core.proofs.Copies.{hit, hit_yes, copies_more, copies_rise}
 use Rattle.step_core.proofs.Debts.{owed, chosen}
 use Rattle.step_core.proofs.Listings.{times_some, some_times, times_in_cells, no_zero_in_cells, times_without, times_without_none, times-flat_map, same_ascending}
 use Rattle.step_core.proofs.WithdrawSeats.{base_once}

@@ -1,16 +1,15 @@
 -- The walk ends: the removal of the number is begun, and owed.
-use Rattle.std.proofs.Common.{◌≡◌, ◌≢◌, ℕ, ◌+◌, ◌<◌, ◌≤◌, ◌⊎◌, inl, inr, ⊎_elim, List, [], ◌∷◌, ◌++◌, length, get_or, set, refl, sym, ◌∙◌, ap, subst, arith}
+use Rattle.std.proofs.Common.{◌≡◌, ◌≢◌, ℕ, ◌+◌, ◌<◌, ◌≤◌, ⊎_elim, List, [], ◌∷◌, ◌++◌, length, get_or, set, refl, sym, ◌∙◌, ap, subst, arith}
 use Rattle.std.proofs.lemmas.Bool.{cases_eq, cases_lt}
 use Rattle.std.proofs.lemmas.List.Elements.{All-push}
-use Rattle.std.specs.List.{All, count_by}
 use Rattle.step_core.proofs.Copies.{hit, hit_yes, hit_no, copies_rise}
-use Rattle.step_core.proofs.Debts.{owed, owed_to, owed_yes, owed_other, owed_above, chosen, debts_set, begun_set, begun_within, chosen_set, chosen_twice, times_push}
+use Rattle.step_core.proofs.Debts.{owed, owed_to, owed_yes, owed_other, owed_above, chosen, debts_set, begun_set, chosen_set, chosen_twice, times_push}
 use Rattle.step_core.proofs.WithdrawFlags.{flags_after, own_begun, own_gone, gone_on}
 use Rattle.step_core.proofs.WithdrawStates.{Follows, sound_after}
 use Rattle.step_core.proofs.WordSets.{all_after_set}
-use Rattle.store_spec.specs.WithdrawInvariant.{copies, debts, times, times_begun, times_taken, walks_to, IsOf, IsLive, AreFlags, AreOwed, AreLowest, IsSound, Walks, cell_words, flag_words, WithdrawInvariant}
+use Rattle.store_spec.specs.WithdrawInvariant.{copies, debts, times_begun, times_taken, IsOf, IsLive, AreFlags, AreOwed, AreLowest, IsSound, Walks, cell_words, flag_words, WithdrawInvariant}
 use Rattle.store_spec.specs.WithdrawStep.{WithdrawState, WithdrawView}
-use Rattle.store_spec.specs.WithdrawStep.WithdrawState.{Rest, Chosen, Owing}
+use Rattle.store_spec.specs.WithdrawStep.WithdrawState.{Chosen, Owing}
 
 module _ (home : ℕ → ℕ) (base words : List ℕ) (views : List WithdrawView) (id : ℕ) (w : WithdrawView) (x place : ℕ) (lt : id < length views) (at : get_or views id w ≡ w) (inv : WithdrawInvariant home base words views) (walked : w.state ≡ Chosen x place) (stops : get_or (cell_words base words) place 0 ≤ x) where
   begins : WithdrawView

@@ -1,5 +1,5 @@
 -- What a core tells of its withdrawers: whether all are done, and their replies.
-use Rattle.std.proofs.Common.{◌≡◌, ◌≢◌, ◌↔◌, Bool, true, ℕ, ◌+◌, ◌<◌, ◌≤◌, List, [], ◌∷◌, length, get_or, map, Option, Some, IsTrue, refl, sym, ap, ◌∙◌, subst, arith}
+use Rattle.std.proofs.Common.{◌≡◌, ◌↔◌, Bool, ℕ, ◌<◌, ◌≤◌, List, [], ◌∷◌, length, get_or, map, Option, Some, IsTrue, refl, sym, ap, ◌∙◌, subst, arith}
 use Rattle.std.proofs.lemmas.List.{get_or-map, length-map}
 use Rattle.std.proofs.lemmas.List.Elements.{All-map}
 use Rattle.std.proofs.lemmas.Option.{slice_get-get_or}
@@ -15,7 +15,6 @@ use Rattle.step_core.specs.Withdrawing as phase
 use Rattle.step_core.specs.declared.withdraw_core.WithdrawCore.TheInside.{Inside}
 use Rattle.step_core.specs.declared.withdrawer.WithdrawReply.{WithdrawReply}
 use Rattle.step_core.specs.declared.withdrawer.Withdrawer.{Withdrawer}
-use Rattle.store_spec.specs.WithdrawPhase as outcome
 
 module _ (a : Inside) (w : Withdrawing) (answer : Bool) where
   pub all_done : withdrawing_of a ≡ w → (IsTrue answer ↔ All (λ tab. IsDone (tab_of tab)) a.tabs.items) → IsTrue answer ↔ All IsDone w.tabs

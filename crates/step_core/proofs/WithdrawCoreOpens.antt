@@ -1,5 +1,5 @@
 -- A core opens as the withdrawing phase over its set.
-use Rattle.std.proofs.Common.{◌≡◌, ◌≢◌, ◌^◌, ℕ, ◌+◌, ◌-◌, ◌<◌, ◌≤◌, List, [], ◌∷◌, ◌++◌, length, get_or, take, map, replicate, refl, sym, ap, ◌∙◌, subst, arith}
+use Rattle.std.proofs.Common.{◌≡◌, ◌≢◌, ◌^◌, ℕ, ◌+◌, ◌-◌, ◌<◌, ◌≤◌, List, [], ◌++◌, length, get_or, take, map, replicate, refl, sym, ap, ◌∙◌, subst, arith}
 use Rattle.std.proofs.lemmas.List.{take_all}
 use Rattle.std.proofs.Math.Pow.{pow_mono}
 use Rattle.std.proofs.lemmas.List.Elements.{Contains-get_or}
@@ -7,7 +7,7 @@ use Rattle.std.specs.List.{All, AllPairs, Contains}
 use Rattle.step_core.proofs.WithdrawFirst.{one_place}
 use Rattle.step_core.proofs.WithdrawingBase.{base_layout}
 use Rattle.step_core.proofs.WithdrawingEnds.{opens, same_base}
-use Rattle.step_core.specs.Seats.{AreSeats, StandOnce}
+use Rattle.step_core.specs.Seats.{StandOnce}
 use Rattle.step_core.specs.WithdrawCore.{IsShape}
 use Rattle.step_core.specs.Withdrawing.{IsWithdrawing, Withdrawing, opened, opened_tab}
 use Rattle.step_core.specs.Withdrawing as phase

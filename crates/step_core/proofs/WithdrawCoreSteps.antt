@@ -1,8 +1,7 @@
 -- One step of a core is one step of the withdrawing phase that it stands for.
-use Rattle.std.proofs.Common.{◌≡◌, ◌≢◌, ◌^◌, ℕ, ◌+◌, ◌<◌, ◌≤◌, List, [], ◌∷◌, length, get_or, set, map, Option, Some, refl, sym, ap, ◌∙◌, subst, arith}
+use Rattle.std.proofs.Common.{◌≡◌, ◌^◌, ℕ, ◌+◌, ◌<◌, List, length, get_or, set, map, Option, Some, refl, sym, ap, ◌∙◌, subst, arith}
 use Rattle.std.proofs.lemmas.List.{get_or-drop, get_or-map, length-map, map-set}
 use Rattle.std.proofs.lemmas.Option.{slice_get-get_or}
-use Rattle.std.specs.List.{All}
 use Rattle.std.specs.Option.{IsSomeAnd}
 use Rattle.std.specs.Prelude.{slice_get}
 use Rattle.step_core.proofs.WithdrawReady.{may_find, sound_of, within_cells}
@@ -20,7 +19,6 @@ use Rattle.store_spec.specs.Home.{home_of}
 use Rattle.store_spec.specs.Layout.{layout_of}
 use Rattle.store_spec.specs.WithdrawInvariant.{cell_words}
 use Rattle.store_spec.specs.WithdrawStep.{withdraw_act}
-use Rattle.store_spec.specs.WithdrawStep.WithdrawState.{Rest}
 
 -- the phase of some words and withdrawers
 abbrev pub phase_of : Shape → ℕ → List ℕ → List ℕ → List Withdrawer → Withdrawing

@@ -1,15 +1,15 @@
 -- The exchange that is won: the hole's number gives way to the candidate, or to an empty cell.
-use Rattle.std.proofs.Common.{◌≡◌, ◌≢◌, ℕ, ◌+◌, ◌-◌, ◌<◌, ◌≤◌, ⊎_elim, List, length, get_or, set, take, drop, refl, sym, ◌∙◌, ap, subst, arith}
+use Rattle.std.proofs.Common.{◌≡◌, ◌≢◌, ℕ, ◌+◌, ◌-◌, ◌<◌, ◌≤◌, ⊎_elim, List, length, get_or, set, refl, sym, ◌∙◌, ap, subst, arith}
 use Rattle.std.proofs.Math.Seq.{take-set-lt}
 use Rattle.std.proofs.lemmas.Bool.{cases_eq, cases_lt}
 use Rattle.std.proofs.lemmas.List.{length-take, length-set, drop-set-lt, get_or-set_same, get_or-set_other}
 use Rattle.std.specs.List.{All, Contains}
-use Rattle.step_core.proofs.Copies.{hit, hit_yes, hit_no, copies_rise, copies_set, copies_set_past, copy_here}
-use Rattle.step_core.proofs.Debts.{owed, owed_to, owed_yes, owed_other, owed_above, owed_within, chosen, debts_set}
+use Rattle.step_core.proofs.Copies.{hit_yes, hit_no, copies_rise, copies_set, copies_set_past, copy_here}
+use Rattle.step_core.proofs.Debts.{owed, owed_to, owed_yes, owed_other, owed_above, chosen, debts_set}
 use Rattle.step_core.proofs.WithdrawFlags.{begun_stays, live_before, live_on, flags_stay}
 use Rattle.step_core.proofs.WithdrawStates.{Follows, sound_after}
 use Rattle.step_core.proofs.WordSets.{all_after_set}
-use Rattle.store_spec.specs.WithdrawInvariant.{copies, debts, times_begun, IsOf, IsLive, AreFlags, AreCopies, AreOwed, AreLowest, IsSound, SearchesDown, cell_words, flag_words, WithdrawInvariant}
+use Rattle.store_spec.specs.WithdrawInvariant.{copies, debts, times_begun, IsLive, AreFlags, AreCopies, AreOwed, AreLowest, IsSound, SearchesDown, cell_words, flag_words, WithdrawInvariant}
 use Rattle.store_spec.specs.WithdrawStep.{WithdrawState, WithdrawView}
 use Rattle.store_spec.specs.WithdrawStep.WithdrawState.{Down}
 

@@ -1,16 +1,15 @@
 -- The first step for a number: a swap of its flag.
-use Rattle.std.proofs.Common.{◌≡◌, ◌≢◌, ℕ, ◌+◌, ◌<◌, ◌≤◌, ⊎_elim, List, [], ◌∷◌, ◌++◌, length, get_or, set, take, drop, refl, sym, ◌∙◌, ap, subst, arith}
+use Rattle.std.proofs.Common.{◌≡◌, ◌≢◌, ℕ, ◌+◌, ◌<◌, ◌≤◌, ⊎_elim, List, [], ◌∷◌, ◌++◌, length, get_or, set, refl, sym, ◌∙◌, ap, subst, arith}
 use Rattle.std.proofs.lemmas.Bool.{cases_eq, cases_lt, cases_order}
 use Rattle.std.proofs.lemmas.List.{get_or_default, get_or_past, get_or-drop, get_or-set_same, get_or-set_other, length-set, length-drop, set-get_or, take-set-le, drop-set-add}
 use Rattle.std.proofs.lemmas.List.Elements.{All-push}
-use Rattle.std.specs.List.{All, count_by}
 use Rattle.step_core.proofs.Copies.{hit, hit_yes, hit_no}
-use Rattle.step_core.proofs.Debts.{owed, chosen, debts_set, begun_set, chosen_set}
+use Rattle.step_core.proofs.Debts.{owed, chosen, chosen_set}
 use Rattle.step_core.proofs.WithdrawFlags.{begun_stays, flags_after, own_begun, own_gone, gone_on}
 use Rattle.step_core.proofs.WithdrawQuiet.{same_but_flags}
 use Rattle.store_spec.specs.Layout.{IsOrdered}
-use Rattle.store_spec.specs.WithdrawInvariant.{copies, debts, times, times_begun, times_taken, walks_to, IsOf, IsLive, AreFlags, IsSound, Walks, cell_words, flag_words, WithdrawInvariant}
-use Rattle.store_spec.specs.WithdrawStep.{WithdrawState, WithdrawView}
+use Rattle.store_spec.specs.WithdrawInvariant.{times_taken, IsOf, IsLive, AreFlags, cell_words, flag_words, WithdrawInvariant}
+use Rattle.store_spec.specs.WithdrawStep.{WithdrawView}
 use Rattle.store_spec.specs.WithdrawStep.WithdrawState.{Rest, Chosen}
 
 -- in ordered cells a number stands in one place

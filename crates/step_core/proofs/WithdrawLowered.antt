@@ -2,13 +2,12 @@
 use Rattle.std.proofs.Common.{◌≡◌, ◌≢◌, ℕ, ◌+◌, ◌<◌, ◌≤◌, ⊎_elim, List, length, get_or, set, refl, sym, ◌∙◌, subst, arith}
 use Rattle.std.proofs.lemmas.Bool.{cases_eq, cases_lt}
 use Rattle.std.proofs.lemmas.List.{length-take}
-use Rattle.std.specs.List.{All}
-use Rattle.step_core.proofs.Copies.{copies_rise, copy_elsewhere}
+use Rattle.step_core.proofs.Copies.{copy_elsewhere}
 use Rattle.step_core.proofs.Debts.{owed, owed_to, owed_yes, owed_other, owed_above, chosen, debts_rise, debts_set}
 use Rattle.step_core.proofs.WithdrawFlags.{begun_stays, live_before, live_on, flags_stay}
 use Rattle.step_core.proofs.WithdrawStates.{Follows, sound_after}
 use Rattle.step_core.proofs.WordSets.{all_after_set}
-use Rattle.store_spec.specs.WithdrawInvariant.{copies, debts, IsLive, AreOwed, AreLowest, IsSound, Owes, cell_words, flag_words, WithdrawInvariant}
+use Rattle.store_spec.specs.WithdrawInvariant.{copies, debts, AreOwed, AreLowest, IsSound, Owes, cell_words, flag_words, WithdrawInvariant}
 use Rattle.store_spec.specs.WithdrawStep.{WithdrawState, WithdrawView}
 use Rattle.store_spec.specs.WithdrawStep.WithdrawState.{Owing}
 

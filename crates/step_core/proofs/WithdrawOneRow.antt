@@ -1,10 +1,9 @@
 -- What a step finds decides the rest of its row.
-use Rattle.std.proofs.Common.{◌≡◌, ◌≢◌, if◌then◌else◌, ◌==◌, ◌&&◌, ◌||◌, ℕ, ◌+◌, ◌-◌, ◌<◌, ◌≤◌, inl, inr, ⊎_elim, Bool, true, false, refl, sym, ap, ◌∙◌, arith}
+use Rattle.std.proofs.Common.{◌≡◌, if◌then◌else◌, ◌==◌, ◌&&◌, ◌||◌, ℕ, ◌+◌, ◌-◌, ◌≤◌, inl, inr, ⊎_elim, Bool, true, false, refl, sym, ap, ◌∙◌, arith}
 use Rattle.std.proofs.lemmas.Bool.{cases_Bool, cond-true, cond-false, eq-eqb, ne_eqb, eqb-true, lt-ltb, le-ltb, le-leb, ltb-true, leb-true, or_left, or_right, or_cases, and_from, and_parts}
 use Rattle.std.specs.Prelude.{nat_le, nat_lt}
-use Rattle.store_spec.specs.WithdrawStep.{Fits, FirstRow, WithdrawNote, WithdrawRow, WithdrawState}
-use Rattle.store_spec.specs.WithdrawStep.FirstRow.{found_gone, chose}
-use Rattle.store_spec.specs.WithdrawStep.WithdrawNote.{Quiet, Gone, Begun, Done}
+use Rattle.store_spec.specs.WithdrawStep.{Fits, WithdrawNote, WithdrawRow, WithdrawState}
+use Rattle.store_spec.specs.WithdrawStep.WithdrawNote.{Quiet, Begun, Done}
 use Rattle.store_spec.specs.WithdrawStep.WithdrawRow.{walked_on, began, found_owed, looked_lower, looked_higher, found_candidate, found_lower_candidate, kept_candidate, emptied, refilled, lost}
 use Rattle.store_spec.specs.WithdrawStep.WithdrawState.{Rest, Chosen, Owing, Up, Down}
 

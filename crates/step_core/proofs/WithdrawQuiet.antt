@@ -1,5 +1,5 @@
 -- A step that changes no cell and no count: it looks, and the withdrawer goes on.
-use Rattle.std.proofs.Common.{◌≡◌, ℕ, ◌<◌, List, length, get_or, set, refl, sym, ◌∙◌, subst, arith}
+use Rattle.std.proofs.Common.{◌≡◌, ℕ, ◌<◌, List, length, get_or, set, sym, ◌∙◌, subst, arith}
 use Rattle.std.specs.List.{All}
 use Rattle.step_core.proofs.Debts.{owed, chosen, debts_set}
 use Rattle.step_core.proofs.WithdrawFlags.{begun_stays, live_before, live_on, flags_stay}

@@ -1,20 +1,19 @@
 -- What the invariant gives a step: its places lie within the cells, there is a cell below where one is wanted, what is
 -- left to do falls, and a number that was taken is found gone.
-use Rattle.std.proofs.Common.{◌≡◌, ◌≢◌, ◌==◌, ℕ, zero, suc, ◌+◌, ◌-◌, ◌*◌, ◌<◌, ◌≤◌, ◌⊎◌, inl, inr, ⊎_elim, List, [], ◌∷◌, ◌++◌, length, get_or, take, Some, slice_get, refl, sym, ◌∙◌, ap, subst, arith}
-use Rattle.std.proofs.lemmas.Bool.{cases_eq, cases_lt, cond-true, cond-false, eq-eqb, ne_eqb}
-use Rattle.std.proofs.lemmas.List.{length-take, get_or-take, get_or-drop, get_or_default}
+use Rattle.std.proofs.Common.{◌≡◌, ◌≢◌, ◌==◌, ℕ, ◌+◌, ◌<◌, ◌⊎◌, inl, inr, ⊎_elim, List, length, get_or, Some, slice_get, refl, sym, ◌∙◌, ap, subst, arith}
+use Rattle.std.proofs.lemmas.Bool.{cases_eq, cond-true, cond-false, eq-eqb, ne_eqb}
+use Rattle.std.proofs.lemmas.List.{length-take, get_or-take, get_or-drop}
 use Rattle.std.proofs.lemmas.List.Elements.{All-contains}
-use Rattle.std.proofs.lemmas.List.Sums.{sum_by-cons}
 use Rattle.std.proofs.lemmas.Option.{slice_get_within, get_or_from_slice_get}
 use Rattle.std.specs.List.{All, Contains}
-use Rattle.step_core.proofs.Copies.{hit, hit_yes, hit_no, copies_more}
+use Rattle.step_core.proofs.Copies.{hit, hit_no, copies_more}
 use Rattle.step_core.proofs.Listings.{times_some}
 use Rattle.step_core.proofs.Debts.{owed, owed_to, owed_yes, owed_within, begun_within}
 use Rattle.step_core.specs.WithdrawTables.{FitsIn, MayFind}
 use Rattle.store_spec.specs.Act.{word_of}
 use Rattle.store_spec.specs.Act.Act.{Load, Trade}
 use Rattle.store_spec.specs.Measure.{Falls}
-use Rattle.store_spec.specs.WithdrawInvariant.{copies, debts, times, times_begun, times_taken, IsOf, IsSound, cell_words, flag_words, WithdrawInvariant}
+use Rattle.store_spec.specs.WithdrawInvariant.{copies, times_taken, IsOf, IsSound, cell_words, WithdrawInvariant}
 use Rattle.store_spec.specs.WithdrawStep.{WithdrawState, WithdrawNote, WithdrawView, WithdrawRow, IsSeated, withdraw_act, withdraw_measure}
 use Rattle.store_spec.specs.WithdrawStep.WithdrawState.{Rest, Chosen, Owing, Up, Down}
 use Rattle.store_spec.specs.WithdrawStep.WithdrawRow.{walked_on, began, found_owed, looked_lower, looked_higher, found_candidate, found_lower_candidate, kept_candidate, emptied, refilled, lost}

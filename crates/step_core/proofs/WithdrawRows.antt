@@ -5,19 +5,18 @@ use Rattle.std.proofs.lemmas.List.{length-take, get_or-take, set-get_or}
 use Rattle.std.proofs.lemmas.Option.{slice_get_within, get_or_from_slice_get}
 use Rattle.std.specs.List.{Contains}
 use Rattle.step_core.proofs.Copies.{copies_rise, copy_here, copy_elsewhere}
-use Rattle.step_core.proofs.Debts.{owed, owed_to, owed_other, chosen}
+use Rattle.step_core.proofs.Debts.{owed, owed_other, chosen}
 use Rattle.step_core.proofs.WithdrawBegun.{walk_begins}
 use Rattle.step_core.proofs.WithdrawExchanged.{exchange}
 use Rattle.step_core.proofs.WithdrawFirst.{first_late, first_chooses}
 use Rattle.step_core.proofs.WithdrawLowered.{lower}
 use Rattle.step_core.proofs.WithdrawQuiet.{quiet}
 use Rattle.step_core.specs.WithdrawKept.{IsKept}
-use Rattle.store_spec.specs.WithdrawInvariant.{copies, IsLive, IsSound, Owes, SearchesDown, cell_words, WithdrawInvariant}
-use Rattle.store_spec.specs.WithdrawStep.{WithdrawState, WithdrawNote, WithdrawView, Fits, WithdrawRow, FirstRow, IsSeated, WithdrawMove, WithdrawStep, number_of, view_after}
+use Rattle.store_spec.specs.WithdrawInvariant.{copies, IsSound, Owes, SearchesDown, cell_words, WithdrawInvariant}
+use Rattle.store_spec.specs.WithdrawStep.{WithdrawState, WithdrawNote, WithdrawView, Fits, WithdrawRow, FirstRow, IsSeated, WithdrawMove, WithdrawStep, number_of}
 use Rattle.store_spec.specs.WithdrawStep.FirstRow.{found_gone, chose}
 use Rattle.store_spec.specs.WithdrawStep.WithdrawMove.{begins, goes_on}
 use Rattle.store_spec.specs.WithdrawStep.WithdrawState.{Rest, Chosen, Owing, Up, Down}
-use Rattle.store_spec.specs.WithdrawStep.WithdrawNote.{Quiet, Gone, Begun, Done}
 use Rattle.store_spec.specs.WithdrawStep.WithdrawRow.{walked_on, began, found_owed, looked_lower, looked_higher, found_candidate, found_lower_candidate, kept_candidate, emptied, refilled, lost}
 
 module _ (home : ℕ → ℕ) (base words : List ℕ) (views : List WithdrawView) (inv : WithdrawInvariant home base words views) where

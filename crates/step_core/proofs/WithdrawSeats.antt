@@ -1,17 +1,17 @@
 -- A phase opens, a seat is made, and a seat is taken in: no count changes.
-use Rattle.std.proofs.Common.{◌≡◌, ◌≢◌, ℕ, zero, suc, ◌+◌, ◌-◌, ◌<◌, ◌≤◌, ⊎_elim, List, [], ◌∷◌, ◌++◌, length, get_or, set, take, drop, replicate, Some, slice_get, refl, sym, ◌∙◌, ap, subst, arith}
-use Rattle.std.proofs.lemmas.Bool.{cases_eq, cases_lt}
+use Rattle.std.proofs.Common.{◌≡◌, ◌≢◌, ℕ, zero, suc, ◌+◌, ◌<◌, ◌≤◌, ⊎_elim, List, [], ◌∷◌, ◌++◌, length, get_or, set, replicate, Some, slice_get, refl, sym, ◌∙◌, ap, subst, arith}
+use Rattle.std.proofs.lemmas.Bool.{cases_lt}
 use Rattle.std.proofs.lemmas.List.{get_or_default, get_or_past, get_or-set_other, length-set, length-append, length-replicate, take_at, take_all, drop_at}
 use Rattle.std.proofs.lemmas.List.Elements.{All-append, All-push, All-weaker, Contains-get_or}
 use Rattle.std.proofs.lemmas.List.Sums.{sum_by-append, sum_by-cons, sum_by_push}
 use Rattle.std.proofs.lemmas.Option.{slice_get_within, get_or_from_slice_get}
-use Rattle.std.specs.List.{All, Contains, sum_by, count_by}
+use Rattle.std.specs.List.{All, count_by}
 use Rattle.step_core.proofs.Copies.{hit, hit_yes, hit_no, copy_here}
 use Rattle.step_core.proofs.Debts.{owed, chosen, debts_set, begun_set, chosen_set}
 use Rattle.step_core.proofs.WithdrawFirst.{one_place}
 use Rattle.step_core.proofs.WithdrawStates.{Follows, sound_after}
 use Rattle.step_core.proofs.WordSets.{all_after_set, sum_none, zero_cell}
-use Rattle.store_spec.specs.WithdrawInvariant.{copies, debts, times, times_begun, times_taken, walks_to, IsOf, IsLive, AreFlags, AreCopies, AreOwed, AreLowest, IsSound, IsBase, cell_words, flag_words, WithdrawInvariant}
+use Rattle.store_spec.specs.WithdrawInvariant.{copies, debts, times, times_begun, times_taken, walks_to, IsOf, IsLive, AreCopies, AreOwed, AreLowest, IsSound, IsBase, cell_words, flag_words, WithdrawInvariant}
 use Rattle.store_spec.specs.WithdrawStep.{WithdrawState, WithdrawView, fresh_view}
 use Rattle.store_spec.specs.WithdrawStep.WithdrawState.{Rest}
 

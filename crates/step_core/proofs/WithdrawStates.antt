@@ -1,8 +1,8 @@
 -- What holds of a withdrawer by its state, after another one has made a step.
-use Rattle.std.proofs.Common.{◌≡◌, ◌≢◌, ℕ, ◌+◌, ◌<◌, ◌≤◌, List, get_or, refl, arith}
+use Rattle.std.proofs.Common.{◌≡◌, ℕ, ◌+◌, ◌<◌, ◌≤◌, List, get_or, refl, arith}
 use Rattle.step_core.proofs.Copies.{hit_yes}
 use Rattle.step_core.proofs.Debts.{chosen}
-use Rattle.store_spec.specs.WithdrawInvariant.{copies, IsLive, IsSound, Walks, Owes, SearchesUp, SearchesDown}
+use Rattle.store_spec.specs.WithdrawInvariant.{copies, IsLive, IsSound, SearchesUp, SearchesDown}
 use Rattle.store_spec.specs.WithdrawStep.{WithdrawState, WithdrawView}
 use Rattle.store_spec.specs.WithdrawStep.WithdrawState.{Rest, Chosen, Owing, Up, Down}
 

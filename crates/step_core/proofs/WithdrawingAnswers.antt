@@ -1,15 +1,14 @@
 -- Answers of a withdrawer, and what they add to its view.
-use Rattle.std.proofs.Common.{◌≡◌, ◌≢◌, ◌==◌, if◌then◌else◌, Bool, true, false, ℕ, zero, suc, ◌+◌, ◌-◌, ◌<◌, ◌≤◌, ⊎_elim, List, [], ◌∷◌, ◌++◌, length, get_or, take, drop, map, refl, sym, ap, ◌∙◌, subst, arith}
-use Rattle.std.proofs.lemmas.Bool.{both_ways, cases_Bool, cases_eq, cond-false, cond-true, eq-eqb, eqb-true}
-use Rattle.std.proofs.lemmas.List.{append-nil, append_assoc, get_or_default, length-drop, map-append}
+use Rattle.std.proofs.Common.{◌≡◌, ◌==◌, Bool, true, false, ℕ, suc, ◌≤◌, ⊎_elim, List, [], ◌∷◌, ◌++◌, length, get_or, drop, map, refl, sym, ap, ◌∙◌, subst, arith}
+use Rattle.std.proofs.lemmas.Bool.{both_ways, cases_Bool, cond-false, cond-true, eq-eqb, eqb-true}
+use Rattle.std.proofs.lemmas.List.{append-nil, append_assoc, get_or_default, map-append}
 use Rattle.std.proofs.lemmas.List.Elements.{All-append, All-cons, All-head, All-nil, All-push, All-tail, All-weaker, filter-append}
 use Rattle.std.proofs.lemmas.List.Folds.{Any-from_list_any, list_any_at}
 use Rattle.std.proofs.lemmas.List.Quantifiers.{all_pairs_push}
 use Rattle.std.specs.List.{All, AllPairs, Contains, filter, list_any}
-use Rattle.step_core.specs.Withdrawing.{IsNext, Withdrawer, absent_first, answered, begun_now, is_gone, numbers_that, settled}
-use Rattle.store_spec.specs.WithdrawPhase.{IsRight, MayPrecede, Withdrawal, WithdrawReply, is_withdrawn}
-use Rattle.store_spec.specs.WithdrawPhase.WithdrawReply.{Withdrawn, Gone, Absent}
-use Rattle.store_spec.specs.WithdrawStep.{WithdrawState}
+use Rattle.step_core.specs.Withdrawing.{IsNext, absent_first, numbers_that}
+use Rattle.store_spec.specs.WithdrawPhase.{MayPrecede, Withdrawal, WithdrawReply}
+use Rattle.store_spec.specs.WithdrawPhase.WithdrawReply.{Absent}
 use Rattle.store_spec.specs.WithdrawStep.WithdrawState.{Rest}
 
 -- ---- whether a number is held
@@ -24,10 +23,10 @@ is_not_held held x none c = both_ways (list_any (λ n. n == x) held) none (list_
 
 -- ---- answers that need no step
 
-absent_on : (held : List ℕ) (x : ℕ) (xs : List ℕ) → list_any (λ n. n == x) held ≡ false → absent_first held (x ∷ xs) ≡ record { number = x; reply = Absent } ∷ absent_first held xs
+pub absent_on : (held : List ℕ) (x : ℕ) (xs : List ℕ) → list_any (λ n. n == x) held ≡ false → absent_first held (x ∷ xs) ≡ record { number = x; reply = Absent } ∷ absent_first held xs
 absent_on held x xs none = cond-false (list_any (λ n. n == x) held) [] (record { number = x; reply = Absent } ∷ absent_first held xs) none
 
-absent_stops : (held : List ℕ) (x : ℕ) (xs : List ℕ) → list_any (λ n. n == x) held ≡ true → absent_first held (x ∷ xs) ≡ []
+pub absent_stops : (held : List ℕ) (x : ℕ) (xs : List ℕ) → list_any (λ n. n == x) held ≡ true → absent_first held (x ∷ xs) ≡ []
 absent_stops held x xs found = cond-true (list_any (λ n. n == x) held) [] (record { number = x; reply = Absent } ∷ absent_first held xs) found
 
 pub record IsAbsent (held : List ℕ) (a : Withdrawal) : Type 0 where

@@ -1,10 +1,10 @@
 -- The cells at the opening of a withdrawing phase: the layout of the set that is held.
-use Rattle.std.proofs.Common.{◌≡◌, ◌≢◌, ◌^◌, ℕ, ◌+◌, ◌-◌, ◌<◌, ◌≤◌, List, length, get_or, ap, ◌∙◌, arith}
+use Rattle.std.proofs.Common.{◌≢◌, ◌^◌, ℕ, ◌+◌, ◌-◌, ◌≤◌, List, length, get_or, ap, ◌∙◌, arith}
 use Rattle.std.specs.List.{All, AllPairs, Contains}
 use Rattle.probe_order.specs.Below.{home_of-lt}
 use Rattle.layout_def.proofs.LaidOut.{layout_of_is}
 use Rattle.store_spec.specs.Home.{home_of}
-use Rattle.store_spec.specs.Layout.{HasRoom, IsLayout, layout_of}
+use Rattle.store_spec.specs.Layout.{IsLayout, layout_of}
 use Rattle.store_spec.specs.WithdrawInvariant.{IsBase, IsOf}
 
 module _ (bits salt limit : ℕ) (held : List ℕ) (few : bits ≤ 16) (within : length held ≤ limit) (some : All (λ x. x ≢ 0) held) (distinct : AllPairs (λ a b. a ≢ b) held) where

@@ -1,13 +1,13 @@
 -- A withdrawing phase opens, and ends with its outcome once all withdrawers are done.
-use Rattle.std.proofs.Common.{◌≡◌, ◌≢◌, ◌==◌, ◌^◌, Bool, true, false, ℕ, zero, suc, ◌+◌, ◌-◌, ◌<◌, ◌≤◌, ◌⊎◌, inl, inr, ⊎_elim, List, [], ◌∷◌, ◌++◌, length, get_or, take, drop, map, replicate, Option, Some, None, slice_get, refl, sym, ap, ◌∙◌, subst, arith}
-use Rattle.std.proofs.lemmas.Bool.{cases_lt, cases_eq, cases_Bool, cond-true, cond-false}
+use Rattle.std.proofs.Common.{◌≡◌, ◌≢◌, ◌^◌, Bool, true, false, ℕ, suc, ◌+◌, ◌<◌, ◌≤◌, ⊎_elim, List, [], ◌∷◌, ◌++◌, length, get_or, take, map, replicate, Option, Some, None, slice_get, refl, sym, ap, ◌∙◌, subst, arith}
+use Rattle.std.proofs.lemmas.Bool.{cases_eq, cases_Bool, cond-true, cond-false}
 use Rattle.std.proofs.lemmas.List.{append-nil, get_or-map, get_or_default, length-map}
 use Rattle.std.proofs.lemmas.List.Elements.{All-map, All-weaker, All-contains, Contains-get_or}
 use Rattle.std.proofs.lemmas.List.Folds.{flat_map-map}
 use Rattle.std.proofs.lemmas.List.Sums.{sum_by-cons, sum_by-le-sum_by, get_or-le-sum_by}
 use Rattle.std.proofs.lemmas.Option.{slice_get_within, get_or_from_slice_get}
 use Rattle.std.specs.Option.{IsSomeAnd}
-use Rattle.std.specs.List.{All, AllPairs, Contains, count_by, filter, flat_map, sum_by}
+use Rattle.std.specs.List.{All, AllPairs, Contains, filter, sum_by}
 use Rattle.step_core.proofs.Copies.{hit, hit_yes, hit_no}
 use Rattle.step_core.proofs.Listings.{no_zero_in_cells, same_ascending, some_times, times-cons, times-flat_map, times_ascending, times_in_cells, times_some, times_without, times_without_none}
 use Rattle.step_core.proofs.WithdrawAtRest as rest
@@ -18,10 +18,10 @@ use Rattle.step_core.proofs.WithdrawingBase.{base_begins, base_layout, of_base_h
 use Rattle.step_core.proofs.WordSets.{sum_same}
 use Rattle.layout_def.proofs.Ascending.{ascending_distinct, length-ascending}
 use Rattle.layout_def.proofs.LaidOut.{ascending_from_rising}
-use Rattle.step_core.specs.Withdrawing.{EndsWith, HasEnded, IsDone, IsDoneAt, IsWithdrawer, IsWithdrawing, Withdrawer, Withdrawing, absent_first, answers_in, base_in, cells_in, count_in, home_in, is_gone, numbers_that, opened, settled, view_of}
+use Rattle.step_core.specs.Withdrawing.{EndsWith, HasEnded, IsDone, IsDoneAt, IsWithdrawer, IsWithdrawing, Withdrawer, Withdrawing, absent_first, answers_in, base_in, count_in, home_in, is_gone, numbers_that, opened, settled, view_of}
 use Rattle.store_spec.specs.Home.{home_of}
 use Rattle.store_spec.specs.Layout.{ascending, laid_out, layout_of, numbers_in}
-use Rattle.store_spec.specs.WithdrawInvariant.{IsOf, WithdrawInvariant, begun_by, cell_words, times}
+use Rattle.store_spec.specs.WithdrawInvariant.{IsOf, WithdrawInvariant, begun_by, times}
 use Rattle.store_spec.specs.WithdrawPhase.{IsRight, MayPrecede, Withdrawal, WithdrawOutcome, is_withdrawn, listed, withdrawn_in, without}
 use Rattle.store_spec.specs.WithdrawPhase as reply
 use Rattle.store_spec.specs.WithdrawStep.{WithdrawView, fresh_view}

@@ -1,24 +1,23 @@
 -- One step of a withdrawing phase keeps what holds at every moment, and leaves the withdrawer less to do.
-use Rattle.std.proofs.Common.{◌≡◌, ◌≢◌, ◌^◌, ◌*◌, Bool, true, false, ℕ, zero, suc, ◌+◌, ◌-◌, ◌<◌, ◌≤◌, ◌⊎◌, inl, inr, ⊎_elim, Some, slice_get, List, [], ◌∷◌, ◌++◌, length, get_or, set, take, drop, map, refl, sym, ap, ◌∙◌, subst, arith}
-use Rattle.std.proofs.lemmas.Bool.{cases_lt, cases_eq}
-use Rattle.std.proofs.lemmas.List.{append-nil, append_assoc, get_or-map, get_or-set_same, length-drop, length-map, length-set, map-set}
-use Rattle.std.proofs.lemmas.List.Elements.{All-weaker, Contains-append_right, Contains-get_or, All-contains}
+use Rattle.std.proofs.Common.{◌≡◌, ◌≢◌, true, ℕ, ◌+◌, ◌-◌, ◌<◌, ◌≤◌, inl, inr, ⊎_elim, Some, slice_get, List, [], ◌∷◌, ◌++◌, length, get_or, set, take, drop, map, refl, sym, ap, ◌∙◌, subst, arith}
+use Rattle.std.proofs.lemmas.Bool.{cases_lt}
+use Rattle.std.proofs.lemmas.List.{append-nil, get_or-map, get_or-set_same, length-drop, length-map, length-set, map-set}
+use Rattle.std.proofs.lemmas.List.Elements.{All-weaker, Contains-append_right, All-contains}
 use Rattle.std.proofs.lemmas.Option.{slice_get_within, get_or_from_slice_get, slice_get-get_or}
 use Rattle.std.specs.List.{All, AllPairs, Contains}
 use Rattle.step_core.proofs.WithdrawReady.{found_taken, row_falls, sound_of}
 use Rattle.step_core.proofs.WithdrawRows.{keeps_step}
-use Rattle.step_core.proofs.WithdrawingAnswers.{IsAbsent, absent_within, answers_settled, next_settled, numbers-contains, numbers-settled, pairs_settled}
+use Rattle.step_core.proofs.WithdrawingAnswers.{answers_settled, next_settled, numbers-contains, numbers-settled, pairs_settled}
 use Rattle.step_core.proofs.WithdrawingBase.{base_layout, of_base_held}
 use Rattle.step_core.proofs.WordSets.{all_after_set}
-use Rattle.step_core.specs.Withdrawing.{FallsAt, IsNext, IsWithdrawer, IsWithdrawing, Steps, Withdrawer, Withdrawing, absent_first, after_step, answered, base_in, begun_now, count_in, home_in, is_gone, next_number, not_begun, numbers_that, settled, tab_measure, view_of}
+use Rattle.step_core.specs.Withdrawing.{FallsAt, IsNext, IsWithdrawer, IsWithdrawing, Steps, Withdrawer, Withdrawing, absent_first, after_step, answered, base_in, begun_now, count_in, home_in, is_gone, next_number, numbers_that, settled, tab_measure, view_of}
 use Rattle.store_spec.specs.Measure.{Falls}
 use Rattle.store_spec.specs.WithdrawInvariant.{IsOf, IsSound, WithdrawInvariant, cell_words}
 use Rattle.store_spec.specs.WithdrawPhase.{IsRight, MayPrecede, Withdrawal, is_withdrawn}
 use Rattle.store_spec.specs.WithdrawPhase as reply
-use Rattle.store_spec.specs.WithdrawStep.{FirstRow, IsSeated, WithdrawMove, WithdrawNote, WithdrawRow, WithdrawState, WithdrawStep, WithdrawView, number_of, view_after, withdraw_measure}
+use Rattle.store_spec.specs.WithdrawStep.{FirstRow, IsSeated, WithdrawMove, WithdrawNote, WithdrawRow, WithdrawState, WithdrawStep, WithdrawView, number_of, view_after}
 use Rattle.store_spec.specs.WithdrawStep.FirstRow.{found_gone, chose}
 use Rattle.store_spec.specs.WithdrawStep.WithdrawMove.{begins, goes_on}
-use Rattle.store_spec.specs.WithdrawStep.WithdrawNote.{Quiet, Gone, Begun, Done}
 use Rattle.store_spec.specs.WithdrawStep.WithdrawRow.{walked_on, began, found_owed, looked_lower, looked_higher, found_candidate, found_lower_candidate, kept_candidate, emptied, refilled, lost}
 use Rattle.store_spec.specs.WithdrawStep.WithdrawState.{Rest, Chosen, Owing, Up, Down}
 
@@ -148,7 +147,7 @@ module _ (held : List ℕ) (answers : List Withdrawal) (left : List ℕ) where
   first_less home cells x _ _ _ some chose = inl (omega arith)
 
 -- at rest the number that stands first is held
-first_held : (held left : List ℕ) → IsNext held Rest left → get_or left 0 0 ≢ 0 → (0 < length left) × Contains held (get_or left 0 0)
+pub first_held : (held left : List ℕ) → IsNext held Rest left → get_or left 0 0 ≢ 0 → (0 < length left) × Contains held (get_or left 0 0)
 first_held held [] next some = absurd (some refl)
 first_held held (x ∷ left) next some = (omega arith, next)
 

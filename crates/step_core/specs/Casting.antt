@@ -39,6 +39,17 @@ cells_in c = take (2 ^ c.bits + c.limit) c.words
 abbrev pub answers_in : Casting → List (List Answer)
 answers_in c = map (λ tab. tab.answers) c.tabs
 
+-- the list of a tabulator: the numbers that are answered, and then those that are not
+abbrev pub list_of : Tabulator → List ℕ
+list_of tab = map (λ a. a.number) tab.answers ++ tab.left
+
+abbrev pub lists_in : Casting → List (List ℕ)
+lists_in c = map list_of c.tabs
+
+-- the numbers that are answered, list by list
+abbrev pub answered_in : Casting → List (List ℕ)
+answered_in c = map (λ tab. map (λ a. a.number) tab.answers) c.tabs
+
 -- what the first numbers of a list met
 abbrev pub mets_at : Casting → ℕ → List Met
 mets_at c id = option_map_or (λ tab. map (λ a. a.met) tab.answers) (slice_get c.tabs id) []

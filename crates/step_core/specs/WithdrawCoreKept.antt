@@ -1,5 +1,5 @@
 -- How a core of withdrawing is kept.
-use Rattle.std.specs.Prelude.{◌≡◌, ℕ, ◌+◌, ◌^◌, ◌<◌, ◌≤◌, map, All}
+use Rattle.std.specs.Prelude.{◌≡◌, ◌+◌, ◌^◌, map, All}
 use Rattle.step_core.specs.Seats.{AreSeats}
 use Rattle.step_core.specs.WithdrawCore.{HasReplyRoom, IsShape, base_of, tab_of}
 use Rattle.step_core.specs.Withdrawing.{IsWithdrawing, Withdrawing}

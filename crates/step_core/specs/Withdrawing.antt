@@ -46,6 +46,17 @@ cells_in w = take (count_in w) w.words
 abbrev pub answers_in : Withdrawing → List (List Withdrawal)
 answers_in w = map (λ tab. tab.answers) w.tabs
 
+-- the list of a withdrawer: the numbers that are answered, and then those that are not
+abbrev pub list_of : Withdrawer → List ℕ
+list_of tab = map (λ a. a.number) tab.answers ++ tab.left
+
+abbrev pub lists_in : Withdrawing → List (List ℕ)
+lists_in w = map list_of w.tabs
+
+-- the numbers that are answered, list by list
+abbrev pub answered_in : Withdrawing → List (List ℕ)
+answered_in w = map (λ tab. map (λ a. a.number) tab.answers) w.tabs
+
 -- ---- numbers that need no step
 
 -- the answers to the numbers that stand first, as far as they are not held

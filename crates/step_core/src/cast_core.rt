@@ -1,10 +1,13 @@
 //! A core of casting: tabulators that make their steps one by one, in any order.
 
+#[cfg(test)]
+mod tests;
+
 ghost use Rattle.std.specs.Prelude.{◌≡◌, ◌≢◌, ◌↔◌, ◌+◌, ◌^◌, ◌<◌, ◌≤◌, All, AllPairs, IfOk, IsTrue, length, map};
 ghost use Rattle.std.specs.List.Sorted.{IsNonDecreasing};
 ghost use Rattle.store_spec.specs.Election.{most_ballots};
 ghost use Rattle.step_core.specs.CastCore.{HasReplyRoom, met_of, tab_of};
-ghost use Rattle.step_core.specs.Casting.{FallsAt, HasEnded, IsCasting, IsDone, IsDoneAt, Steps, cells_in, mets_at, opened, opened_tabs};
+ghost use Rattle.step_core.specs.Casting.{FallsAt, HasEnded, IsCasting, IsDone, IsDoneAt, Steps, answered_in, cells_in, lists_in, mets_at, opened, opened_tabs};
 
 use crate::tabulator::{CastMet, Tabulator, make_step};
 use crate::{Shape, Stepped};
@@ -43,6 +46,8 @@ impl CastCore {
         ensures opened { IfOk result
             (λ core. core ≡ opened order.bits order.salt limit start.now (map
             (λ list. list.items) lists.items)) }
+        ensures lists { IfOk result
+            (λ core. lists_in core ≡ map (λ list. list.items) lists.items) }
         ensures invariant { IfOk result IsCasting }
     {
         let cells = order.homes() + limit as usize;
@@ -69,6 +74,7 @@ impl CastCore {
     pub fn at_rest(&self) -> bool
         ensures done { IsTrue result ↔ All IsDone self.now.tabs }
         ensures outcome { IsTrue result → HasEnded self.now }
+        ensures answered { IsTrue result → answered_in self.now ≡ lists_in self.now }
         ensures invariant { IsCasting self.now }
     {
         all_done(&self.tabs)
@@ -82,6 +88,12 @@ impl CastCore {
         ensures unchanged { result ≡ Stepped.AtRest → self.new ≡ self.old }
         ensures row { result ≡ Stepped.Step → Steps self.old tab self.new }
         ensures falls { result ≡ Stepped.Step → FallsAt self.old tab self.new }
+
+        // What is answered and what is left of each list stay that list.
+        ensures lists { lists_in self.new ≡ lists_in self.old }
+
+        // One tabulator by itself, stepped until it is at rest, ends the phase.
+        ensures alone { length self.old.tabs ≡ 1 → result ≡ Stepped.AtRest → HasEnded self.new }
         ensures invariant { IsCasting self.new }
     {
         make_step(

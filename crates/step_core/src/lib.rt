@@ -5,6 +5,8 @@
 mod act;
 mod cast;
 mod cast_core;
+#[cfg(test)]
+mod draws;
 pub mod laws;
 mod seats;
 mod shape;

@@ -6,7 +6,7 @@ mod tests;
 ghost use Rattle.std.specs.Prelude.{◌≡◌, ◌≢◌, ◌↔◌, ◌+◌, ◌^◌, ◌<◌, ◌≤◌, All, AllPairs, IfOk, IsTrue, length, map, vec_len};
 ghost use Rattle.step_core.specs.Seats.{AreSeats};
 ghost use Rattle.step_core.specs.WithdrawCore.{HasReplyRoom, reply_of, tab_of};
-ghost use Rattle.step_core.specs.Withdrawing.{FallsAt, HasEnded, IsDone, IsDoneAt, IsWithdrawing, Steps, cells_in, opened, opened_tab, replies_at};
+ghost use Rattle.step_core.specs.Withdrawing.{FallsAt, HasEnded, IsDone, IsDoneAt, IsWithdrawing, Steps, answered_in, cells_in, lists_in, opened, opened_tab, replies_at};
 
 use crate::seats::Seats;
 use crate::withdrawer::{WithdrawReply, Withdrawer, make_step};
@@ -59,6 +59,8 @@ impl WithdrawCore {
         ensures opened { IfOk result
             (λ core. core ≡ opened order.bits order.salt limit start.now
             (map (λ list. list.items) lists.items)) }
+        ensures lists { IfOk result
+            (λ core. lists_in core ≡ map (λ list. list.items) lists.items) }
         ensures invariant { IfOk result IsWithdrawing }
     {
         let cells = order.homes() + limit as usize;
@@ -88,6 +90,9 @@ impl WithdrawCore {
         ensures unchanged { result ≡ Stepped.AtRest → self.new ≡ self.old }
         ensures row { result ≡ Stepped.Step → Steps self.old tab self.new }
         ensures falls { result ≡ Stepped.Step → FallsAt self.old tab self.new }
+
+        // What is answered and what is left of each list stay that list.
+        ensures lists { lists_in self.new ≡ lists_in self.old }
 
         // One withdrawer by itself, stepped until it is at rest, ends the phase.
         ensures alone { length self.old.tabs ≡ 1 → result ≡ Stepped.AtRest → HasEnded self.new }
@@ -127,6 +132,7 @@ impl WithdrawCore {
     pub fn at_rest(&self) -> bool
         ensures done { IsTrue result ↔ All IsDone self.now.tabs }
         ensures outcome { IsTrue result → HasEnded self.now }
+        ensures answered { IsTrue result → answered_in self.now ≡ lists_in self.now }
         ensures invariant { IsWithdrawing self.now }
     {
         all_done(&self.tabs)

@@ -14,7 +14,8 @@ pub record Ballot : Type 0 where
 
 -- each mark set has only choices of that contest, none where the contest is not on the style
 abbrev pub HasMarks : Election → ℕ → List ℕ → Type 0
-HasMarks e style marks = (k : ℕ) → 1 ≤ k → k ≤ MARK_SETS → slice_index marks (k - 1) < 2 ^ choices_on e style k
+HasMarks e style marks =
+    (k : ℕ) → 1 ≤ k → k ≤ MARK_SETS → slice_index marks (k - 1) < 2 ^ choices_on e style k
 
 -- The number is not 0, the style is one of the election's, and the mark sets fit. A ballot that marks more than a
 -- contest allows is valid: an overvote.

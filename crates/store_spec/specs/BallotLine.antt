@@ -102,7 +102,8 @@ IsLineOf e bytes = (b : Ballot) × Spells e bytes b
 
 -- the choices in a mark set
 unfoldable pub choices_in : Election → ℕ → List ℕ
-choices_in e set = filter (λ choice. bit_at set (choice - 1) == 1) (range_with_len 1 (most_choices e))
+choices_in e set =
+    filter (λ choice. bit_at set (choice - 1) == 1) (range_with_len 1 (most_choices e))
 
 abbrev pub line_of_ballot : Election → Ballot → RecordLine
 line_of_ballot e b = record {

@@ -76,7 +76,9 @@ pub record IsElection (e : Election) : Type 0 where
 
 -- how many choices contest k offers: none where there is no such contest
 abbrev pub choices_of : Election → ℕ → ℕ
-choices_of e k = if k == 0 then 0 else option_map_or (λ contest. contest.choices) (slice_get e.contests (k - 1)) 0
+choices_of e k =
+    if k == 0 then 0
+    else option_map_or (λ contest. contest.choices) (slice_get e.contests (k - 1)) 0
 
 -- whether contest k is on style s: not where the election lacks one of them
 abbrev pub is_on_style : Election → ℕ → ℕ → Bool

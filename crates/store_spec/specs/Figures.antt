@@ -41,11 +41,16 @@ pub record ExampleLayout : Type 0 where
 
 -- a ballot of style 1, with these marks in the two contests of the example
 abbrev pub example_ballot : ℕ → ℕ → ℕ → Ballot
-example_ballot number first second = record { number = number; style = 1; marks = first ∷ second ∷ replicate 14 0 }
+example_ballot number first second = record {
+  number = number;
+  style = 1;
+  marks = first ∷ second ∷ replicate 14 0;
+}
 
 -- ballot 9 marks choice 1 of contest 1, ballot 14 choice 2 of contest 2, and ballot 1 choice 2 and choices 1 and 3
 pub record ExampleImage : Type 0 where
-  pub is : image_of example (example_ballot 9 1 0 ∷ example_ballot 14 0 2 ∷ example_ballot 1 2 5 ∷ [])
+  pub is : image_of example
+      (example_ballot 9 1 0 ∷ example_ballot 14 0 2 ∷ example_ballot 1 2 5 ∷ [])
       ≡ codes "HIBSTORE" ++ 0 ∷ 1 ∷ 3 ∷ 2 ∷ 0 ∷ 0 ∷ 0 ∷ 8 ∷ replicate (16 + 4 * 17) 0
       ++ replicate 7 0 ++ 9 ∷ 1 ∷ 0 ∷ 0 ∷ 0 ∷ 1 ∷ 0 ∷ 0 ∷ 0 ∷ 0
       ∷ replicate 7 0 ++ 14 ∷ 1 ∷ 0 ∷ 0 ∷ 0 ∷ 0 ∷ 0 ∷ 0 ∷ 0 ∷ 2
@@ -53,4 +58,5 @@ pub record ExampleImage : Type 0 where
 
 -- the lines `a`, `bc`, an empty one, and `d`, which has no end
 pub record ExampleLines : Type 0 where
-  pub is : lines_of (97 ∷ 10 ∷ 98 ∷ 99 ∷ 10 ∷ 10 ∷ 100 ∷ []) ≡ (97 ∷ []) ∷ (98 ∷ 99 ∷ []) ∷ [] ∷ (100 ∷ []) ∷ []
+  pub is : lines_of (97 ∷ 10 ∷ 98 ∷ 99 ∷ 10 ∷ 10 ∷ 100 ∷ [])
+      ≡ (97 ∷ []) ∷ (98 ∷ 99 ∷ []) ∷ [] ∷ (100 ∷ []) ∷ []

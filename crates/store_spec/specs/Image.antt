@@ -32,7 +32,8 @@ IsCellOf e bytes b = IsValid e b × (bytes ≡ ballot_bytes e b)
 
 -- the cell of the ballot with this number, or zeros where no ballot has it
 abbrev pub cell_bytes : Election → List Ballot → ℕ → List ℕ
-cell_bytes e ballots number = option_map_or (ballot_bytes e) (ballot_of ballots number) (replicate (cell_size e) 0)
+cell_bytes e ballots number =
+    option_map_or (ballot_bytes e) (ballot_of ballots number) (replicate (cell_size e) 0)
 
 -- the cells of a set of ballots, each a number or 0
 abbrev pub cells_of : Election → List Ballot → List ℕ

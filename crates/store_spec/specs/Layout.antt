@@ -38,7 +38,8 @@ pub record IsOrdered (home : ℕ → ℕ) (cells : List ℕ) : Type 0 where
 -- what it says of one number and the place where it stands, or is to stand
 pub record MayStand (home : ℕ → ℕ) (cells : List ℕ) (v place : ℕ) : Type 0 where
   pub from_home : home v ≤ place
-  pub greater_before : (before : ℕ) → home v ≤ before → before < place → v < slice_index cells before
+  pub greater_before : (before : ℕ) → home v ≤ before → before < place
+      → v < slice_index cells before
 
 -- each of the numbers stands in some cell, and what stands in a cell is one of them or 0
 pub record HoldsExactly (cells numbers : List ℕ) : Type 0 where

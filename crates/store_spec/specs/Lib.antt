@@ -1,6 +1,7 @@
 pub mod Act
 pub mod Ballot
 pub mod BallotLine
+pub mod BallotPhase
 pub mod Build
 pub mod CastInvariant
 pub mod CastStep
@@ -17,6 +18,8 @@ pub mod Medium
 pub mod Measure
 pub mod Phase
 pub mod Probe
+pub mod ScriptLine
+pub mod Session
 pub mod StepFigures
 pub mod WithdrawFigures
 pub mod WithdrawInvariant

@@ -4,7 +4,7 @@
 ghost use Rattle.step_core.specs.WithdrawKept.{IsKept};
 ghost use Rattle.step_core.specs.WithdrawTables.{FitsIn, MayFind};
 ghost use Rattle.std.specs.Prelude.{◌≡◌, ◌≢◌, ℕ, ◌+◌, ◌<◌, ◌≤◌, ◌⊎◌, List, [], ◌∷◌, ◌++◌, All, AllPairs, Contains, Some, length, replicate, slice_get, slice_index, slice_set};
-ghost use Rattle.step_core.specs.Withdrawing.{HasEnded, IsDone, IsWithdrawing, Runs, Withdrawing, opened};
+ghost use Rattle.step_core.specs.Withdrawing.{HasEnded, IsDone, IsDoneAt, IsWithdrawing, Runs, Steps, Withdrawing, answered_in, lists_in, opened};
 ghost use Rattle.store_spec.specs.Act.{word_of};
 ghost use Rattle.store_spec.specs.Layout.{layout_of, numbers_in};
 ghost use Rattle.store_spec.specs.Measure.{Falls};
@@ -202,4 +202,23 @@ pub fn every_schedule()
     ensures one_run { (w : Withdrawing) (ids : List ℕ) (a b : Withdrawing)
         → IsWithdrawing w → Runs w ids a → Runs w ids b → a ≡ b }
     ensures ends { (w : Withdrawing) → IsWithdrawing w → All IsDone w.tabs → HasEnded w }
+{}
+
+/// The answered numbers of a withdrawer, and then those that are left, stay its list.
+pub fn lists_stay()
+    ensures opened { (bits salt limit : ℕ) (start : List ℕ) (lists : List (List ℕ))
+        → lists_in (opened bits salt limit start lists) ≡ lists }
+    ensures stepped { (w now : Withdrawing) (id : ℕ) → IsWithdrawing w → Steps w id now
+        → lists_in now ≡ lists_in w }
+    ensures run { (w end : Withdrawing) (ids : List ℕ) → IsWithdrawing w → Runs w ids end
+        → lists_in end ≡ lists_in w }
+    ensures answered { (w : Withdrawing) → All IsDone w.tabs → answered_in w ≡ lists_in w }
+{}
+
+/// A schedule that was run goes on with one more step, or with a withdrawer that has nothing left to do.
+pub fn a_run_goes_on()
+    ensures steps { (w now end : Withdrawing) (ids : List ℕ) (id : ℕ) → Runs w ids now
+        → Steps now id end → Runs w (ids ++ id ∷ []) end }
+    ensures rests { (w now : Withdrawing) (ids : List ℕ) (id : ℕ) → Runs w ids now
+        → IsDoneAt now id → Runs w (ids ++ id ∷ []) now }
 {}

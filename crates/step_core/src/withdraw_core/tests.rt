@@ -2,6 +2,7 @@
 
 ghost use Rattle.std.specs.Prelude.{◌≡◌, ◌≢◌, ◌<◌, ◌≤◌, All, AllPairs, IfOk, length};
 
+use crate::draws::{FEW_HOMES, LISTS, drawn, numbers_without};
 use crate::{Stepped, WithdrawCore, WithdrawReply};
 use layout_def::build;
 use outside_io::Memory;
@@ -105,44 +106,6 @@ fn withdrawn_twice_and_not_held(rt: HostRuntime) {
 }
 
 // ---- many withdrawers on four homes
-
-const LISTS: usize = 8;
-
-const FEW_HOMES: Salted = Salted {
-    bits: 2,
-    salt: 0x5eed,
-};
-
-/// A number below `below`, which is drawn from a seed.
-fn drawn(seed: &mut u64, below: usize) -> usize
-    requires { 0 < below }
-    ensures { result < below }
-{
-    *seed ^= *seed << 13;
-    *seed ^= *seed >> 7;
-    *seed ^= *seed << 17;
-    (*seed >> 32) as usize % below
-}
-
-/// The numbers among three hundred that none of the lists has.
-fn numbers_without(alloc: Global, lists: &[Vec<u64>]) -> Result<Vec<u64>, Memory>
-    ensures few { IfOk result (λ v. length v.items ≤ 300) }
-    ensures some { IfOk result (λ v. All (λ x. x ≢ 0) v.items) }
-    ensures distinct { IfOk result (λ v. AllPairs (λ a b. a ≢ b) v.items) }
-{
-    let mut numbers = Vec::new(alloc);
-    for k in 0..300 {
-        let number = 7 + k * 0x1234_5678_9abc;
-        if !is_listed(lists, number) {
-            numbers.push(number)?;
-        }
-    }
-    Ok(numbers)
-}
-
-fn is_listed(lists: &[Vec<u64>], number: u64) -> bool {
-    lists.iter().any(|list| list.contains(&number))
-}
 
 /// Some of the numbers in some order, and one that is none of them.
 fn drawn_list(alloc: Global, numbers: &[u64], seed: &mut u64) -> Result<Vec<u64>, Memory> {

@@ -3,7 +3,7 @@ use Rattle.body_store.specs.Contents.{ballots_of}
 use Rattle.ballot_store_cli.proofs.Building.{no_memory, script_refused, writes_image}
 use Rattle.ballot_store_cli.proofs.Causes.{ended_with}
 use Rattle.ballot_store_cli.specs.Build.{BuildEnds}
-use Rattle.ballot_store_cli.specs.Outside.{input, output, outside}
+use Rattle.outside_io.specs.Outside.{input, output, outside}
 use Rattle.ballot_store_cli.specs.Status.{build_fault, build_fault_status}
 use Rattle.ballot_store_cli.specs.declared.build.BuildFault.TheVariants.{Memory, WriteFault}
 use Rattle.ballot_store_cli.specs.declared.build.script.ScriptFault.TheVariants.{ReadFault}

@@ -2,7 +2,7 @@ use Rattle.std.proofs.Common.{ℕ, List, Err, ap, subst}
 use Rattle.ballot_store_cli.proofs.Causes.{if_err}
 use Rattle.ballot_store_cli.proofs.Texts.{told_election, told_refused}
 use Rattle.ballot_store_cli.specs.ElectionText.{RefusesElection}
-use Rattle.ballot_store_cli.specs.Outside.{input}
+use Rattle.outside_io.specs.Outside.{input}
 use Rattle.ballot_store_cli.specs.Status.{no_election, no_election_status}
 use Rattle.election_def.specs.Text.{Describes, IsElectionText}
 use Rattle.ballot_store_cli.proofs.election.election_from.Goals as goal

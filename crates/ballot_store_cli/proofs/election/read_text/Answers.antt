@@ -3,7 +3,7 @@ use Rattle.std.proofs.lemmas.List.{length-append, take_at}
 use Rattle.std.specs.Prelude.{slice_range}
 use Rattle.ballot_store_cli.proofs.Causes.{if_err}
 use Rattle.ballot_store_cli.specs.ElectionText.{election_limit, RefusesElection}
-use Rattle.ballot_store_cli.specs.Outside.{input}
+use Rattle.outside_io.specs.Outside.{input}
 use Rattle.ballot_store_cli.specs.Status.{no_election_status}
 use Rattle.ballot_store_cli.specs.declared.election.NoElection.TheVariants as NoElection
 use Rattle.outside_io.specs.Stream.{GivesAtMost}

@@ -1,29 +1,23 @@
 use Rattle.std.proofs.Common.{◌≡◌, List, subst, sym, ap, ◌∙◌, rules}
 use Rattle.ballot_record.specs.declared.record.Record.{Record}
 use Rattle.ballot_record.specs.Record.{ballot}
-use Rattle.body_store.proofs.BallotSets.{limit-IsPermutation, stored_in_order}
-use Rattle.ballot_record.proofs.BallotSets.{listing-IsPermutation}
+use Rattle.body_store.proofs.BallotSets.{MayHold, may_hold-IsPermutation, stored_in_order}
 use Rattle.body_store.proofs.Closed.from_records.Goals as goal
 use Rattle.body_store.proofs.Numbers.{numbers_rise}
 use Rattle.body_store.specs.Contents.{ballots_of}
 use Rattle.std.proofs.lemmas.List.Sorted.{IsNonDecreasingBy-from_sort_by_key, IsPermutation-map}
 use Rattle.std.specs.List.Sorted.{IsNonDecreasing}
-use Rattle.store_spec.specs.Ballot.{IsListing, IsWithinLimit, numbers_of}
+use Rattle.store_spec.specs.Ballot.{numbers_of}
 use Rattle.store_spec.specs.Image.{cells_of}
 
-pub layout-requires-clause-listing : goal.layout-requires-clause-listing
-layout-requires-clause-listing c =
+pub layout-requires : goal.layout-requires
+layout-requires c =
+    let e = c.args.election.now in
     let same : c.deref.result.now ≡ c.sort_unstable_by_key.new.self.items = search rules in
-    let moved = IsPermutation-map ballot _ _ c.sort_unstable_by_key.ensures.permutation in
-    subst (λ (rs : List Record). IsListing c.args.election.now (ballots_of rs)) (sym same)
-    (listing-IsPermutation c.args.election.now _ _ moved c.requires.listing)
-
-pub layout-requires-clause-within_limit : goal.layout-requires-clause-within_limit
-layout-requires-clause-within_limit c =
-    let same : c.deref.result.now ≡ c.sort_unstable_by_key.new.self.items = search rules in
-    let moved = IsPermutation-map ballot _ _ c.sort_unstable_by_key.ensures.permutation in
-    subst (λ (rs : List Record). IsWithinLimit c.args.election.now (ballots_of rs)) (sym same)
-    (limit-IsPermutation c.args.election.now _ _ moved c.requires.within_limit)
+    let given : MayHold e (ballots_of c.args.ballots.items) = record { listing = c.requires.listing; within_limit = c.requires.within_limit } in
+    let held = subst (λ (rs : List Record). MayHold e (ballots_of rs)) (sym same)
+    (may_hold-IsPermutation e _ _ (IsPermutation-map ballot _ _ c.sort_unstable_by_key.ensures.permutation) given) in
+    record { listing = held.listing; within_limit = held.within_limit }
 
 pub returns-clause-same : goal.returns-clause-same
 returns-clause-same c = IsPermutation-map ballot _ _ c.sort_unstable_by_key.ensures.permutation
@@ -33,7 +27,7 @@ returns-clause-stored c =
     let sorted = c.sort_unstable_by_key.new.self.items in
     let rising : IsNonDecreasing (numbers_of (ballots_of sorted)) =
     numbers_rise sorted (IsNonDecreasingBy-from_sort_by_key (λ r. r.number) sorted c.sort_unstable_by_key.ensures.sorted (λ a r q k. search rules)) in
-    stored_in_order c.args.election.now _ _ c.in_ok-cells.ensures.election c.requires.listing c.requires.within_limit (returns-clause-same c) rising
+    stored_in_order c.args.election.now _ _ c.in_ok-cells.ensures.election (record { listing = c.requires.listing; within_limit = c.requires.within_limit }) (returns-clause-same c) rising
 
 pub invariant_of-result : goal.invariant_of-result
 invariant_of-result c = record {

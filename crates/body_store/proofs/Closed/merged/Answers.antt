@@ -29,7 +29,7 @@ returns-clause-stored c =
     numbers_rise sorted (IsNonDecreasingBy-from_sort_by_key (λ r. r.number) sorted c.sort_unstable_by_key.ensures.sorted (λ a r q k. search rules)) in
     let election : IsElection c.args.election.now =
     subst (λ (e : Election). IsElection e) (ap (λ (store : Contents). store.election) c.self.view_is ∙ sym c.requires.own) c.self.invariant.stored.election in
-    stored_in_order c.args.election.now _ _ election c.requires.listing c.requires.within_limit (returns-clause-union c) rising
+    stored_in_order c.args.election.now _ _ election (record { listing = c.requires.listing; within_limit = c.requires.within_limit }) (returns-clause-union c) rising
 
 pub invariant_of-result : goal.invariant_of-result
 invariant_of-result c = record {

@@ -1,6 +1,5 @@
-use Rattle.std.proofs.Common.{◌≡◌, List, [], ◌∷◌, map, ap, ◌∙◌, subst, rules}
-use Rattle.ballot_record.proofs.BallotSets.{same_in_order}
-use Rattle.body_store.proofs.Blank.{blank, blanks_rise}
+use Rattle.std.proofs.Common.{◌≡◌, List, [], ◌∷◌, map, sym, ap, ◌∙◌, subst, rules}
+use Rattle.body_store.proofs.Blank.{blank, blanks_stored}
 use Rattle.body_store.proofs.tests.one_less.Goals as goal
 use Rattle.body_store.specs.Contents.{IsStored, ballots_of, ballots_without}
 use Rattle.std.specs.List.Sorted.{IsPermutation}
@@ -11,13 +10,11 @@ use Rattle.store_spec.specs.Image.{cells_of}
 pub without-requires-clause-layout : goal.without-requires-clause-layout
 without-requires-clause-layout g c =
     let e = c.example-election.result in
-    let three = map blank (1 ∷ 9 ∷ 14 ∷ []) in
-    let were : ballots_of c.expect-three.result.items ≡ three = search rules in
-    let moved : IsPermutation (ballots_of c.expect-three.result.items) c.expect-store.result.ballots = search rules in
-    let stored : IsStored c.expect-store.result = search rules in
-    let held : three ≡ c.expect-store.result.ballots =
-    same_in_order three c.expect-store.result.ballots (blanks_rise (1 ∷ 9 ∷ 14 ∷ []) (search rules)) stored.set.ascending
-    (subst (λ (bs : List Ballot). IsPermutation bs c.expect-store.result.ballots) were moved) in
+    let store = c.expect-store.result in
+    let were : ballots_of c.expect-three.result.items ≡ map blank (1 ∷ 9 ∷ 14 ∷ []) = search rules in
+    let moved : IsPermutation (ballots_of c.expect-three.result.items) store.ballots = search rules in
+    let stored : IsStored store = search rules in
+    let held = blanks_stored store.election (1 ∷ 9 ∷ 14 ∷ []) store.ballots (search rules) stored.set (subst (λ (bs : List Ballot). IsPermutation bs store.ballots) were moved) in
     let laid : c.expect-cells.result.items ≡ cells_of e (ballots_of c.expect-two.result.items) = search rules in
     let two : ballots_of c.expect-two.result.items ≡ map blank (1 ∷ 14 ∷ []) = search rules in
-    laid ∙ ap (cells_of e) two ∙ ap (λ bs. cells_of e (ballots_without bs (9 ∷ []))) held
+    laid ∙ ap (cells_of e) two ∙ ap (λ bs. cells_of e (ballots_without bs (9 ∷ []))) (sym held)

@@ -11,18 +11,18 @@ pub overflow_add-salt : goal.overflow_add-salt
 overflow_add-salt c =
     let size : length c.as_bytes-digit-items.result.now ≡ 16 = ap length c.as_bytes-digit-items.ensures.value ∙ c.if-text-ne16.false in
     let digit = c.in_ok-salt_digit.ensures in
-    let small : c.from.result < 16 = omega (arith, c.from.ensures, digit.value.1, salt_digit-lt _ digit.value.0) in
+    let small : c.from.result < 16 = omega (arith, c.from.ensures, digit.value, salt_digit-lt _ digit.digit) in
     omega (arith, fits c.loop-digit.salt c.loop-digit.digit-index c.from.result c.loop-digit.invariant.small (omega arith) small)
 
 pub loop-digit-preserved : goal.loop-digit-preserved
 loop-digit-preserved c =
     let l = c.loop-digit in
     let digit = c.in_ok-salt_digit.ensures in
-    let small : c.from.result < 16 = omega (arith, c.from.ensures, digit.value.1, salt_digit-lt _ digit.value.0) in
+    let small : c.from.result < 16 = omega (arith, c.from.ensures, digit.value, salt_digit-lt _ digit.digit) in
     record {
-      number = ap (λ d. l.salt * 16 + d) (c.from.ensures ∙ digit.value.1) ∙ number_grows c.as_bytes-digit-items.result.now l.digit-index l.salt c.loop-digit-test.true l.invariant.number;
+      number = ap (λ d. l.salt * 16 + d) (c.from.ensures ∙ digit.value) ∙ number_grows c.as_bytes-digit-items.result.now l.digit-index l.salt c.loop-digit-test.true l.invariant.number;
       small = small_grows l.salt l.digit-index c.from.result l.invariant.small small;
-      digits = below_more _ _ l.invariant.digits digit.value.0;
+      digits = below_more _ _ l.invariant.digits digit.digit;
     }
 
 pub returns-clause-value : goal.returns-clause-value

@@ -35,7 +35,7 @@ returns-then-len-limit-clause-refused c =
     let bytes = c.args.bytes.now in
     let at : c.len-place.result ≡ length numbers = omega (arith, c.len-place.ensures) in
     let held = (c.in-Held.ensures.held c.in-Held.record).0 refl in
-    let full : e.limit ≤ length ballots = omega (arith, c.if-len-limit.true, c.limit.ensures.limit, c.len-in-Held.ensures, length-map records ballot) in
+    let full : e.limit ≤ length ballots = omega (arith, c.if-len-limit.true, c.limit.ensures.limit, c.len.ensures, length-map records ballot) in
     subst (λ (place : ℕ). IsRefusedAt e (front_of e numbers ballots ++ bytes) (Damaged place)) (sym at)
     (wrong_next e numbers c.args.cells.now.reaches.items ballots bytes c.requires.election c.requires.kept c.requires.size c.requires.room
     (λ (bank : List ℕ) (goes : Goes e numbers ballots bytes bank).
@@ -99,7 +99,7 @@ returns-in_ok-add-in-Held-clause-kept c =
     let b = ballot record_read in
     let from = c.in-Some.reach in
     let held = (c.in-Held.ensures.held record_read).0 refl in
-    let room : length ballots < e.limit = omega (arith, c.if-len-limit.false, c.limit.ensures.limit, c.len-in-Held.ensures, length-map cells.records.items ballot) in
+    let room : length ballots < e.limit = omega (arith, c.if-len-limit.false, c.limit.ensures.limit, c.len.ensures, length-map cells.records.items ballot) in
     let may = stands_at (home_in e) c.deref.result.now numbers b.number (length numbers) c.deref.ensures.value refl (c.in-Some.ensures.stands.0 refl) in
     let reach = reach_as numbers c.deref.result.now b.number from c.in-Some.ensures.reach c.deref.ensures.value in
     let now = c.add-in-Held.new.cells in
@@ -121,7 +121,7 @@ returns-in_ok-add-in-Held-clause-fed c =
     let b = ballot record_read in
     let from = c.in-Some.reach in
     let held = (c.in-Held.ensures.held record_read).0 refl in
-    let room : length ballots < e.limit = omega (arith, c.if-len-limit.false, c.limit.ensures.limit, c.len-in-Held.ensures, length-map cells.records.items ballot) in
+    let room : length ballots < e.limit = omega (arith, c.if-len-limit.false, c.limit.ensures.limit, c.len.ensures, length-map cells.records.items ballot) in
     let may = stands_at (home_in e) c.deref.result.now numbers b.number (length numbers) c.deref.ensures.value refl (c.in-Some.ensures.stands.0 refl) in
     let reach = reach_as numbers c.deref.result.now b.number from c.in-Some.ensures.reach c.deref.ensures.value in
     let now = c.add-in-Held.new.cells in

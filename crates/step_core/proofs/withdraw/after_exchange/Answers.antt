@@ -1,4 +1,3 @@
-use Rattle.std.proofs.Common.{◌≡◌, arith}
 use Rattle.step_core.proofs.WithdrawLeads.{leads_emptied, leads_lost, leads_refilled}
 use Rattle.step_core.proofs.withdraw.after_exchange.Goals as goal
 

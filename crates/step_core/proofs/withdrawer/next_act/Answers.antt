@@ -1,4 +1,4 @@
-use Rattle.step_core.proofs.WithdrawCoreTabs.{act_within, next_moves}
+use Rattle.step_core.proofs.WithdrawCoreTabs.{next_moves}
 use Rattle.step_core.proofs.withdrawer.next_act.Goals as goal
 use Rattle.step_core.specs.Act.{act_of}
 use Rattle.step_core.specs.WithdrawTables.{state_of}

@@ -1,4 +1,4 @@
-use Rattle.std.proofs.Common.{ℕ, ◌≡◌, refl, inl, inr, arith}
+use Rattle.std.proofs.Common.{ℕ, refl, inl, inr, arith}
 use Rattle.store_spec.proofs.withdraw_figures.example_stale_candidate.Goals as goal
 use Rattle.store_spec.specs.WithdrawFigures.{example_home}
 use Rattle.store_spec.specs.WithdrawStep.{Fits}

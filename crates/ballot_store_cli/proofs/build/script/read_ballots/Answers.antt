@@ -2,7 +2,8 @@ use Rattle.std.proofs.Common.{◌+◌, Err, List, [], ◌∷◌, ◌++◌, lengt
 use Rattle.std.specs.List.{AllZip}
 use Rattle.ballot_record.specs.LineWhy.{reason}
 use Rattle.ballot_store_cli.specs.Ballots.{ballots_so_far, Judges}
-use Rattle.ballot_store_cli.specs.Build.{HasBadLine, IsReadOut}
+use Rattle.ballot_store_cli.specs.Build.{HasBadLine}
+use Rattle.outside_io.specs.Outside.{IsReadOut}
 use Rattle.ballot_store_cli.specs.declared.build.ballots.Refusal.{Refusal}
 use Rattle.ballot_store_cli.proofs.Reading.{AreSpelled, AreSpelledBut, spelled_more, told_all, told_bad, told_fault, told_too_much, refused_whole, refused_wide}
 use Rattle.outside_io.proofs.Reading.{few_given, read_nothing, read_whole, read_wide, read_first, read_out, read_too_much, read_fault}

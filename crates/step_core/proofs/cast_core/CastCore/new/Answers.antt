@@ -4,10 +4,11 @@ use Rattle.std.proofs.lemmas.List.Sorted.{IsNonDecreasingBy-from_sort}
 use Rattle.std.specs.List.{All}
 use Rattle.std.specs.List.Sorted.{IsNonDecreasing, IsPermutation}
 use Rattle.step_core.proofs.CastingEnds.{opened_is}
+use Rattle.step_core.proofs.CastingLists.{opened_lists}
 use Rattle.step_core.proofs.CoreOpened.{few_words, opened_by, resized_is, sorted_is}
 use Rattle.step_core.proofs.cast_core.CastCore.new.Goals as goal
 use Rattle.step_core.proofs.cast_core.CastCore.new.Goals.{After-deref, In_ok-tabs}
-use Rattle.step_core.specs.Casting.{IsCasting, MayOpen, opened_tabs}
+use Rattle.step_core.specs.Casting.{IsCasting, MayOpen, lists_in, opened_tabs}
 use Rattle.layout_def.proofs.Ascending.{length-ascending}
 use Rattle.store_spec.specs.Layout.{ascending}
 
@@ -43,6 +44,11 @@ returns-clause-opened c =
     (resized_is bits c.args.order.salt limit c.homes.result c.in_ok-words.words.len claims start c.in_ok-words.words.items c.resize.new.self.items lists
     (may_open c) c.homes.ensures c.in_ok-words.ensures c.in_ok-words.words.ok.0 c.in_ok-resize.ensures.items)
     (c.in_ok-tabs.ensures.tabs ∙ ap (λ b. opened_tabs b claims lists) c.deref.ensures.value)
+
+pub returns-clause-lists : goal.returns-clause-lists
+returns-clause-lists c =
+    ap lists_in (returns-clause-opened c)
+    ∙ opened_lists c.args.order.bits c.args.order.salt c.args.limit c.args.start.now (map (λ list. list.items) c.args.lists.items)
 
 pub returns-clause-invariant : goal.returns-clause-invariant
 returns-clause-invariant c =

@@ -1,6 +1,6 @@
 use Rattle.std.proofs.Common.{◌≡◌, ℕ, List, length, refl, sym, ap, subst, arith}
 use Rattle.std.proofs.lemmas.List.{length-map, with_items_is}
-use Rattle.step_core.proofs.CoreKept.{IsStepped, asks, falls_seen, invariant_seen, kept_seen, row_seen}
+use Rattle.step_core.proofs.CoreKept.{IsStepped, alone_seen, asks, falls_seen, invariant_seen, kept_seen, lists_seen, row_seen}
 use Rattle.std.specs.Vec.{with_items}
 use Rattle.step_core.proofs.cast_core.CastCore.step.Goals as goal
 use Rattle.step_core.proofs.cast_core.CastCore.step.Goals.{After-make_step}
@@ -51,3 +51,15 @@ returns-clause-invariant c =
     let at = (goal.at.returns-clause-invariant c).After-make_step in
     invariant_seen c.self.inside c.self.invariant c.args.self.now c.self.view_is c.args.tab c.requires c.index_mut.result.now c.index_mut.ensures.value c.make_step.result _ _ _ c.make_step.new.tab (stepped at)
     _ (words_are at)
+
+pub returns-clause-lists : goal.returns-clause-lists
+returns-clause-lists c =
+    let at = (goal.at.returns-clause-lists c).After-make_step in
+    lists_seen c.self.inside c.self.invariant c.args.self.now c.self.view_is c.args.tab c.requires c.index_mut.result.now c.index_mut.ensures.value c.make_step.result _ _ _ c.make_step.new.tab (stepped at)
+    _ (words_are at)
+
+pub returns-clause-alone : goal.returns-clause-alone
+returns-clause-alone c = λ one e.
+    let at = (goal.at.returns-clause-alone c).After-make_step in
+    alone_seen c.self.inside c.self.invariant c.args.self.now c.self.view_is c.args.tab c.requires c.index_mut.result.now c.index_mut.ensures.value c.make_step.result _ _ _ c.make_step.new.tab (stepped at)
+    _ (words_are at) one e (c.make_step.ensures.at_rest.0 e)

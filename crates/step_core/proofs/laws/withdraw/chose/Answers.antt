@@ -1,7 +1,7 @@
 use Rattle.step_core.proofs.WithdrawRows.{keeps_first}
 use Rattle.step_core.proofs.laws.withdraw.chose.Goals as goal
-use Rattle.store_spec.specs.WithdrawStep.WithdrawNote.{Quiet, Gone, Begun, Done}
-use Rattle.store_spec.specs.WithdrawStep.WithdrawState.{Rest, Chosen, Owing, Up, Down}
+use Rattle.store_spec.specs.WithdrawStep.WithdrawNote.{Quiet}
+use Rattle.store_spec.specs.WithdrawStep.WithdrawState.{Chosen}
 use Rattle.store_spec.specs.WithdrawStep.FirstRow.{chose}
 
 pub returns : goal.returns

@@ -1,8 +1,7 @@
-use Rattle.std.proofs.Common.{◌+◌}
 use Rattle.step_core.proofs.WithdrawRows.{keeps_row}
 use Rattle.step_core.proofs.laws.withdraw.emptied.Goals as goal
-use Rattle.store_spec.specs.WithdrawStep.WithdrawNote.{Quiet, Gone, Begun, Done}
-use Rattle.store_spec.specs.WithdrawStep.WithdrawState.{Rest, Chosen, Owing, Up, Down}
+use Rattle.store_spec.specs.WithdrawStep.WithdrawNote.{Done}
+use Rattle.store_spec.specs.WithdrawStep.WithdrawState.{Rest, Down}
 use Rattle.store_spec.specs.WithdrawStep.WithdrawRow.{emptied}
 
 pub returns : goal.returns

@@ -1,8 +1,8 @@
 use Rattle.std.proofs.Common.{◌+◌}
 use Rattle.step_core.proofs.WithdrawRows.{keeps_row}
 use Rattle.step_core.proofs.laws.withdraw.found_candidate.Goals as goal
-use Rattle.store_spec.specs.WithdrawStep.WithdrawNote.{Quiet, Gone, Begun, Done}
-use Rattle.store_spec.specs.WithdrawStep.WithdrawState.{Rest, Chosen, Owing, Up, Down}
+use Rattle.store_spec.specs.WithdrawStep.WithdrawNote.{Quiet}
+use Rattle.store_spec.specs.WithdrawStep.WithdrawState.{Up, Down}
 use Rattle.store_spec.specs.WithdrawStep.WithdrawRow.{found_candidate}
 
 pub returns : goal.returns

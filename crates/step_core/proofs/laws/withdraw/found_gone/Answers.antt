@@ -1,7 +1,7 @@
 use Rattle.step_core.proofs.WithdrawRows.{keeps_first}
 use Rattle.step_core.proofs.laws.withdraw.found_gone.Goals as goal
-use Rattle.store_spec.specs.WithdrawStep.WithdrawNote.{Quiet, Gone, Begun, Done}
-use Rattle.store_spec.specs.WithdrawStep.WithdrawState.{Rest, Chosen, Owing, Up, Down}
+use Rattle.store_spec.specs.WithdrawStep.WithdrawNote.{Gone}
+use Rattle.store_spec.specs.WithdrawStep.WithdrawState.{Rest}
 use Rattle.store_spec.specs.WithdrawStep.FirstRow.{found_gone}
 
 pub returns : goal.returns

@@ -1,8 +1,10 @@
-use Rattle.std.proofs.Common.{◌≡◌, ◌+◌, List, ℕ, map, subst, sym, ap, ◌∙◌, refl}
+use Rattle.std.proofs.Common.{◌+◌, List, ℕ, map, subst, sym, ap, ◌∙◌, refl}
 use Rattle.step_core.proofs.WithdrawCoreOpens.{each_stands, known_base, phase_holds, phase_is, shape_fits, stand_once, words_are}
 use Rattle.step_core.proofs.withdraw_core.WithdrawCore.new.Goals as goal
 use Rattle.step_core.specs.Seats.{AreSeats}
+use Rattle.step_core.proofs.WithdrawingLists.{opened_lists}
 use Rattle.step_core.specs.WithdrawCore.{tab_of}
+use Rattle.step_core.specs.Withdrawing.{lists_in}
 
 pub new-requires-clause-each : goal.new-requires-clause-each
 new-requires-clause-each c =
@@ -44,6 +46,11 @@ returns-clause-opened c =
     let words = words_are order.bits order.salt c.args.limit c.homes.result c.args.start.now laid few r.within_limit r.some r.distinct c.homes.ensures c.in_ok-words.ensures c.resize.new.self.items c.in_ok-words.words.len c.in_ok-words.words.ok.0 c.in_ok-resize.ensures.items in
     let is = phase_is order.bits order.salt c.args.limit c.homes.result c.args.start.now laid few r.within_limit r.some r.distinct c.homes.ensures c.in_ok-words.ensures numbers c.resize.new.self.items (map tab_of c.in_ok-tabs.tabs.items) lists c.in_ok-seats.ensures.numbers words c.in_ok-tabs.ensures.tabs in
     is
+
+pub returns-clause-lists : goal.returns-clause-lists
+returns-clause-lists c =
+    ap lists_in (returns-clause-opened c)
+    ∙ opened_lists c.args.order.bits c.args.order.salt c.args.limit c.args.start.now (map (λ list. list.items) c.args.lists.items)
 
 pub returns-clause-invariant : goal.returns-clause-invariant
 returns-clause-invariant c =

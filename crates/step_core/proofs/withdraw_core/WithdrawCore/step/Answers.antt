@@ -1,11 +1,13 @@
-use Rattle.std.proofs.Common.{◌≡◌, ◌<◌, List, ℕ, length, sym, subst, ◌∙◌}
+use Rattle.std.proofs.Common.{◌<◌, List, ℕ, length, sym, subst, ◌∙◌}
 use Rattle.std.proofs.lemmas.Bool.{iff_false}
 use Rattle.std.proofs.lemmas.List.{with_items_is}
 use Rattle.std.proofs.lemmas.List.Elements.{All-set}
 use Rattle.step_core.proofs.WithdrawCoreEnds.{core_alone}
+use Rattle.step_core.proofs.WithdrawingLists.{steps_list}
 use Rattle.step_core.proofs.WithdrawCoreSteps.{core_done_from, core_step_to, may_step, tab_within}
 use Rattle.step_core.proofs.withdraw_core.WithdrawCore.step.Goals as goal
 use Rattle.step_core.specs.WithdrawCore.{HasReplyRoom, MayStep, base_of, tab_of}
+use Rattle.step_core.specs.Withdrawing.{IsWithdrawing}
 
 pub make_step-requires-clause-may_step : goal.make_step-requires-clause-may_step
 make_step-requires-clause-may_step c =
@@ -44,6 +46,7 @@ returns c =
       unchanged = λ e. absurd (let no : ⊥ = cc in no);
       row = λ e. s.row;
       falls = λ e. s.falls;
+      lists = steps_list c.args.self.now c.args.tab _ (subst IsWithdrawing c.self.view_is kept.phase) s.row;
       alone = λ one e. absurd (let no : ⊥ = cc in no);
       invariant = s.keeps;
     }

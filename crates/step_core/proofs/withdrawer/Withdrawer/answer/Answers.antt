@@ -1,4 +1,4 @@
-use Rattle.std.proofs.Common.{◌++◌, ◌∷◌, [], length, drop, ap, ◌∙◌}
+use Rattle.std.proofs.Common.{length, drop, ap, ◌∙◌}
 use Rattle.step_core.proofs.WithdrawCoreTabs.{tab_push}
 use Rattle.step_core.proofs.withdrawer.Withdrawer.answer.Goals as goal
 use Rattle.step_core.specs.WithdrawCore.{answers_of}

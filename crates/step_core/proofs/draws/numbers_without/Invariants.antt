@@ -1,7 +1,7 @@
 -- The numbers so far rise, and none reaches the next.
 use Rattle.std.proofs.Common.{◌≢◌, ◌+◌, ◌*◌, ◌<◌, ◌≤◌, length}
 use Rattle.std.specs.List.{All, AllPairs}
-use Rattle.step_core.proofs.withdraw_core.tests.numbers_without.Given as goal
+use Rattle.step_core.proofs.draws.numbers_without.Given as goal
 
 abbrev pub invariant-loop-k : goal.invariant-loop-k
 invariant-loop-k l = record {

@@ -1,0 +1,16 @@
+pub mod CastShort
+pub mod Ending
+pub mod Following
+pub mod Inputs
+pub mod Measures
+pub mod Numbers
+pub mod OneAnswer
+pub mod Opening
+pub mod Playing
+pub mod Reading
+pub mod Replies
+pub mod Steppers
+pub mod Takings
+pub mod Texts
+pub mod WithdrawShort
+pub mod Words

@@ -1,0 +1,13 @@
+use Rattle.std.proofs.Common.{◌≡◌, ◌-◌, Some, map}
+use Rattle.std.specs.Prelude.{slice_get, string_bytes}
+use Rattle.schedule_replay.proofs.Replies.{cast_words_are, lines_are}
+use Rattle.schedule_replay.specs.Replayed.{cast_words, met_text}
+use Rattle.step_core.specs.CastCore.{met_of}
+use Rattle.schedule_replay.proofs.machine.CastCoreMachine.push_replies.Goals as goal
+
+pub returns : goal.returns
+returns c =
+    let replies = c.replies.result.now in
+    lines_are c.push_replies.result (string_bytes c.args.text.now) (string_bytes c.push_replies.new.text) c.args.list (map (λ met. met_text (met_of met)) replies)
+    (λ ws. slice_get (cast_words c.args.self.now) (c.args.list - 1) ≡ Some ws)
+    (λ ws stands. cast_words_are c.args.self.now (c.args.list - 1) replies ws c.replies.ensures.mets stands) c.push_replies.ensures

@@ -1,0 +1,10 @@
+use Rattle.std.proofs.Common.{◌≡◌, ◌+◌, ◌++◌, drop}
+use Rattle.std.specs.Prelude.{string_bytes}
+use Rattle.schedule_replay.specs.Replayed.{all_reply_lines}
+use Rattle.schedule_replay.proofs.run.push_all_replies.Given as goal
+
+-- the lines of the first lists are written
+abbrev pub invariant-tabs : goal.invariant-tabs
+invariant-tabs g l =
+    string_bytes l.text ++ all_reply_lines (l.tab + 1) (drop l.tab (g.C.Machine.words l.core))
+    ≡ string_bytes l.initial.text ++ all_reply_lines 1 (g.C.Machine.words l.core)

@@ -1,0 +1,10 @@
+pub mod Counted
+pub mod Ends
+pub mod Input
+pub mod Machine
+pub mod Refusal
+pub mod ReplayLine
+pub mod Replayed
+pub mod Runs
+pub mod Script
+pub mod Spelled

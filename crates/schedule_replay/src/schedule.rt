@@ -1,0 +1,72 @@
+ghost use Rattle.std.specs.Prelude.{◌≡◌, ◌≤◌, IfOk, string_bytes, vec_len};
+ghost use Rattle.schedule_replay.specs.Ends.{ReplayEnds};
+ghost use Rattle.outside_io.specs.Outside.{input, output, outside};
+ghost use Rattle.schedule_replay.specs.Replayed.{ReplaysAs};
+ghost use Rattle.schedule_replay.specs.Script.{IsReady, lists_of};
+
+use crate::fault::ReplayFault;
+use crate::line::Kind;
+use crate::reader::read_script;
+use crate::run::replay_text;
+use crate::script::Script;
+use ballot_record::Election;
+use outside_io::{Memory, Sink, Source};
+use probe_order::Salted;
+use std::alloc::Global;
+use step_core::{CastCore, WithdrawCore};
+
+fn salted(election: &Election) -> Salted
+    ensures bits { result.bits ≡ election.now.bits }
+    ensures salt { result.salt ≡ election.now.salt }
+{
+    Salted {
+        bits: election.bits(),
+        salt: election.salt(),
+    }
+}
+
+/// The text of the replay of an input.
+fn text_of(alloc: Global, election: &Election, script: Script) -> Result<String, Memory>
+    requires ready { IsReady election.now script }
+    requires some_list { 1 ≤ vec_len script.lists }
+    ensures { IfOk result (λ text. ReplaysAs script.kind election.now script.base.items
+        (lists_of script) script.schedule.items (string_bytes text)) }
+{
+    let Script {
+        base,
+        kind,
+        lists,
+        schedule,
+        ..
+    } = script;
+    let tabs = lists.len();
+    let order = salted(election);
+    let limit = election.limit();
+    match kind {
+        Kind::Cast => {
+            let core = CastCore::new(alloc, order, limit, &base, lists)?;
+            replay_text(alloc, core, tabs, &schedule)
+        }
+        Kind::Withdraw => {
+            let core = WithdrawCore::new(alloc, order, limit, &base, lists)?;
+            replay_text(alloc, core, tabs, &schedule)
+        }
+    }
+}
+
+/// Replays the schedule of a script over a phase, and writes what comes of it. The first bad line ends the run, and
+/// nothing is written.
+pub fn replay<S: Source, K: Sink>(
+    alloc: Global,
+    election: &Election,
+    script: &mut S,
+    out: &mut K,
+) -> Result<(), ReplayFault>
+    ensures { ReplayEnds election.now result
+        (outside (input S.left S.faults script.old) (output K.taken K.faults out.old))
+        (outside (input S.left S.faults script.new) (output K.taken K.faults out.new)) }
+{
+    let input = read_script(alloc, election, script)?;
+    let text = text_of(alloc, election, input)?;
+    Ok(out.write_all(text.as_str().as_bytes())?)
+}

@@ -1,0 +1,198 @@
+use crate::{ReplayFault, replay};
+use ballot_record::{Contest, Election, LineWhy};
+use outside_io::{MemorySink, MemorySource, SureSink, SureSource};
+use std::alloc::Global;
+use std::test::Fail;
+
+const RACE: &str = "start\ncast 2\nlist 1 1\nlist 2 9\nsteps 1 2 2 1 2 1 2 2\n";
+
+const RACE_TEXT: &str = "steps 8\ncell 4 9\nrest\ncell 4 9\ncell 5 1\n1 1 accepted\n2 1 accepted\n";
+
+const STALE: &str =
+    "start 1 9 14 22\nwithdraw 2\nlist 1 22\nlist 2 9\nsteps 1 1 1 1 1 1 2 2 2 2 2 2 2 2 2 2 1\n";
+
+const STALE_TEXT: &str =
+    "steps 17\ncell 4 9\ncell 5 14\ncell 6 1\nrest\ncell 4 1\ncell 5 14\n1 1 withdrawn\n2 1 withdrawn\n";
+
+const HELD: &str = "start 9\ncast 1\nlist 1 9 1";
+
+const HELD_TEXT: &str = "steps 0\ncell 4 9\nrest\ncell 4 9\ncell 5 1\n1 1 held\n1 2 accepted\n";
+
+const REPLIES: &str = "start 1 9 14 22\nwithdraw 1\nlist 1 22 9 9 5";
+
+const REPLIES_TEXT: &str =
+    "steps 0\ncell 4 22\ncell 5 14\ncell 6 9\ncell 7 1\nrest\ncell 4 1\ncell 5 14\n1 1 withdrawn\n1 2 withdrawn\n1 3 gone\n1 4 absent\n";
+
+const IN_PARTS: &str =
+    "start\ncast 2\nlist 2 9\nlist 1\nlist 1 1\nsteps\nsteps 1 2 2 1\nsteps 2 1 2 2\n";
+
+const FULL: &str = "start 5\ncast 1\nlist 1 7";
+
+const FULL_TEXT: &str = "steps 0\ncell 0 5\nrest\ncell 0 5\n1 1 full\n";
+
+fn replayed(
+    alloc: Global,
+    election: &Election,
+    script: &str,
+) -> Result<Result<String, ReplayFault>, Fail> {
+    let mut source = SureSource::new(Vec::from_slice(alloc, script.as_bytes())?);
+    let mut sink = MemorySink::new(alloc, 65536, Vec::new(alloc))?;
+    match replay(alloc, election, &mut source, &mut sink) {
+        Ok(()) => Ok(Ok(String::from_utf8_lossy(alloc, sink.bytes())?)),
+        Err(fault) => Ok(Err(fault)),
+    }
+}
+
+#[test]
+fn what_is_written(rt: HostRuntime) -> Result<(), Fail> {
+    let rows = [
+        (RACE, RACE_TEXT),
+        (STALE, STALE_TEXT),
+        (HELD, HELD_TEXT),
+        (REPLIES, REPLIES_TEXT),
+        (IN_PARTS, RACE_TEXT),
+    ];
+    for (script, text) in rows {
+        match replayed(rt.alloc(), &Election::example(), script)? {
+            Ok(written) => assert_eq!(rt; written.as_str(), text),
+            Err(fault) => assert!(rt; false, "{fault} in {script}"),
+        }
+    }
+    Ok(())
+}
+
+#[test]
+fn no_room_for_a_second(rt: HostRuntime) -> Result<(), Fail> {
+    let contest = Contest {
+        choices: 1,
+        allowed: 1,
+    };
+    let election = Election::from_parts(&[contest], &[1], 1, 0, 0).ok_or("no election")?;
+    match replayed(rt.alloc(), &election, FULL)? {
+        Ok(written) => assert_eq!(rt; written.as_str(), FULL_TEXT),
+        Err(fault) => assert!(rt; false, "{fault}"),
+    }
+    Ok(())
+}
+
+#[test]
+fn what_is_refused(rt: HostRuntime) -> Result<(), Fail> {
+    let rows = [
+        ("", 1, LineWhy::Malformed),
+        ("start 9 9", 1, LineWhy::Invalid),
+        ("start 1 2 3 4 5 6 7 8 9", 1, LineWhy::Invalid),
+        ("start", 2, LineWhy::Malformed),
+        ("cast 2", 1, LineWhy::Malformed),
+        ("start\nlist 1 1", 2, LineWhy::Malformed),
+        ("start\ncast 0", 2, LineWhy::Malformed),
+        ("start\ncast 65", 2, LineWhy::Malformed),
+        ("start\ncast 1 1", 2, LineWhy::Malformed),
+        ("start\ncast 1\nlist 2 7", 3, LineWhy::Invalid),
+        ("start\ncast 2\nlist 3 0", 3, LineWhy::Malformed),
+        ("start\ncast 2\nlist 65 1", 3, LineWhy::Malformed),
+        ("start\ncast 2\nlist", 3, LineWhy::Malformed),
+        ("start\ncast 2\nsteps 1 3", 3, LineWhy::Invalid),
+        ("start\ncast 2\nsteps 65", 3, LineWhy::Malformed),
+        ("start\ncast 2\nsteps 1\nlist 1 1", 4, LineWhy::Malformed),
+        ("start\ncast 2\nsteps  1", 3, LineWhy::Malformed),
+        ("start\ncast 2\nsteps 1 ", 3, LineWhy::Malformed),
+        ("start\ncast 2\ncast 2", 3, LineWhy::Malformed),
+        (
+            "start\ncast 2\nlist 1 18446744073709551616",
+            3,
+            LineWhy::Malformed,
+        ),
+    ];
+    for (script, line, why) in rows {
+        match replayed(rt.alloc(), &Election::example(), script)? {
+            Ok(written) => assert!(rt; false, "{written} for {script}"),
+            Err(fault) => assert_eq!(rt; fault, ReplayFault::BadLine { line, why }, "{script}"),
+        }
+    }
+    Ok(())
+}
+
+/// What a replay answers whose source and sink fail at these calls, and what it has written.
+fn faulted(
+    alloc: Global,
+    script: &str,
+    failing_reads: &[u64],
+    failing_writes: &[u64],
+    room: usize,
+) -> Result<(Result<(), ReplayFault>, usize), Fail> {
+    let bytes = Vec::from_slice(alloc, script.as_bytes())?;
+    let mut source = MemorySource::new(bytes, Vec::from_slice(alloc, failing_reads)?);
+    let mut sink = MemorySink::new(alloc, room, Vec::from_slice(alloc, failing_writes)?)?;
+    let answer = replay(alloc, &Election::example(), &mut source, &mut sink);
+    Ok((answer, sink.bytes().len()))
+}
+
+#[test]
+fn what_fails_outside(rt: HostRuntime) -> Result<(), Fail> {
+    let alloc = rt.alloc();
+    let few = RACE_TEXT.len() - 1;
+
+    // The source fails at once, and where its end was to be found.
+    let (answer, written) = faulted(alloc, RACE, &[1], &[], 65536)?;
+    assert_eq!(rt; answer, Err(ReplayFault::ReadFault));
+    assert_eq!(rt; written, 0);
+    let (answer, written) = faulted(alloc, RACE, &[2], &[], 65536)?;
+    assert_eq!(rt; answer, Err(ReplayFault::ReadFault));
+    assert_eq!(rt; written, 0);
+
+    // A bad line that is whole is told first.
+    let (answer, written) = faulted(alloc, "cast 2\n", &[2], &[], 65536)?;
+    let bad = ReplayFault::BadLine {
+        line: 1,
+        why: LineWhy::Malformed,
+    };
+    assert_eq!(rt; answer, Err(bad));
+    assert_eq!(rt; written, 0);
+
+    // The sink fails, or has no room for the whole text.
+    let (answer, written) = faulted(alloc, RACE, &[], &[1], 65536)?;
+    assert_eq!(rt; answer, Err(ReplayFault::WriteFault));
+    assert_eq!(rt; written, 0);
+    let (answer, written) = faulted(alloc, RACE, &[], &[], few)?;
+    assert_eq!(rt; answer, Err(ReplayFault::WriteFault));
+    assert_eq!(rt; written, 0);
+    let (answer, written) = faulted(alloc, RACE, &[], &[], RACE_TEXT.len())?;
+    assert_eq!(rt; answer, Ok(()));
+    assert_eq!(rt; written, RACE_TEXT.len());
+    Ok(())
+}
+
+#[test]
+fn a_sink_that_tells_nothing(rt: HostRuntime) -> Result<(), Fail> {
+    let alloc = rt.alloc();
+    let mut source = SureSource::new(Vec::from_slice(alloc, STALE.as_bytes())?);
+    let answer = replay(
+        alloc,
+        &Election::example(),
+        &mut source,
+        &mut SureSink::new(),
+    );
+    assert_eq!(rt; answer, Ok(()));
+    Ok(())
+}
+
+#[test]
+fn a_line_too_wide(rt: HostRuntime) -> Result<(), Fail> {
+    let alloc = rt.alloc();
+    let mut script = String::new(alloc);
+    script.push_str("start\ncast 1\nsteps")?;
+    for _ in 0..4096 {
+        script.push_str(" 1")?;
+    }
+    match replayed(alloc, &Election::example(), script.as_str())? {
+        Ok(written) => assert!(rt; false, "{written}"),
+        Err(fault) => assert_eq!(rt;
+            fault,
+            ReplayFault::BadLine {
+                line: 3,
+                why: LineWhy::Malformed
+            }
+        ),
+    }
+    Ok(())
+}
