@@ -2,8 +2,10 @@ mod Building
 mod Carrying
 mod Causes
 mod Index
+mod Making
 mod OneAnswer
 mod OneBuild
 mod OneElection
+mod OneInit
 mod Reading
 mod Texts

@@ -38,6 +38,9 @@ build_decides e status.WriteFault before after text is decided ends = absurd dec
 build_decides e status.Memory before after text is decided ends = absurd decided
 build_decides e status.Usage before after text is decided ends = ends
 build_decides e status.BadElection before after text is decided ends = ends
+build_decides e status.DiskFault before after text is decided ends = ends
+build_decides e status.Exists before after text is decided ends = ends
+build_decides e (status.WrongSize size) before after text is decided ends = ends
 
 -- what lines build is no set and a bad line both
 ok_err : {A B : Type 0} (a : A) (b : B) → Ok a ≡ Err b → ⊥
@@ -76,5 +79,8 @@ one_build e text status.BadElection b x y = absurd x
 one_build e text (status.ReadFault which) b x y = absurd x
 one_build e text status.WriteFault b x y = absurd x
 one_build e text status.Memory b x y = absurd x
+one_build e text status.DiskFault b x y = absurd x
+one_build e text status.Exists b x y = absurd x
+one_build e text (status.WrongSize size) b x y = absurd x
 one_build e text a (status.TooLong which.Election) x y = absurd y
 one_build e text a other x y = absurd y

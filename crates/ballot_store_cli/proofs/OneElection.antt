@@ -26,6 +26,9 @@ refusal_decides status.Memory old new text is decided refused = absurd decided
 refusal_decides status.Ok old new text is decided refused = refused
 refusal_decides status.Usage old new text is decided refused = refused
 refusal_decides (status.BadLine line why) old new text is decided refused = refused
+refusal_decides status.DiskFault old new text is decided refused = refused
+refusal_decides status.Exists old new text is decided refused = refused
+refusal_decides (status.WrongSize size) old new text is decided refused = refused
 
 pub election_decides_one : (text : List ℕ) (a b : Status) → DecidesElection text a → DecidesElection text b → a ≡ b
 election_decides_one text status.BadElection status.BadElection x y = refl
@@ -39,6 +42,9 @@ election_decides_one text (status.ReadFault which) b x y = absurd x
 election_decides_one text status.WriteFault b x y = absurd x
 election_decides_one text status.Memory b x y = absurd x
 election_decides_one text (status.BadLine line why) b x y = absurd x
+election_decides_one text status.DiskFault b x y = absurd x
+election_decides_one text status.Exists b x y = absurd x
+election_decides_one text (status.WrongSize size) b x y = absurd x
 election_decides_one text a (status.TooLong which.Script) x y = absurd y
 election_decides_one text a other x y = absurd y
 
@@ -53,3 +59,6 @@ none_refused text status.Memory e few describes refused = refused
 none_refused text status.Ok e few describes refused = refused
 none_refused text status.Usage e few describes refused = refused
 none_refused text (status.BadLine line why) e few describes refused = refused
+none_refused text status.DiskFault e few describes refused = refused
+none_refused text status.Exists e few describes refused = refused
+none_refused text (status.WrongSize size) e few describes refused = refused

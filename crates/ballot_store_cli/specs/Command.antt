@@ -1,7 +1,7 @@
 -- The words that the program is called with: a medium, an election, and a command.
 use Rattle.std.specs.Prelude.{◌≡◌, ◌≢◌, ℕ, List, [], ◌∷◌, codes}
 use Rattle.ballot_store_cli.specs.declared.command.Command.{Command}
-use Rattle.ballot_store_cli.specs.declared.command.Command.TheVariants.{Build, Replay}
+use Rattle.ballot_store_cli.specs.declared.command.Command.TheVariants.{Build, Init, Replay}
 
 abbrev pub DASH : ℕ
 DASH = 45
@@ -14,6 +14,7 @@ IsPlain (byte ∷ bytes) = byte ≢ DASH
 -- the words from the third on name this command
 abbrev pub Names : List (List ℕ) → Command → Type 0
 Names words Build = words ≡ codes "build" ∷ []
+Names words Init = words ≡ codes "init" ∷ []
 Names words Replay = words ≡ codes "replay" ∷ []
 
 -- they name no command

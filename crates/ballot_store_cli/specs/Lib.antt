@@ -2,7 +2,9 @@ pub mod Ballots
 pub mod Build
 pub mod Command
 pub mod ElectionText
+pub mod Init
 pub mod Outcome
 pub mod Replay
 pub mod Script
 pub mod Status
+pub mod World

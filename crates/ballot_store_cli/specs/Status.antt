@@ -2,7 +2,7 @@
 use Rattle.std.specs.Prelude.{ℕ, List, ◌++◌, codes, Result, Ok as Fine, Err}
 use Rattle.std.specs.Fmt.{decimal}
 use Rattle.ballot_store_cli.specs.declared.status.Status.{Status}
-use Rattle.ballot_store_cli.specs.declared.status.Status.TheVariants.{Ok, Usage, BadElection, TooLong, ReadFault, WriteFault, Memory, BadLine}
+use Rattle.ballot_store_cli.specs.declared.status.Status.TheVariants.{Ok, Usage, BadElection, TooLong, DiskFault, ReadFault, WriteFault, Memory, Exists, WrongSize, BadLine}
 use Rattle.ballot_store_cli.specs.declared.status.Which.TheVariants.{Election, Script}
 use Rattle.ballot_store_cli.specs.declared.build.BuildFault.{BuildFault}
 use Rattle.ballot_store_cli.specs.declared.build.script.ScriptFault.{ScriptFault}
@@ -10,6 +10,10 @@ use Rattle.ballot_store_cli.specs.declared.build.script.ScriptFault.TheVariants 
 use Rattle.election_def.specs.declared.fault.ElectionFault.{ElectionFault}
 use Rattle.election_def.specs.declared.fault.ElectionFault.TheVariants as election
 use Rattle.ballot_store_cli.specs.declared.build.BuildFault.TheVariants as build
+use Rattle.ballot_store_cli.specs.declared.init.NewFault.{NewFault}
+use Rattle.ballot_store_cli.specs.declared.init.NewFault.TheVariants as new
+use Rattle.checkpoint.specs.declared.fresh.InitFault.{InitFault}
+use Rattle.checkpoint.specs.declared.fresh.InitFault.TheVariants as init
 use Rattle.schedule_replay.specs.declared.fault.ReplayFault.{ReplayFault}
 use Rattle.schedule_replay.specs.declared.fault.ReplayFault.TheVariants as replay
 use Rattle.ballot_store_cli.specs.declared.election.NoElection.{NoElection}
@@ -20,9 +24,12 @@ exit_status Ok = 0
 exit_status Usage = 2
 exit_status BadElection = 3
 exit_status (TooLong which) = 4
+exit_status DiskFault = 5
 exit_status (ReadFault which) = 6
 exit_status WriteFault = 7
 exit_status Memory = 8
+exit_status Exists = 12
+exit_status (WrongSize size) = 13
 exit_status (BadLine line why) = 15
 
 abbrev pub status_text : Status → List ℕ
@@ -31,14 +38,18 @@ status_text Usage = codes "usage"
 status_text BadElection = codes "bad election"
 status_text (TooLong Election) = codes "election too long"
 status_text (TooLong Script) = codes "script too long"
+status_text DiskFault = codes "disk fault"
 status_text (ReadFault Election) = codes "election read fault"
 status_text (ReadFault Script) = codes "script read fault"
 status_text WriteFault = codes "write fault"
 status_text Memory = codes "out of memory"
+status_text Exists = codes "store exists"
+status_text (WrongSize size) = codes "wrong size " ++ decimal size
 status_text (BadLine line why) = codes "bad line " ++ decimal line
 
 -- the status is neither a fault of the outside nor want of memory
 abbrev pub IsDecided : Status → Type 0
+IsDecided DiskFault = ⊥
 IsDecided (ReadFault which) = ⊥
 IsDecided WriteFault = ⊥
 IsDecided Memory = ⊥
@@ -58,6 +69,13 @@ build_fault_status build.TooLong = TooLong Script
 build_fault_status build.ReadFault = ReadFault Script
 build_fault_status build.WriteFault = WriteFault
 build_fault_status build.Memory = Memory
+
+abbrev pub new_fault_status : NewFault → Status
+new_fault_status (new.WrongSize size) = WrongSize size
+new_fault_status new.Exists = Exists
+new_fault_status new.DiskFault = DiskFault
+new_fault_status new.WriteFault = WriteFault
+new_fault_status new.Memory = Memory
 
 abbrev pub replay_fault_status : ReplayFault → Status
 replay_fault_status (replay.BadLine line why) = BadLine line why
@@ -79,6 +97,12 @@ ended (Err status) = status
 abbrev pub no_election : ElectionFault → NoElection
 no_election election.NotElection = none.BadText
 no_election election.Memory = none.Memory
+
+abbrev pub new_fault : InitFault → NewFault
+new_fault (init.WrongSize size) = new.WrongSize size
+new_fault init.Exists = new.Exists
+new_fault init.DiskFault = new.DiskFault
+new_fault init.Memory = new.Memory
 
 abbrev pub build_fault : ScriptFault → BuildFault
 build_fault (script.BadLine line why) = build.BadLine line why

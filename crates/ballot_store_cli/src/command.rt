@@ -6,6 +6,8 @@ ghost use Rattle.ballot_store_cli.specs.Command.{Forms, FormNone, IsPlain, NameN
 pub enum Command {
     /// Write the image of a set of record lines.
     Build,
+    /// Make an unused disk the medium of the empty set.
+    Init,
     /// Replay a schedule of steps over a phase, and write what comes of it.
     Replay,
 }
@@ -26,6 +28,7 @@ fn command_named(word: &str) -> Option<Command>
 {
     match word {
         "build" => Some(Command::Build),
+        "init" => Some(Command::Init),
         "replay" => Some(Command::Replay),
         _ => None,
     }

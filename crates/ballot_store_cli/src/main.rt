@@ -4,14 +4,17 @@
 mod build;
 mod command;
 mod election;
+mod init;
 pub mod laws;
 mod run;
 mod status;
 mod streams;
 
+use crash_disk::FileDisk;
 use outside_io::{FileSource, StdinSource, StdoutSink};
 pub use run::run;
 pub use status::{Status, Which};
+use std::os::unix::fs::FileExt;
 use std::process::ExitCode;
 use std::rt::{Env, Files};
 use std::thread::Threads;
@@ -33,6 +36,7 @@ fn words_of(rt: &(impl Env + AllocGlobal)) -> Result<Vec<String>, Status> {
 fn status_of<R>(rt: &R) -> Status
 where
     R: Threads + Sync + Env + Files + Input + Print + AllocGlobal,
+    R::File: FileExt,
 {
     match words_of(rt) {
         Ok(words) => run(
@@ -42,6 +46,7 @@ where
             &mut FileSource::new(rt, words.get(1).map_or("", |path| path.as_str())),
             &mut StdinSource::new(rt),
             &mut StdoutSink::new(rt),
+            &mut FileDisk::new(rt, words.first().map_or("", |path| path.as_str())),
         ),
         Err(status) => status,
     }

@@ -2,6 +2,7 @@ ghost use Rattle.std.specs.Prelude.{◌≡◌};
 
 use crate::build::BuildFault;
 use crate::election::NoElection;
+use crate::init::NewFault;
 use ballot_record::LineWhy;
 use schedule_replay::ReplayFault;
 use std::fmt;
@@ -24,12 +25,18 @@ pub enum Status {
     BadElection,
     /// A source gave more bytes than its limit.
     TooLong { which: Which },
+    /// The disk failed.
+    DiskFault,
     /// A source failed.
     ReadFault { which: Which },
     /// The sink failed.
     WriteFault,
     /// There was no memory.
     Memory,
+    /// There is a store on the disk already.
+    Exists,
+    /// The disk has more bytes than a medium, so many.
+    WrongSize { size: u64 },
     /// A line of a script was refused; lines count from 1.
     BadLine { line: u64, why: LineWhy },
 }
@@ -46,9 +53,12 @@ impl Status {
             Status::Usage => 2,
             Status::BadElection => 3,
             Status::TooLong { .. } => 4,
+            Status::DiskFault => 5,
             Status::ReadFault { .. } => 6,
             Status::WriteFault => 7,
             Status::Memory => 8,
+            Status::Exists => 12,
+            Status::WrongSize { .. } => 13,
             Status::BadLine { .. } => 15,
         }
     }
@@ -95,6 +105,23 @@ impl From<BuildFault> for Status {
     }
 }
 
+impl From<NewFault> for Status {
+    ghost use Rattle.std.specs.Prelude.{◌≡◌};
+    ghost use Rattle.ballot_store_cli.specs.Status.{new_fault_status};
+
+    ghost from_gives = { λ fault status. status ≡ new_fault_status fault };
+
+    fn from(fault: NewFault) -> Self {
+        match fault {
+            NewFault::WrongSize { size } => Status::WrongSize { size },
+            NewFault::Exists => Status::Exists,
+            NewFault::DiskFault => Status::DiskFault,
+            NewFault::WriteFault => Status::WriteFault,
+            NewFault::Memory => Status::Memory,
+        }
+    }
+}
+
 impl From<ReplayFault> for Status {
     ghost use Rattle.std.specs.Prelude.{◌≡◌};
     ghost use Rattle.ballot_store_cli.specs.Status.{replay_fault_status};
@@ -133,6 +160,7 @@ impl fmt::Display for Status {
             Status::TooLong {
                 which: Which::Script,
             } => f.write_str("script too long"),
+            Status::DiskFault => f.write_str("disk fault"),
             Status::ReadFault {
                 which: Which::Election,
             } => f.write_str("election read fault"),
@@ -141,6 +169,8 @@ impl fmt::Display for Status {
             } => f.write_str("script read fault"),
             Status::WriteFault => f.write_str("write fault"),
             Status::Memory => f.write_str("out of memory"),
+            Status::Exists => f.write_str("store exists"),
+            Status::WrongSize { size } => write!(f, "wrong size {size}"),
             Status::BadLine { line, .. } => write!(f, "bad line {line}"),
         }
     }

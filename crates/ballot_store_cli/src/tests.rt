@@ -3,12 +3,15 @@ ghost use Rattle.std.proofs.Common.{arith};
 
 use crate::{Status, Which, run};
 use ballot_record::LineWhy;
+use crash_disk::{Disk, SureDisk};
 use election_def::ElectionFault;
 use outside_io::{Failed, MemorySink, MemorySource, Sink, Source, SureSink, SureSource};
 use std::alloc::{AllocError, Global};
+use std::process::Abort;
 use std::test::Fail;
 use std::thread::Threads;
 
+mod init;
 mod replay;
 
 fn words(alloc: Global, texts: &[&str]) -> Result<Vec<String>, AllocError> {
@@ -21,7 +24,27 @@ fn words(alloc: Global, texts: &[&str]) -> Result<Vec<String>, AllocError> {
 
 const BUILD: [&str; 3] = ["medium", "election.json", "build"];
 
-// How the run of these words ends. Each test comes to `run` through this.
+// How the run of these words ends on a disk. Each test comes to `run` through this.
+fn ends_on<R, E, S, K, D>(
+    rt: &R,
+    texts: &[&str],
+    election: &mut E,
+    script: &mut S,
+    out: &mut K,
+    disk: &mut D,
+) -> Result<Status, Fail>
+where
+    R: Threads + Sync + AllocGlobal + Abort,
+    E: Source,
+    S: Source,
+    K: Sink,
+    D: Disk,
+{
+    let words = words(rt.alloc(), texts)?;
+    Ok(run(rt, rt.alloc(), &words, election, script, out, disk))
+}
+
+// How the run of these words ends where they need no disk: it makes no call of one.
 fn ends<R, E, S, K>(
     rt: &R,
     texts: &[&str],
@@ -30,13 +53,15 @@ fn ends<R, E, S, K>(
     out: &mut K,
 ) -> Result<Status, Fail>
 where
-    R: Threads + Sync + AllocGlobal,
+    R: Threads + Sync + AllocGlobal + Abort,
     E: Source,
     S: Source,
     K: Sink,
 {
-    let words = words(rt.alloc(), texts)?;
-    Ok(run(rt, rt.alloc(), &words, election, script, out))
+    let mut disk = SureDisk::new();
+    let status = ends_on(rt, texts, election, script, out, &mut disk)?;
+    assert_eq!(rt; disk.calls(), 0);
+    Ok(status)
 }
 
 // A script source of so many bytes `a`, which gives its bytes in pieces of at most so many, and tells none.
@@ -98,7 +123,7 @@ fn example(alloc: Global) -> Result<SureSource, AllocError> {
 // How `build` ends for an election and a script in memory, and what the sink took.
 fn build_under<R>(rt: &R, election: &[u8], script: &[u8]) -> Result<(Status, Vec<u8>), Fail>
 where
-    R: Threads + Sync + AllocGlobal,
+    R: Threads + Sync + AllocGlobal + Abort,
 {
     let alloc = rt.alloc();
     let mut election = MemorySource::new(election.to_vec(alloc)?, Vec::new(alloc));
@@ -111,7 +136,7 @@ where
 // How `build` ends for a script in memory under the election of the examples, and what the sink took.
 fn build_of<R>(rt: &R, script: &[u8]) -> Result<(Status, Vec<u8>), Fail>
 where
-    R: Threads + Sync + AllocGlobal,
+    R: Threads + Sync + AllocGlobal + Abort,
 {
     build_under(rt, EXAMPLE, script)
 }
@@ -383,12 +408,13 @@ fn width_and_faults_of_the_election(rt: HostRuntime) -> Result<(), Fail> {
 #[test]
 fn command_forms(rt: HostRuntime) -> Result<(), Fail> {
     let alloc = rt.alloc();
-    let rows: [(&[&str], Status); 11] = [
+    let rows: [(&[&str], Status); 12] = [
         (&["m", "e", "build"], Status::Ok),
         (&[], Status::Usage),
         (&["m", "e"], Status::Usage),
         (&["m", "e", "sort"], Status::Usage),
         (&["m", "e", "build", "x"], Status::Usage),
+        (&["m", "e", "init", "x"], Status::Usage),
         (&["m", "e", "Replay"], Status::Usage),
         (&["m", "e", ""], Status::Usage),
         (&["", "e", "build"], Status::Usage),
@@ -443,8 +469,11 @@ fn status_texts(rt: HostRuntime) -> Result<(), Fail> {
             6,
             "script read fault",
         ),
+        (Status::DiskFault, 5, "disk fault"),
         (Status::WriteFault, 7, "write fault"),
         (Status::Memory, 8, "out of memory"),
+        (Status::Exists, 12, "store exists"),
+        (Status::WrongSize { size: 611 }, 13, "wrong size 611"),
         (
             Status::BadLine {
                 line: 12,

@@ -4,6 +4,7 @@ use super::{EXAMPLE, ends};
 use crate::{Status, Which};
 use ballot_record::LineWhy;
 use outside_io::{MemorySink, MemorySource};
+use std::process::Abort;
 use std::test::Fail;
 use std::thread::Threads;
 
@@ -12,7 +13,7 @@ const REPLAY: [&str; 3] = ["medium", "election.json", "replay"];
 // How `replay` ends for an election and a script in memory, and what the sink took.
 fn replay_under<R>(rt: &R, election: &[u8], script: &[u8]) -> Result<(Status, Vec<u8>), Fail>
 where
-    R: Threads + Sync + AllocGlobal,
+    R: Threads + Sync + AllocGlobal + Abort,
 {
     let alloc = rt.alloc();
     let mut election = MemorySource::new(election.to_vec(alloc)?, Vec::new(alloc));

@@ -1,5 +1,6 @@
 use Rattle.ballot_store_cli.proofs.OneAnswer.{one_answer}
+use Rattle.ballot_store_cli.specs.World.{disk_model}
 use Rattle.ballot_store_cli.proofs.laws.one_answer.Goals as goal
 
 pub returns : goal.returns
-returns g c = one_answer
+returns g c = one_answer (disk_model g.D.Disk.seen g.D.Disk.calls g.D.Disk.may_leave g.D.Disk.faults)

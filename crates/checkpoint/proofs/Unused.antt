@@ -1,0 +1,96 @@
+-- An unused disk becomes the medium of the empty set.
+use Rattle.std.proofs.Common.{◌≡◌, ℕ, ◌+◌, ◌*◌, ◌≤◌, ◌<◌, List, [], ◌∷◌, ◌++◌, length, get_or, drop, sym, ◌∙◌, ap, inl, inr, ⊎_elim, arith, length-append}
+use Rattle.std.proofs.lemmas.Bool.{cases_eq}
+use Rattle.std.proofs.lemmas.List.{append-nil, drop_all}
+use Rattle.crash_disk.proofs.TornBytes.{overwritten-next, torn-before, torn-byte_behind, torn-size}
+use Rattle.checkpoint.proofs.Pages.{Fits}
+use Rattle.image_builder.proofs.MediumParts.{bank_a, bank_b, part_a, part_b}
+use Rattle.store_spec.specs.Ballot.{Ballot}
+use Rattle.store_spec.specs.Disk.{overwritten, IsTorn}
+use Rattle.store_spec.specs.Election.{Election, bank_size, medium_size}
+use Rattle.store_spec.specs.Image.{image_of}
+use Rattle.store_spec.specs.Medium.{Bank, HoldsAtMost, HoldsSet, IsChosen, IsOpen, IsUnread, IsUnused, bank_of, gate_place, medium_of, open_gate}
+use Rattle.store_spec.specs.Medium.Bank.{A, B}
+
+-- while its banks are written it stays unused
+pub unused_torn : (e : Election) (at k : ℕ) (old c : List ℕ) → at + k ≤ 2 * bank_size e → IsUnused e old → IsTorn at k old c → IsUnused e c
+unused_torn e at k old c within unused torn =
+    ⊎_elim
+    (λ (short : length old < medium_size e). inl (omega (arith, torn.no_longer)))
+    (λ (shut : (length old ≡ medium_size e) × (¬ IsOpen e A old) × (¬ IsOpen e B old)).
+    let size : length c ≡ length old = let fits : at + k ≤ length old = omega (arith, shut.0) in torn-size at k old c fits torn in
+    inr (
+      size ∙ shut.0,
+      λ opened. shut.1 (sym (torn-byte_behind at k (gate_place e A) old c (omega arith) torn) ∙ opened),
+      λ opened. shut.2 (sym (torn-byte_behind at k (gate_place e B) old c (omega arith) torn) ∙ opened),
+    ))
+    unused
+
+-- neither bank is read
+pub unused_unread : (e : Election) (bank : Bank) (c : List ℕ) → IsUnused e c → IsUnread e bank c
+unused_unread e A c unused = ⊎_elim inl (λ (shut : (length c ≡ medium_size e) × (¬ IsOpen e A c) × (¬ IsOpen e B c)). inr shut.1) unused
+unused_unread e B c unused = ⊎_elim inl (λ (shut : (length c ≡ medium_size e) × (¬ IsOpen e A c) × (¬ IsOpen e B c)). inr shut.2) unused
+
+-- it has no more bytes than a medium
+pub unused_small : (e : Election) (bytes : List ℕ) → IsUnused e bytes → length bytes ≤ medium_size e
+unused_small e bytes unused = ⊎_elim (λ (short : length bytes < medium_size e). omega arith) (λ (shut : (length bytes ≡ medium_size e) × (¬ IsOpen e A bytes) × (¬ IsOpen e B bytes)). omega (arith, shut.0)) unused
+
+no_bank : (e : Election) (c : List ℕ) (bank : Bank) → ¬ IsOpen e A c → ¬ IsOpen e B c → IsChosen e c bank → ⊥
+no_bank e c A a b chosen = a chosen
+no_bank e c B a b chosen = b chosen.1
+
+-- it holds nothing
+pub unused_holds : (e : Election) (c : List ℕ) → IsUnused e c → (set : List Ballot) → ¬ HoldsSet e c set
+unused_holds e c unused set held =
+    ⊎_elim
+    (λ (short : length c < medium_size e). absurd (omega (arith, held.size)))
+    (λ (shut : (length c ≡ medium_size e) × (¬ IsOpen e A c) × (¬ IsOpen e B c)). no_bank e c held.bank shut.1 shut.2 held.chosen)
+    unused
+
+module _ (e : Election) (ballots : List Ballot) (start : List ℕ) (fits : Fits e ballots) (small : length start ≤ medium_size e) where
+  both_long : length (image_of e ballots ++ image_of e ballots) ≡ 2 * bank_size e
+  both_long = omega (arith, length-append (image_of e ballots) (image_of e ballots), fits.long)
+
+  -- while the gates are opened it holds this set or nothing
+  pub opening_holds : (c : List ℕ) → IsTorn (2 * bank_size e) 2 (overwritten 0 (image_of e ballots ++ image_of e ballots) start) c → HoldsAtMost e ballots c
+  opening_holds c torn =
+      let size = bank_size e in
+      let rest = drop (0 + length (image_of e ballots ++ image_of e ballots)) start in
+      let mid = image_of e ballots ++ image_of e ballots ++ rest in
+      let first : bank_of e A c ≡ image_of e ballots =
+      torn-before (2 * size) 2 mid c 0 (0 + size) (omega arith) torn ∙ bank_a e mid ∙ part_a size (image_of e ballots) (image_of e ballots) rest fits.long fits.long in
+      let second : bank_of e B c ≡ image_of e ballots =
+      torn-before (2 * size) 2 mid c size (size + size) (omega arith) torn ∙ bank_b e mid ∙ part_b size (image_of e ballots) (image_of e ballots) rest fits.long fits.long in
+      ⊎_elim
+      (λ (whole : length c ≡ medium_size e).
+      ⊎_elim
+      (λ (a : get_or c (gate_place e A) 0 ≡ open_gate). inl (record {
+        size = whole;
+        bank = A;
+        chosen = a;
+        image = record { set = fits.set; within_limit = fits.within_limit; bytes = first };
+      }))
+      (λ (no_a : ¬ (get_or c (gate_place e A) 0 ≡ open_gate)).
+      ⊎_elim
+      (λ (b : get_or c (gate_place e B) 0 ≡ open_gate). inl (record {
+        size = whole;
+        bank = B;
+        chosen = (no_a, b);
+        image = record { set = fits.set; within_limit = fits.within_limit; bytes = second };
+      }))
+      (λ (no_b : ¬ (get_or c (gate_place e B) 0 ≡ open_gate)). inr (λ set held. no_bank e c held.bank no_a no_b held.chosen))
+      (cases_eq (get_or c (gate_place e B) 0) open_gate))
+      (cases_eq (get_or c (gate_place e A) 0) open_gate))
+      (λ (other : ¬ (length c ≡ medium_size e)). inr (λ set held. other held.size))
+      (cases_eq (length c) (medium_size e))
+
+  -- and in the end it is the medium
+  pub opened_medium : overwritten (2 * bank_size e) (open_gate ∷ open_gate ∷ []) (overwritten 0 (image_of e ballots ++ image_of e ballots) start) ≡ medium_of e ballots
+  opened_medium =
+      let both = image_of e ballots ++ image_of e ballots in
+      let ends : List ℕ = open_gate ∷ open_gate ∷ [] in
+      let none : drop (0 + length (both ++ ends)) start ≡ [] = drop_all (0 + length (both ++ ends)) start (omega (arith, length-append both ends, both_long)) in
+      let from : 2 * bank_size e ≡ 0 + 2 * bank_size e = omega arith in
+      ap (λ k. overwritten k ends (overwritten 0 both start)) from
+      ∙ overwritten-next 0 (2 * bank_size e) both ends start (omega arith) both_long
+      ∙ ap (λ (xs : List ℕ). (both ++ ends) ++ xs) none ∙ append-nil (both ++ ends)

@@ -1,0 +1,24 @@
+-- Why a disk is not taken for a new store, and what a crash may leave of one that is.
+use Rattle.std.specs.Prelude.{◌≡◌, ◌⊎◌, ◌<◌, ℕ, List, [], length, Option}
+use Rattle.checkpoint.specs.declared.fresh.InitFault.{InitFault}
+use Rattle.checkpoint.specs.declared.fresh.InitFault.TheVariants.{WrongSize, Exists, DiskFault, Memory}
+use Rattle.store_spec.specs.Election.{Election, medium_size}
+use Rattle.store_spec.specs.Medium.{IsOpen, IsUnused, HoldsAtMost}
+use Rattle.store_spec.specs.Medium.Bank.{A, B}
+
+-- There are more bytes than a medium has, or as many and a gate is open. Faults of the disk and want of memory are told
+-- by no bytes.
+abbrev pub IsRefusedDisk : Election → List ℕ → InitFault → Type 0
+IsRefusedDisk e bytes (WrongSize size) = (size ≡ length bytes) × (medium_size e < size)
+IsRefusedDisk e bytes Exists = (length bytes ≡ medium_size e) × (IsOpen e A bytes ⊎ IsOpen e B bytes)
+IsRefusedDisk e bytes DiskFault = Unit {0}
+IsRefusedDisk e bytes Memory = Unit {0}
+
+-- nothing was written, unless the disk failed
+abbrev pub IsUnchangedAt : InitFault → Option (List ℕ) → Option (List ℕ) → Type 0
+IsUnchangedAt DiskFault old new = Unit {0}
+IsUnchangedAt fault old new = new ≡ old
+
+-- Nothing was written yet to a disk that had the first bytes, or it was unused, and these hold nothing or the empty set.
+abbrev pub IsUntouchedOrNew : Election → List ℕ → List ℕ → Type 0
+IsUntouchedOrNew e bytes image = (image ≡ bytes) ⊎ (IsUnused e bytes × HoldsAtMost e [] image)

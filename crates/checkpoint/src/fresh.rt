@@ -1,0 +1,168 @@
+//! A medium of the empty set, on a disk that holds no store yet.
+
+ghost use Rattle.std.specs.Prelude.{◌≡◌, ◌⊎◌, ◌+◌, ◌≤◌, ◌++◌, ℕ, List, [], Some, option_map, is_some, IsErrOf, IfErr, IfSome, OnOk, length};
+ghost use Rattle.std.specs.Option.{ForSome};
+ghost use Rattle.bank_medium.specs.Banks.{place_of};
+ghost use Rattle.body_store.specs.Contents.{IsStored};
+ghost use Rattle.image_builder.specs.Page.{page_size};
+ghost use Rattle.checkpoint.specs.Unused.{IsRefusedDisk, IsUnchangedAt, IsUntouchedOrNew};
+ghost use Rattle.outside_io.specs.Told.{AsTold};
+ghost use Rattle.store_spec.specs.Disk.{leaves_now, overwritten, IsSettled, LeavesOnly, SyncsFirst};
+ghost use Rattle.store_spec.specs.Fault.{CountsFault, CountsFaultIf};
+ghost use Rattle.store_spec.specs.Image.{image_of};
+ghost use Rattle.store_spec.specs.Medium.{HoldsAtMost, IsMediumOf, IsUnused};
+
+use ballot_record::Election;
+use bank_medium::{Bank, gates, open_both_gates, settle, write_page};
+use body_store::Closed;
+use crash_disk::Disk;
+use image_builder::{PAGE_BYTES, Scratch, image_part};
+use outside_io::{Failed, Memory};
+use std::alloc::Global;
+
+/// Why no medium was made.
+#[derive(Clone, Copy, Debug, PartialEq, Eq)]
+pub enum InitFault {
+    /// The disk has more bytes than a medium, so many.
+    WrongSize { size: u64 },
+    /// The disk has as many bytes as a medium, and a gate is open.
+    Exists,
+    /// The disk failed.
+    DiskFault,
+    /// There was no memory.
+    Memory,
+}
+
+impl From<Failed> for InitFault {
+    ghost use Rattle.std.specs.Prelude.{◌≡◌};
+    ghost use Rattle.checkpoint.specs.declared.fresh.InitFault.TheVariants as faults;
+
+    ghost from_gives = { λ _ fault. fault ≡ faults.DiskFault };
+
+    fn from(_: Failed) -> Self {
+        InitFault::DiskFault
+    }
+}
+
+impl From<Memory> for InitFault {
+    ghost use Rattle.std.specs.Prelude.{◌≡◌};
+    ghost use Rattle.checkpoint.specs.declared.fresh.InitFault.TheVariants as faults;
+
+    ghost from_gives = { λ _ fault. fault ≡ faults.Memory };
+
+    fn from(_: Memory) -> Self {
+        InitFault::Memory
+    }
+}
+
+/// Makes an unused disk the medium of the empty set: both banks are written and settled before the gates are opened.
+/// Until the first sync has returned a crash leaves what it might have left before. From then on nothing was written
+/// yet, or it leaves what holds nothing or the empty set.
+pub fn init<D: Disk>(
+    alloc: Global,
+    disk: &mut D,
+    election: &Election,
+    scratch: &mut Scratch,
+) -> Result<(), InitFault>
+    ensures medium { OnOk result (AsTold D.seen disk.old disk.new
+        (λ _ bytes. IsMediumOf election.now bytes [])) }
+    ensures settled { OnOk result (IsSettled D.seen D.calls D.may_leave disk.new) }
+    ensures unused { OnOk result (IfSome (D.seen disk.old) (IsUnused election.now)) }
+    ensures refused { IfErr result
+        (λ fault. IfSome (D.seen disk.old) (λ bytes. IsRefusedDisk election.now bytes fault)) }
+    ensures unchanged { IfErr result
+        (λ fault. IsUnchangedAt fault (D.seen disk.old) (D.seen disk.new)) }
+    ensures any_moment { (bytes : List ℕ) → D.seen disk.old ≡ Some bytes
+        → SyncsFirst D.calls D.may_leave disk.old disk.new (IsUntouchedOrNew election.now bytes) }
+    ensures fault { CountsFaultIf (IsErrOf result InitFault.DiskFault)
+        (D.faults disk.old) (D.faults disk.new) }
+{
+    settle(disk)?;
+    look(disk, election)?;
+    let closed = Closed::empty(alloc, election)?;
+    write_banks(disk, &closed, election, &mut scratch.made)?;
+    open_both_gates(disk, election)?;
+    Ok(())
+}
+
+/// Tells whether a disk is unused.
+fn look<D: Disk>(disk: &mut D, election: &Election) -> Result<(), InitFault>
+    requires { IsSettled D.seen D.calls D.may_leave disk.old }
+    ensures unused { OnOk result (IfSome (D.seen disk.old) (IsUnused election.now)) }
+    ensures refused { IfErr result
+        (λ fault. IfSome (D.seen disk.old) (λ bytes. IsRefusedDisk election.now bytes fault)) }
+    ensures same_bytes { D.seen disk.new ≡ D.seen disk.old }
+    ensures settled { IsSettled D.seen D.calls D.may_leave disk.new }
+    ensures any_moment { (bytes : List ℕ) → D.seen disk.old ≡ Some bytes
+        → LeavesOnly D.calls D.may_leave disk.old disk.new (λ c. c ≡ bytes) }
+    ensures fault { CountsFaultIf (IsErrOf result InitFault.DiskFault)
+        (D.faults disk.old) (D.faults disk.new) }
+{
+    let size = disk.size()?;
+    if size > election.medium_bytes() {
+        return Err(InitFault::WrongSize { size });
+    }
+    if size < election.medium_bytes() {
+        return Ok(());
+    }
+    match gates(disk, election)? {
+        (false, false) => Ok(()),
+        _ => Err(InitFault::Exists),
+    }
+}
+
+/// Writes both banks of an unused disk, and settles them.
+fn write_banks<D: Disk>(
+    disk: &mut D,
+    closed: &Closed,
+    election: &Election,
+    made: &mut [u8],
+) -> Result<(), Failed>
+    requires own { election.now ≡ closed.now.election }
+    requires made_page { length made.old ≡ page_size }
+    requires settled { IsSettled D.seen D.calls D.may_leave disk.old }
+    requires unused { ForSome (D.seen disk.old) (IsUnused election.now) }
+    ensures stored { IsStored closed.now }
+    ensures written { OnOk result (D.seen disk.new ≡ option_map
+        (overwritten 0 (image_of election.now closed.now.ballots
+        ++ image_of election.now closed.now.ballots)) (D.seen disk.old)) }
+    ensures settled { OnOk result (IsSettled D.seen D.calls D.may_leave disk.new) }
+    ensures any_moment { LeavesOnly D.calls D.may_leave disk.old disk.new (IsUnused election.now) }
+    ensures fault { CountsFault result (D.faults disk.old) (D.faults disk.new) }
+{
+    write_each_page(disk, closed, election, Bank::A, made)?;
+    write_each_page(disk, closed, election, Bank::B, made)?;
+    settle(disk)
+}
+
+/// Writes all pages of a bank of an unused disk, in ascending order. They are not settled yet.
+fn write_each_page<D: Disk>(
+    disk: &mut D,
+    closed: &Closed,
+    election: &Election,
+    bank: Bank,
+    made: &mut [u8],
+) -> Result<(), Failed>
+    requires own { election.now ≡ closed.now.election }
+    requires made_page { length made.old ≡ page_size }
+    requires begins { ForSome (D.seen disk.old) (λ old. place_of election.now bank ≤ length old) }
+    requires unused { (c : List ℕ) → leaves_now D.calls D.may_leave disk.old c
+        → IsUnused election.now c }
+    ensures stored { IsStored closed.now }
+    ensures written { OnOk result (D.seen disk.new
+        ≡ option_map (overwritten (place_of election.now bank)
+        (image_of election.now closed.now.ballots)) (D.seen disk.old)) }
+    ensures any_moment { LeavesOnly D.calls D.may_leave disk.old disk.new (IsUnused election.now) }
+    ensures fault { CountsFault result (D.faults disk.old) (D.faults disk.new) }
+{
+    let end = closed.election().bank_bytes();
+    let mut at = 0;
+    while at < end {
+        let count = PAGE_BYTES.min(end - at);
+        let page = &mut made[..count];
+        image_part(closed, election, at, page);
+        write_page(disk, election, bank, at, page)?;
+        at += count;
+    }
+    Ok(())
+}

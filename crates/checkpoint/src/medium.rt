@@ -1,0 +1,45 @@
+//! The checkpoint: a medium comes to hold another set.
+
+ghost use Rattle.std.specs.Prelude.{◌≡◌, ◌⊎◌, ℕ, List, Some, is_some, OnOk};
+ghost use Rattle.std.specs.Option.{ForSome};
+ghost use Rattle.body_store.specs.Contents.{IsStored};
+ghost use Rattle.outside_io.specs.Told.{AsTold};
+ghost use Rattle.store_spec.specs.Ballot.{Ballot};
+ghost use Rattle.store_spec.specs.Disk.{IsSettled, LeavesOnly};
+ghost use Rattle.store_spec.specs.Fault.{CountsFault};
+ghost use Rattle.store_spec.specs.Medium.{HoldsSet, IsMediumOf};
+
+use crate::renewal::renew_bank;
+use ballot_record::Election;
+use bank_medium::Bank;
+use body_store::Closed;
+use crash_disk::Disk;
+use image_builder::Scratch;
+use outside_io::Failed;
+
+/// Makes a medium that of a store: bank B is renewed and then bank A. Only pages that differ are written. At each moment
+/// a crash leaves a medium that holds the old set or that of the store. After `Failed` it is to be recovered.
+pub fn checkpoint<D: Disk>(
+    disk: &mut D,
+    closed: &Closed,
+    election: &Election,
+    scratch: &mut Scratch,
+) -> Result<(), Failed>
+    requires own { election.now ≡ closed.now.election }
+    requires settled { IsSettled D.seen D.calls D.may_leave disk.old }
+    requires medium { ForSome (D.seen disk.old)
+        (λ bytes. (old : List Ballot) × IsMediumOf election.now bytes old) }
+    ensures stored { OnOk result (IsStored closed.now) }
+    ensures medium { OnOk result (AsTold D.seen disk.old disk.new
+        (λ _ bytes. IsMediumOf election.now bytes closed.now.ballots)) }
+    ensures settled { OnOk result (IsSettled D.seen D.calls D.may_leave disk.new) }
+    ensures any_moment { (bytes : List ℕ) (old : List Ballot) → D.seen disk.old ≡ Some bytes
+        → IsMediumOf election.now bytes old → LeavesOnly D.calls D.may_leave disk.old disk.new
+        (λ c. HoldsSet election.now c old ⊎ HoldsSet election.now c closed.now.ballots) }
+    ensures told { is_some (D.seen disk.new) ≡ is_some (D.seen disk.old) }
+    ensures fault { CountsFault result (D.faults disk.old) (D.faults disk.new) }
+{
+    prove!(closed.len() <= election.limit() as usize);
+    renew_bank(disk, closed, election, Bank::B, scratch)?;
+    renew_bank(disk, closed, election, Bank::A, scratch)
+}

@@ -1,0 +1,5 @@
+pub mod Agreeing
+pub mod OnlyReading
+pub mod Paging
+pub mod Refusals
+pub mod Runs

@@ -1,0 +1,9 @@
+use Rattle.std.proofs.Common.{Some}
+use Rattle.crash_disk.proofs.Moments.{syncs_first}
+use Rattle.recovery.proofs.laws.one_held_set.Goals as goal
+use Rattle.store_spec.specs.Medium.{HoldsSet, HoldsTheSame}
+
+pub returns : goal.returns
+returns g c e old new bytes set sees start =
+    let here : HoldsSet e bytes set = start bytes (g.met.D.Disk.seen_is_crash_image old bytes sees) in
+    syncs_first g.D.Disk.calls g.D.Disk.may_leave old new (λ image. HoldsSet e image set) (HoldsTheSame e bytes) start (λ image same. same (Some set) here)

@@ -1,0 +1,10 @@
+-- Faults of a bank as faults of recovery.
+use Rattle.image_builder.specs.declared.read.ImageFault.{ImageFault}
+use Rattle.image_builder.specs.declared.read.ImageFault.TheVariants as images
+use Rattle.recovery.specs.declared.fault.RecoverFault.{RecoverFault}
+use Rattle.recovery.specs.declared.fault.RecoverFault.TheVariants.{OtherElection, Damaged, Memory}
+
+abbrev pub recover_fault : ImageFault → RecoverFault
+recover_fault (images.OtherElection header) = OtherElection header
+recover_fault (images.Damaged cell) = Damaged cell
+recover_fault images.Memory = Memory

@@ -1,0 +1,4 @@
+pub mod Canonical
+pub mod Faults
+pub mod ReadsOnly
+pub mod Refused

@@ -1,0 +1,31 @@
+-- Why no store comes back from a medium.
+use Rattle.std.specs.Prelude.{◌≡◌, ◌≢◌, ◌⊎◌, ℕ, List, length, Option}
+use Rattle.image_builder.specs.Reading.{IsRefusedBank}
+use Rattle.image_builder.specs.declared.read.ImageFault.{ImageFault}
+use Rattle.image_builder.specs.declared.read.ImageFault.TheVariants as images
+use Rattle.recovery.specs.declared.fault.RecoverFault.{RecoverFault}
+use Rattle.recovery.specs.declared.fault.RecoverFault.TheVariants.{NoStore, OtherElection, Damaged, DiskFault, Memory}
+use Rattle.store_spec.specs.Election.{Election, medium_size}
+use Rattle.store_spec.specs.Medium.{Bank, IsChosen, IsOpen, bank_of}
+use Rattle.store_spec.specs.Medium.Bank.{A, B}
+
+-- there are as many bytes as a medium has, and the bank that is read is refused for this reason
+pub record IsRefusedInBank (e : Election) (bytes : List ℕ) (why : ImageFault) : Type 0 where
+  pub size : length bytes ≡ medium_size e
+  pub bank : Bank
+  pub chosen : IsChosen e bytes bank
+  pub refused : IsRefusedBank e (bank_of e bank bytes) why
+
+-- No bank is read, or the one that is read is the image of no set. Faults of the disk and want of memory are told by
+-- no bytes.
+abbrev pub IsRefusedMedium : Election → List ℕ → RecoverFault → Type 0
+IsRefusedMedium e bytes NoStore = (length bytes ≢ medium_size e) ⊎ ((¬ IsOpen e A bytes) × (¬ IsOpen e B bytes))
+IsRefusedMedium e bytes (OtherElection header) = IsRefusedInBank e bytes (images.OtherElection header)
+IsRefusedMedium e bytes (Damaged cell) = IsRefusedInBank e bytes (images.Damaged cell)
+IsRefusedMedium e bytes DiskFault = Unit {0}
+IsRefusedMedium e bytes Memory = Unit {0}
+
+-- what a read gives stays, unless the disk failed
+abbrev pub IsUnchangedAt : RecoverFault → Option (List ℕ) → Option (List ℕ) → Type 0
+IsUnchangedAt DiskFault old new = Unit {0}
+IsUnchangedAt fault old new = new ≡ old

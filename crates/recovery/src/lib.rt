@@ -1,0 +1,13 @@
+//! Recovery: what a medium holds comes back, and the medium is made that of it.
+#![tactic(auto)]
+
+mod fault;
+pub mod laws;
+mod look;
+mod restoring;
+
+pub use fault::RecoverFault;
+pub use restoring::recover;
+
+#[cfg(test)]
+mod tests;

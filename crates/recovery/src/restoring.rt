@@ -1,0 +1,149 @@
+//! Recovery.
+
+ghost use Rattle.std.specs.Prelude.{◌≡◌, ◌↔◌, ℕ, List, Some, is_some, IsErrOf, IsTrue, IfErr, IfOk, IfSome, OnOk};
+ghost use Rattle.std.specs.Option.{ForSome};
+ghost use Rattle.bank_medium.specs.Banks.{bank_named};
+ghost use Rattle.body_store.specs.Contents.{IsStored};
+ghost use Rattle.outside_io.specs.Told.{AsTold};
+ghost use Rattle.recovery.specs.Canonical.{IsReadAs};
+ghost use Rattle.recovery.specs.ReadsOnly.{ReadsOnly};
+ghost use Rattle.recovery.specs.Refused.{IsRefusedMedium, IsUnchangedAt};
+ghost use Rattle.store_spec.specs.Ballot.{Ballot};
+ghost use Rattle.store_spec.specs.Disk.{IsSettled, LeavesOnly, SyncsFirst};
+ghost use Rattle.store_spec.specs.Fault.{CountsFault, CountsFaultIf};
+ghost use Rattle.store_spec.specs.Medium.{HoldsSet, HoldsTheSame, IsMediumOf, IsOpen, other_bank};
+
+use crate::fault::RecoverFault;
+use crate::look::{choose, is_image, read_bank};
+use ballot_record::Election;
+use bank_medium::{Bank, settle};
+use body_store::Closed;
+use checkpoint::{fill_bank, renew_bank};
+use crash_disk::Disk;
+use image_builder::Scratch;
+use outside_io::Failed;
+use std::alloc::Global;
+
+/// Reads the store that a medium holds, and makes the medium that of the store. Nothing is written before the bank that
+/// is read was read whole. It syncs first: until that sync has returned a crash leaves what it might have left before,
+/// and from then on what holds the same as the bytes read. Where that sync fails, nothing is written.
+pub fn recover<D: Disk>(
+    alloc: Global,
+    disk: &mut D,
+    election: &Election,
+    scratch: &mut Scratch,
+) -> Result<Closed, RecoverFault>
+    ensures held { IfOk result (λ store. IfSome (D.seen disk.old)
+        (λ bytes. HoldsSet election.now bytes store.ballots)) }
+    ensures election { IfOk result (λ store. store.election ≡ election.now) }
+    ensures stored { IfOk result IsStored }
+    ensures medium { IfOk result (λ store. AsTold D.seen disk.old disk.new
+        (λ _ bytes. IsMediumOf election.now bytes store.ballots)) }
+    ensures settled { OnOk result (IsSettled D.seen D.calls D.may_leave disk.new) }
+    ensures refused { IfErr result
+        (λ fault. IfSome (D.seen disk.old) (λ bytes. IsRefusedMedium election.now bytes fault)) }
+    ensures unchanged { IfErr result
+        (λ fault. IsUnchangedAt fault (D.seen disk.old) (D.seen disk.new)) }
+    ensures told { is_some (D.seen disk.new) ≡ is_some (D.seen disk.old) }
+    ensures any_moment { (bytes : List ℕ) → D.seen disk.old ≡ Some bytes
+        → SyncsFirst D.calls D.may_leave disk.old disk.new (HoldsTheSame election.now bytes) }
+
+    // On a settled disk that holds the medium of a set nothing is written.
+    ensures canonical { (bytes : List ℕ) (set : List Ballot)
+        → IsSettled D.seen D.calls D.may_leave disk.old → D.seen disk.old ≡ Some bytes
+        → IsMediumOf election.now bytes set
+        → ReadsOnly D.seen D.calls D.may_leave disk.old disk.new }
+    ensures fault { CountsFaultIf (IsErrOf result RecoverFault.DiskFault)
+        (D.faults disk.old) (D.faults disk.new) }
+{
+    settle(disk)?;
+    restore(alloc, disk, election, scratch)
+}
+
+/// The same on a settled disk.
+fn restore<D: Disk>(
+    alloc: Global,
+    disk: &mut D,
+    election: &Election,
+    scratch: &mut Scratch,
+) -> Result<Closed, RecoverFault>
+    requires { IsSettled D.seen D.calls D.may_leave disk.old }
+    ensures held { IfOk result (λ store. IfSome (D.seen disk.old)
+        (λ bytes. HoldsSet election.now bytes store.ballots)) }
+    ensures election { IfOk result (λ store. store.election ≡ election.now) }
+    ensures stored { IfOk result IsStored }
+    ensures medium { IfOk result (λ store. AsTold D.seen disk.old disk.new
+        (λ _ bytes. IsMediumOf election.now bytes store.ballots)) }
+    ensures settled { OnOk result (IsSettled D.seen D.calls D.may_leave disk.new) }
+    ensures refused { IfErr result
+        (λ fault. IfSome (D.seen disk.old) (λ bytes. IsRefusedMedium election.now bytes fault)) }
+    ensures unchanged { IfErr result
+        (λ fault. IsUnchangedAt fault (D.seen disk.old) (D.seen disk.new)) }
+    ensures told { is_some (D.seen disk.new) ≡ is_some (D.seen disk.old) }
+    ensures any_moment { (bytes : List ℕ) → D.seen disk.old ≡ Some bytes
+        → LeavesOnly D.calls D.may_leave disk.old disk.new (HoldsTheSame election.now bytes) }
+    ensures canonical { (bytes : List ℕ) (set : List Ballot) → D.seen disk.old ≡ Some bytes
+        → IsMediumOf election.now bytes set
+        → ReadsOnly D.seen D.calls D.may_leave disk.old disk.new }
+    ensures fault { CountsFaultIf (IsErrOf result RecoverFault.DiskFault)
+        (D.faults disk.old) (D.faults disk.new) }
+{
+    let (bank, open_too) = choose(disk, election)?;
+    let closed = read_bank(alloc, disk, election, bank, &mut scratch.found)?;
+    make_canonical(disk, &closed, election, bank, open_too, scratch)?;
+    Ok(closed)
+}
+
+/// Makes the other bank and its gate agree with the bank from which a store was read.
+fn make_canonical<D: Disk>(
+    disk: &mut D,
+    closed: &Closed,
+    election: &Election,
+    bank: Bank,
+    open_too: bool,
+    scratch: &mut Scratch,
+) -> Result<(), Failed>
+    requires own { election.now ≡ closed.now.election }
+    requires settled { IsSettled D.seen D.calls D.may_leave disk.old }
+    requires read { ForSome (D.seen disk.old)
+        (λ bytes. IsReadAs election.now bytes (bank_named bank) closed.now.ballots) }
+    requires gate { ForSome (D.seen disk.old)
+        (λ bytes. IsTrue open_too ↔ IsOpen election.now (other_bank (bank_named bank)) bytes) }
+    ensures medium { OnOk result (AsTold D.seen disk.old disk.new
+        (λ _ bytes. IsMediumOf election.now bytes closed.now.ballots)) }
+    ensures settled { OnOk result (IsSettled D.seen D.calls D.may_leave disk.new) }
+    ensures told { is_some (D.seen disk.new) ≡ is_some (D.seen disk.old) }
+    ensures any_moment { (bytes : List ℕ) → D.seen disk.old ≡ Some bytes
+        → LeavesOnly D.calls D.may_leave disk.old disk.new
+        (λ c. HoldsSet election.now c closed.now.ballots) }
+    ensures canonical { (bytes : List ℕ) (set : List Ballot) → D.seen disk.old ≡ Some bytes
+        → IsMediumOf election.now bytes set
+        → ReadsOnly D.seen D.calls D.may_leave disk.old disk.new }
+    ensures fault { CountsFault result (D.faults disk.old) (D.faults disk.new) }
+{
+    let other = other_of(bank);
+    if !open_too {
+        return fill_bank(disk, closed, election, other, scratch);
+    }
+    if is_image(
+        disk,
+        closed,
+        election,
+        other,
+        &mut scratch.found,
+        &mut scratch.made,
+    )? {
+        return Ok(());
+    }
+    renew_bank(disk, closed, election, other, scratch)
+}
+
+/// The other bank.
+fn other_of(bank: Bank) -> Bank
+    ensures { bank_named result ≡ other_bank (bank_named bank) }
+{
+    match bank {
+        Bank::A => Bank::B,
+        Bank::B => Bank::A,
+    }
+}
