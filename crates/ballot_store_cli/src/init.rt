@@ -30,22 +30,6 @@ pub enum NewFault {
     Memory,
 }
 
-impl From<InitFault> for NewFault {
-    ghost use Rattle.std.specs.Prelude.{◌≡◌};
-    ghost use Rattle.ballot_store_cli.specs.Status.{new_fault};
-
-    ghost from_gives = { λ cause fault. fault ≡ new_fault cause };
-
-    fn from(cause: InitFault) -> Self {
-        match cause {
-            InitFault::WrongSize { size } => NewFault::WrongSize { size },
-            InitFault::Exists => NewFault::Exists,
-            InitFault::DiskFault => NewFault::DiskFault,
-            InitFault::Memory => NewFault::Memory,
-        }
-    }
-}
-
 impl From<Memory> for NewFault {
     ghost use Rattle.std.specs.Prelude.{◌≡◌};
     ghost use Rattle.ballot_store_cli.specs.declared.init.NewFault.TheVariants as faults;
@@ -54,6 +38,22 @@ impl From<Memory> for NewFault {
 
     fn from(_: Memory) -> Self {
         NewFault::Memory
+    }
+}
+
+impl From<InitFault> for NewFault {
+    ghost use Rattle.std.specs.Prelude.{◌≡◌};
+    ghost use Rattle.ballot_store_cli.specs.Status.{new_fault};
+
+    ghost from_gives = { λ cause fault. fault ≡ new_fault cause };
+
+    fn from(cause: InitFault) -> Self {
+        match cause {
+            InitFault::Memory => NewFault::Memory,
+            InitFault::Exists => NewFault::Exists,
+            InitFault::WrongSize { size } => NewFault::WrongSize { size },
+            InitFault::DiskFault => NewFault::DiskFault,
+        }
     }
 }
 

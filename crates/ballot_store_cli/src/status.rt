@@ -130,15 +130,15 @@ impl From<ReplayFault> for Status {
 
     fn from(fault: ReplayFault) -> Self {
         match fault {
-            ReplayFault::BadLine { line, why } => Status::BadLine { line, why },
-            ReplayFault::TooLong => Status::TooLong {
-                which: Which::Script,
-            },
+            ReplayFault::Memory => Status::Memory,
+            ReplayFault::WriteFault => Status::WriteFault,
             ReplayFault::ReadFault => Status::ReadFault {
                 which: Which::Script,
             },
-            ReplayFault::WriteFault => Status::WriteFault,
-            ReplayFault::Memory => Status::Memory,
+            ReplayFault::TooLong => Status::TooLong {
+                which: Which::Script,
+            },
+            ReplayFault::BadLine { line, why } => Status::BadLine { line, why },
         }
     }
 }

@@ -68,18 +68,18 @@ fn restore<D: Disk>(
     scratch: &mut Scratch,
 ) -> Result<Closed, RecoverFault>
     requires { IsSettled D.seen D.calls D.may_leave disk.old }
+    ensures settled { OnOk result (IsSettled D.seen D.calls D.may_leave disk.new) }
     ensures held { IfOk result (λ store. IfSome (D.seen disk.old)
         (λ bytes. HoldsSet election.now bytes store.ballots)) }
     ensures election { IfOk result (λ store. store.election ≡ election.now) }
     ensures stored { IfOk result IsStored }
     ensures medium { IfOk result (λ store. AsTold D.seen disk.old disk.new
         (λ _ bytes. IsMediumOf election.now bytes store.ballots)) }
-    ensures settled { OnOk result (IsSettled D.seen D.calls D.may_leave disk.new) }
+    ensures told { is_some (D.seen disk.new) ≡ is_some (D.seen disk.old) }
     ensures refused { IfErr result
         (λ fault. IfSome (D.seen disk.old) (λ bytes. IsRefusedMedium election.now bytes fault)) }
     ensures unchanged { IfErr result
         (λ fault. IsUnchangedAt fault (D.seen disk.old) (D.seen disk.new)) }
-    ensures told { is_some (D.seen disk.new) ≡ is_some (D.seen disk.old) }
     ensures any_moment { (bytes : List ℕ) → D.seen disk.old ≡ Some bytes
         → LeavesOnly D.calls D.may_leave disk.old disk.new (HoldsTheSame election.now bytes) }
     ensures canonical { (bytes : List ℕ) (set : List Ballot) → D.seen disk.old ≡ Some bytes

@@ -65,6 +65,17 @@ pub enum Refusal {
     Memory,
 }
 
+impl<T: Drop> From<AllocFailed<T>> for Refusal {
+    ghost use Rattle.std.specs.Prelude.{◌≡◌};
+    ghost use Rattle.schedule_replay.specs.declared.fault.Refusal.TheVariants as refusals;
+
+    ghost from_gives = { λ _ refusal. refusal ≡ refusals.Memory };
+
+    fn from(_: AllocFailed<T>) -> Self {
+        Refusal::Memory
+    }
+}
+
 impl From<Memory> for Refusal {
     ghost use Rattle.std.specs.Prelude.{◌≡◌};
     ghost use Rattle.schedule_replay.specs.declared.fault.Refusal.TheVariants as refusals;
@@ -83,17 +94,6 @@ impl From<AllocError> for Refusal {
     ghost from_gives = { λ _ refusal. refusal ≡ refusals.Memory };
 
     fn from(_: AllocError) -> Self {
-        Refusal::Memory
-    }
-}
-
-impl<T: Drop> From<AllocFailed<T>> for Refusal {
-    ghost use Rattle.std.specs.Prelude.{◌≡◌};
-    ghost use Rattle.schedule_replay.specs.declared.fault.Refusal.TheVariants as refusals;
-
-    ghost from_gives = { λ _ refusal. refusal ≡ refusals.Memory };
-
-    fn from(_: AllocFailed<T>) -> Self {
         Refusal::Memory
     }
 }

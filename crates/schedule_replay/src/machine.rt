@@ -94,27 +94,23 @@ impl Machine for CastCore {
 impl Machine for WithdrawCore {
     ghost use Rattle.step_core.specs.Withdrawing as withdrawing;
 
+    ghost tabs = { λ core. length core.tabs };
+
     ghost steps = { withdrawing.Steps };
 
+    ghost cells = { withdrawing.cells_in };
+
     ghost done = { withdrawing.IsDoneAt };
+
+    ghost words = { withdraw_words };
 
     ghost sound = { IsShortWithdrawing };
 
     ghost work = { withdraw_work };
 
-    ghost tabs = { λ core. length core.tabs };
-
-    ghost cells = { withdrawing.cells_in };
-
-    ghost words = { withdraw_words };
-
     ghost use Rattle.schedule_replay.specs.Counted.{withdraw_counted};
 
     ghost counted = { withdraw_counted };
-
-    fn step(&mut self, tab: usize) -> Stepped {
-        self.step(tab)
-    }
 
     fn cells(&self) -> &[u64] {
         self.cells()
@@ -122,5 +118,9 @@ impl Machine for WithdrawCore {
 
     fn push_replies(&self, text: &mut String, list: usize) -> Result<(), Memory> {
         push_replies(text, list, self.replies(list - 1))
+    }
+
+    fn step(&mut self, tab: usize) -> Stepped {
+        self.step(tab)
     }
 }

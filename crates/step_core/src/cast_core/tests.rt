@@ -16,6 +16,13 @@ use std::process::Abort;
 
 const EXAMPLE: Salted = Salted { bits: 3, salt: 0 };
 
+fn step(core: &mut CastCore, tab: usize) -> Stepped
+    requires { tab < length core.old.tabs }
+    ensures { length core.new.tabs ≡ length core.old.tabs }
+{
+    core.step(tab)
+}
+
 /// A core of the example election.
 fn example(alloc: Global, start: &[u64], lists: Vec<Vec<u64>>) -> Result<CastCore, Memory>
     requires distinct { AllPairs (λ a b. a ≢ b) start.now }
@@ -39,13 +46,6 @@ fn holds(rt: &impl Abort, core: &CastCore, numbers: [u64; 2]) {
         };
         assert_eq!(rt; *cell, number, "cell {place}");
     }
-}
-
-fn step(core: &mut CastCore, tab: usize) -> Stepped
-    requires { tab < length core.old.tabs }
-    ensures { length core.new.tabs ≡ length core.old.tabs }
-{
-    core.step(tab)
 }
 
 /// Makes one step, after which these numbers stand in cells 4 and 5, and the tabulator has so many replies.
