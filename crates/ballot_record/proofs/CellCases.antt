@@ -27,7 +27,7 @@ told : (P : Type 0) (b : Bool) → Decides b P → P ⊎ (P → ⊥)
 told P true tells = inl (tells.0 refl)
 told P false tells = inr (λ is. false≢true (tells.1 is))
 
-same_or_not : (xs ys : List ℕ) → (xs ≡ ys) ⊎ (xs ≡ ys → ⊥)
+pub same_or_not : (xs ys : List ℕ) → (xs ≡ ys) ⊎ (xs ≡ ys → ⊥)
 same_or_not xs ys = told (xs ≡ ys) (bytes_eq xs ys) (bytes_eq-Decides xs ys)
 
 marks_or_not : (e : Election) (style : ℕ) (marks : List ℕ) → HasMarks e style marks ⊎ (HasMarks e style marks → ⊥)
@@ -43,7 +43,7 @@ marks_or_not e style marks =
           one.2 (subst (At (one.0 + 1)) back (has (one.0 + 1) (omega arith) (omega (arith, one.1)))))
     ]
 
-valid_or_not : (e : Election) (b : Ballot) → IsValid e b ⊎ (IsValid e b → ⊥)
+pub valid_or_not : (e : Election) (b : Ballot) → IsValid e b ⊎ (IsValid e b → ⊥)
 valid_or_not e b =
     elim (cases_lt 0 b.number) [
       | inr none ↦ inr (λ valid. omega (arith, valid.some_number))

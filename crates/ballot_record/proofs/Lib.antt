@@ -6,17 +6,20 @@ mod CellReading
 pub mod CellCases
 mod Cells
 mod Counts
+mod Fronts
+mod Joining
 mod LineAnswers
 pub mod LineFronts
 pub mod LineGroups
 pub mod LineLaws
 mod LineMarks
 pub mod LineNumbers
+mod LinePrints
 mod LineSets
 pub mod LineWhole
 pub mod Lookups
 pub mod MarkSets
-mod OnStyle
+pub mod OnStyle
 mod Places
 pub mod Reasons
 pub mod ValidMarks

@@ -142,7 +142,7 @@ pub record IsGroupAt (e : Election) (bytes choices rest : List ℕ) : Type 0 whe
   pub spelled : bytes ≡ group_text choices ++ rest
   pub group : IsGroup e choices
 
-text_of_some : (choices : List ℕ) → 1 ≤ length choices → group_text choices ≡ choices_text choices
+pub text_of_some : (choices : List ℕ) → 1 ≤ length choices → group_text choices ≡ choices_text choices
 text_of_some [] some = absurd (omega arith)
 text_of_some (choice ∷ choices) some = refl
 

@@ -153,6 +153,9 @@ spells_its_ballot e x election valid =
       valid = valid;
     }
 
+pub line_of_its_ballot : (e : Election) (bytes : List ℕ) (x : Ballot) → IsElection e → Spells e bytes x → bytes ≡ record_line e x
+line_of_its_ballot e bytes x election is = one_spelling e bytes (record_line e x) x is (spells_its_ballot e x election is.valid)
+
 -- ---- mark sets
 
 choice_counts : (choices : List ℕ) (last n : ℕ) → RisesFrom last choices → mark_set choices < 2 ^ n → AllByRecursion (λ choice. choice ≤ n) choices

@@ -4,5 +4,6 @@ pub mod Kept
 pub mod Line
 pub mod LineReading
 pub mod Parts
+pub mod Print
 pub mod Record
 pub mod LineWhy

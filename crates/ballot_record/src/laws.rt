@@ -39,6 +39,12 @@ pub fn line_of_each_ballot()
         → IsElection e → IsValid e b → Spells e (record_line e b) b }
 {}
 
+/// Each line of an election is the line of its ballot.
+pub fn line_of_its_ballot()
+    ensures { (e : Election) (bytes : List ℕ) (b : Ballot)
+        → IsElection e → Spells e bytes b → bytes ≡ record_line e b }
+{}
+
 /// A group and its mark set determine each other. The set fits a contest of so many choices exactly where each choice
 /// of the group is one of them.
 pub fn mark_sets()

@@ -7,6 +7,7 @@ mod election;
 mod fault;
 pub mod laws;
 mod line;
+mod print;
 mod record;
 
 pub use cell::{CellRead, take_cell};
@@ -14,6 +15,7 @@ pub use contest::{Contest, MAX_CHOICES};
 pub use election::{Election, MAX_BITS, MAX_CONTESTS, MAX_LIMIT, MAX_STYLES};
 pub use fault::{LineFault, LineWhy};
 pub use line::{read_line, take_number};
+pub use print::put_line;
 pub use record::{MAX_MARK_SETS, Record};
 
 #[cfg(test)]

@@ -88,6 +88,23 @@ fn lines_that_are_refused(rt: HostRuntime) {
 }
 
 #[test]
+fn lines_that_are_put(rt: HostRuntime) -> Result<(), Fail> {
+    let election = Election::example();
+    let records = [
+        record_of(1, 1, [0b10, 0b101, 0]),
+        record_of(2, 1, [0, 0b111, 0]),
+    ];
+    let mut out = Vec::new(rt.alloc());
+    for record in records.iter() {
+        assert!(rt; record.valid(&election));
+        put_line(record, &election, &mut out)?;
+        out.push(b'\n')?;
+    }
+    assert_eq!(rt; out.as_slice(), b"1 1 2/1,3\n2 1 -/1,2,3\n".as_slice());
+    Ok(())
+}
+
+#[test]
 fn the_longest_line(rt: HostRuntime) -> Result<(), Fail> {
     let group =
         "1,2,3,4,5,6,7,8,9,10,11,12,13,14,15,16,17,18,19,20,21,22,23,24,25,26,27,28,29,30,31,32";
@@ -109,6 +126,10 @@ fn the_longest_line(rt: HostRuntime) -> Result<(), Fail> {
         marks: [u32::MAX; 16],
     };
     assert_eq!(rt; read_line(line.as_bytes(), &election), Ok(record));
+    assert!(rt; record.valid(&election));
+    let mut out = Vec::new(rt.alloc());
+    put_line(&record, &election, &mut out)?;
+    assert_eq!(rt; out.as_slice(), line.as_bytes());
     line.push_str("/-")?;
     assert_eq!(rt;
         read_line(line.as_bytes(), &election),

@@ -1,11 +1,13 @@
 mod Building
 mod Carrying
 mod Causes
+mod Complete
 mod Index
 mod Making
 mod OneAnswer
 mod OneBuild
 mod OneElection
 mod OneInit
+mod OneSession
 mod Reading
 mod Texts

@@ -3,7 +3,7 @@ use Rattle.std.proofs.Common.{◌≡◌, ℕ, List, Option, Some, None, inl, ref
 use Rattle.std.specs.Option.{IfSome}
 use Rattle.ballot_store_cli.specs.Init.{InitEnds, InitLeaves}
 use Rattle.ballot_store_cli.specs.Status.{new_fault, new_fault_status}
-use Rattle.ballot_store_cli.specs.World.{DiskModel}
+use Rattle.store_spec.specs.Disk.{DiskModel}
 use Rattle.checkpoint.specs.Unused.{IsRefusedDisk, IsUnchangedAt}
 use Rattle.checkpoint.specs.declared.fresh.InitFault.{InitFault}
 use Rattle.checkpoint.specs.declared.fresh.InitFault.TheVariants.{WrongSize, Exists, DiskFault, Memory}

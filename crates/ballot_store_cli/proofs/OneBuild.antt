@@ -40,6 +40,9 @@ build_decides e status.Usage before after text is decided ends = ends
 build_decides e status.BadElection before after text is decided ends = ends
 build_decides e status.DiskFault before after text is decided ends = ends
 build_decides e status.Exists before after text is decided ends = ends
+build_decides e status.NoStore before after text is decided ends = ends
+build_decides e (status.Damaged cell) before after text is decided ends = ends
+build_decides e (status.OtherElection header) before after text is decided ends = ends
 build_decides e (status.WrongSize size) before after text is decided ends = ends
 
 -- what lines build is no set and a bad line both
@@ -81,6 +84,9 @@ one_build e text status.WriteFault b x y = absurd x
 one_build e text status.Memory b x y = absurd x
 one_build e text status.DiskFault b x y = absurd x
 one_build e text status.Exists b x y = absurd x
+one_build e text status.NoStore b x y = absurd x
+one_build e text (status.Damaged cell) b x y = absurd x
+one_build e text (status.OtherElection header) b x y = absurd x
 one_build e text (status.WrongSize size) b x y = absurd x
 one_build e text a (status.TooLong which.Election) x y = absurd y
 one_build e text a other x y = absurd y

@@ -28,6 +28,9 @@ refusal_decides status.Usage old new text is decided refused = refused
 refusal_decides (status.BadLine line why) old new text is decided refused = refused
 refusal_decides status.DiskFault old new text is decided refused = refused
 refusal_decides status.Exists old new text is decided refused = refused
+refusal_decides status.NoStore old new text is decided refused = refused
+refusal_decides (status.Damaged cell) old new text is decided refused = refused
+refusal_decides (status.OtherElection header) old new text is decided refused = refused
 refusal_decides (status.WrongSize size) old new text is decided refused = refused
 
 pub election_decides_one : (text : List ℕ) (a b : Status) → DecidesElection text a → DecidesElection text b → a ≡ b
@@ -44,6 +47,9 @@ election_decides_one text status.Memory b x y = absurd x
 election_decides_one text (status.BadLine line why) b x y = absurd x
 election_decides_one text status.DiskFault b x y = absurd x
 election_decides_one text status.Exists b x y = absurd x
+election_decides_one text status.NoStore b x y = absurd x
+election_decides_one text (status.Damaged cell) b x y = absurd x
+election_decides_one text (status.OtherElection header) b x y = absurd x
 election_decides_one text (status.WrongSize size) b x y = absurd x
 election_decides_one text a (status.TooLong which.Script) x y = absurd y
 election_decides_one text a other x y = absurd y
@@ -61,4 +67,7 @@ none_refused text status.Usage e few describes refused = refused
 none_refused text (status.BadLine line why) e few describes refused = refused
 none_refused text status.DiskFault e few describes refused = refused
 none_refused text status.Exists e few describes refused = refused
+none_refused text status.NoStore e few describes refused = refused
+none_refused text (status.Damaged cell) e few describes refused = refused
+none_refused text (status.OtherElection header) e few describes refused = refused
 none_refused text (status.WrongSize size) e few describes refused = refused

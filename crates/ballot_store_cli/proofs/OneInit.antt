@@ -3,7 +3,7 @@ use Rattle.std.proofs.Common.{◌≡◌, ℕ, ◌<◌, List, length, Option, Som
 use Rattle.std.specs.Option.{IfSome}
 use Rattle.ballot_store_cli.specs.Init.{InitEnds}
 use Rattle.ballot_store_cli.specs.Status.{IsDecided}
-use Rattle.ballot_store_cli.specs.World.{DiskModel}
+use Rattle.store_spec.specs.Disk.{DiskModel}
 use Rattle.ballot_store_cli.specs.declared.status.Status.{Status}
 use Rattle.ballot_store_cli.specs.declared.status.Status.TheVariants as status
 use Rattle.checkpoint.specs.Unused.{IsRefusedDisk}
@@ -35,6 +35,9 @@ init_decides model e status.WriteFault old new before after bytes is decided end
 init_decides model e status.Memory old new before after bytes is decided ends = absurd decided
 init_decides model e status.Usage old new before after bytes is decided ends = ends.leaves
 init_decides model e status.BadElection old new before after bytes is decided ends = ends.leaves
+init_decides model e status.NoStore old new before after bytes is decided ends = ends.leaves
+init_decides model e (status.Damaged cell) old new before after bytes is decided ends = ends.leaves
+init_decides model e (status.OtherElection header) old new before after bytes is decided ends = ends.leaves
 init_decides model e (status.TooLong which) old new before after bytes is decided ends = ends.leaves
 init_decides model e (status.BadLine line why) old new before after bytes is decided ends = ends.leaves
 
@@ -60,6 +63,9 @@ one_init e bytes (status.WrongSize m) status.Exists x y = absurd (omega (arith, 
 one_init e bytes (status.WrongSize m) (status.WrongSize n) x y = ap status.WrongSize (x.0 ∙ sym y.0)
 one_init e bytes status.Usage b x y = absurd x
 one_init e bytes status.BadElection b x y = absurd x
+one_init e bytes status.NoStore b x y = absurd x
+one_init e bytes (status.Damaged cell) b x y = absurd x
+one_init e bytes (status.OtherElection header) b x y = absurd x
 one_init e bytes (status.TooLong which) b x y = absurd x
 one_init e bytes status.DiskFault b x y = absurd x
 one_init e bytes (status.ReadFault which) b x y = absurd x

@@ -1,7 +1,7 @@
 -- The words that the program is called with: a medium, an election, and a command.
 use Rattle.std.specs.Prelude.{◌≡◌, ◌≢◌, ℕ, List, [], ◌∷◌, codes}
 use Rattle.ballot_store_cli.specs.declared.command.Command.{Command}
-use Rattle.ballot_store_cli.specs.declared.command.Command.TheVariants.{Build, Init, Replay}
+use Rattle.ballot_store_cli.specs.declared.command.Command.TheVariants.{Build, Init, Session, Replay}
 
 abbrev pub DASH : ℕ
 DASH = 45
@@ -15,6 +15,7 @@ IsPlain (byte ∷ bytes) = byte ≢ DASH
 abbrev pub Names : List (List ℕ) → Command → Type 0
 Names words Build = words ≡ codes "build" ∷ []
 Names words Init = words ≡ codes "init" ∷ []
+Names words Session = words ≡ codes "session" ∷ []
 Names words Replay = words ≡ codes "replay" ∷ []
 
 -- they name no command

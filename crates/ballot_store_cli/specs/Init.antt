@@ -1,7 +1,6 @@
 -- What the command `init` makes of a disk. `old` and `new` are the sink before and after, and `before` and `after` the
 -- disk.
 use Rattle.std.specs.Prelude.{◌≡◌, ◌⊎◌, ℕ, List, [], ◌∷◌, ◌++◌, codes, Some, IfSome}
-use Rattle.ballot_store_cli.specs.World.{DiskModel}
 use Rattle.ballot_store_cli.specs.declared.status.Status.{Status}
 use Rattle.ballot_store_cli.specs.declared.status.Status.TheVariants as status
 use Rattle.checkpoint.specs.Unused.{IsRefusedDisk, IsUntouchedOrNew}
@@ -9,7 +8,7 @@ use Rattle.checkpoint.specs.declared.fresh.InitFault.TheVariants as faults
 use Rattle.outside_io.specs.Outside.{Output}
 use Rattle.outside_io.specs.Stream.{TakesAll, TakesSome}
 use Rattle.outside_io.specs.Told.{AsTold}
-use Rattle.store_spec.specs.Disk.{IsSettled, SyncsFirst}
+use Rattle.store_spec.specs.Disk.{DiskModel, IsSettled, SyncsFirst}
 use Rattle.store_spec.specs.Election.{Election}
 use Rattle.store_spec.specs.Fault.{Rose}
 use Rattle.store_spec.specs.Input.{line_end}

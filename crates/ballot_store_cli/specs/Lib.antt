@@ -6,5 +6,7 @@ pub mod Init
 pub mod Outcome
 pub mod Replay
 pub mod Script
+pub mod Served
+pub mod Session
 pub mod Status
 pub mod World

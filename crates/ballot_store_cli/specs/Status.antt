@@ -2,7 +2,7 @@
 use Rattle.std.specs.Prelude.{ℕ, List, ◌++◌, codes, Result, Ok as Fine, Err}
 use Rattle.std.specs.Fmt.{decimal}
 use Rattle.ballot_store_cli.specs.declared.status.Status.{Status}
-use Rattle.ballot_store_cli.specs.declared.status.Status.TheVariants.{Ok, Usage, BadElection, TooLong, DiskFault, ReadFault, WriteFault, Memory, Exists, WrongSize, BadLine}
+use Rattle.ballot_store_cli.specs.declared.status.Status.TheVariants.{Ok, Usage, BadElection, TooLong, DiskFault, ReadFault, WriteFault, Memory, NoStore, Damaged, OtherElection, Exists, WrongSize, BadLine}
 use Rattle.ballot_store_cli.specs.declared.status.Which.TheVariants.{Election, Script}
 use Rattle.ballot_store_cli.specs.declared.build.BuildFault.{BuildFault}
 use Rattle.ballot_store_cli.specs.declared.build.script.ScriptFault.{ScriptFault}
@@ -16,6 +16,8 @@ use Rattle.checkpoint.specs.declared.fresh.InitFault.{InitFault}
 use Rattle.checkpoint.specs.declared.fresh.InitFault.TheVariants as init
 use Rattle.schedule_replay.specs.declared.fault.ReplayFault.{ReplayFault}
 use Rattle.schedule_replay.specs.declared.fault.ReplayFault.TheVariants as replay
+use Rattle.session_run.specs.declared.fault.RunFault.{RunFault}
+use Rattle.session_run.specs.declared.fault.RunFault.TheVariants as run
 use Rattle.ballot_store_cli.specs.declared.election.NoElection.{NoElection}
 use Rattle.ballot_store_cli.specs.declared.election.NoElection.TheVariants as none
 
@@ -28,6 +30,9 @@ exit_status DiskFault = 5
 exit_status (ReadFault which) = 6
 exit_status WriteFault = 7
 exit_status Memory = 8
+exit_status NoStore = 9
+exit_status (Damaged cell) = 10
+exit_status (OtherElection header) = 11
 exit_status Exists = 12
 exit_status (WrongSize size) = 13
 exit_status (BadLine line why) = 15
@@ -43,6 +48,9 @@ status_text (ReadFault Election) = codes "election read fault"
 status_text (ReadFault Script) = codes "script read fault"
 status_text WriteFault = codes "write fault"
 status_text Memory = codes "out of memory"
+status_text NoStore = codes "no store"
+status_text (Damaged cell) = codes "damaged cell " ++ decimal cell
+status_text (OtherElection header) = codes "other election"
 status_text Exists = codes "store exists"
 status_text (WrongSize size) = codes "wrong size " ++ decimal size
 status_text (BadLine line why) = codes "bad line " ++ decimal line
@@ -83,6 +91,16 @@ replay_fault_status replay.TooLong = TooLong Script
 replay_fault_status replay.ReadFault = ReadFault Script
 replay_fault_status replay.WriteFault = WriteFault
 replay_fault_status replay.Memory = Memory
+
+abbrev pub run_fault_status : RunFault → Status
+run_fault_status run.NoStore = NoStore
+run_fault_status (run.OtherElection header) = OtherElection header
+run_fault_status (run.Damaged cell) = Damaged cell
+run_fault_status run.TooLong = TooLong Script
+run_fault_status run.ReadFault = ReadFault Script
+run_fault_status run.DiskFault = DiskFault
+run_fault_status run.WriteFault = WriteFault
+run_fault_status run.Memory = Memory
 
 -- the status of what a command answered
 abbrev pub ended_as : {F : Type 0} → (F → Status) → Result (Unit {0}) F → Status

@@ -8,6 +8,8 @@ pub enum Command {
     Build,
     /// Make an unused disk the medium of the empty set.
     Init,
+    /// Recover a medium, and handle a script of ballots, withdrawals, finds and checkpoints.
+    Session,
     /// Replay a schedule of steps over a phase, and write what comes of it.
     Replay,
 }
@@ -29,6 +31,7 @@ fn command_named(word: &str) -> Option<Command>
     match word {
         "build" => Some(Command::Build),
         "init" => Some(Command::Init),
+        "session" => Some(Command::Session),
         "replay" => Some(Command::Replay),
         _ => None,
     }

@@ -2,7 +2,7 @@
 
 ghost use Rattle.ballot_store_cli.specs.Init.{InitEnds};
 ghost use Rattle.ballot_store_cli.specs.Status.{ended_as, new_fault_status};
-ghost use Rattle.ballot_store_cli.specs.World.{disk_model};
+ghost use Rattle.store_spec.specs.Disk.{disk_model};
 ghost use Rattle.outside_io.specs.Outside.{output};
 
 use ballot_record::Election;

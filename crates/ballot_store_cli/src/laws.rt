@@ -1,13 +1,17 @@
 //! Laws of what a run promises.
 
-ghost use Rattle.std.specs.Prelude.{◌≡◌, ℕ, List, IsSome};
+ghost use Rattle.std.specs.Prelude.{◌≡◌, ◌⊎◌, ℕ, List, IsSome};
 ghost use Rattle.ballot_store_cli.specs.Command.{Forms};
-ghost use Rattle.ballot_store_cli.specs.Outcome.{Ends, read_by};
-ghost use Rattle.ballot_store_cli.specs.World.{World, disk_model};
+ghost use Rattle.ballot_store_cli.specs.Outcome.{Ends, Tells};
+ghost use Rattle.ballot_store_cli.specs.Served.{GivesElection, IsServed, NothingFailed};
+ghost use Rattle.ballot_store_cli.specs.World.{Reported, World};
+ghost use Rattle.store_spec.specs.Disk.{disk_model};
 ghost use Rattle.outside_io.specs.Outside.{Input};
 ghost use Rattle.ballot_store_cli.specs.Status.{IsDecided};
 ghost use Rattle.ballot_store_cli.specs.declared.command.Command.{Command};
 ghost use Rattle.ballot_store_cli.specs.declared.status.Status.{Status};
+ghost use Rattle.ballot_store_cli.specs.declared.status.Status.TheVariants as statuses;
+ghost use Rattle.store_spec.specs.Election.{Election};
 
 use crash_disk::Disk;
 use outside_io::{Sink, Source};
@@ -17,15 +21,27 @@ pub fn one_command()
     ensures { (words : List (List ℕ)) (a b : Command) → Forms words a → Forms words b → a ≡ b }
 {}
 
-/// Where the election's source tells its bytes, and the script or the disk, whichever the command reads, the words and
-/// what stands outside before the run decide how it ends, but for faults and want of memory: each other status comes
-/// exactly where its outcome says.
+/// Where the election's source tells its bytes, and so does what the command reads beside it, the script or the disk or
+/// both, the words and what stands outside before the run decide how it ends, but for faults and want of memory: each
+/// other status comes exactly where its outcome says.
 pub fn one_answer<E: Source, S: Source, K: Sink, D: Disk>()
-    ensures { (words : List (List ℕ)) (a b : Status) (old a_new b_new : Input E)
+    ensures { (words : List (List ℕ)) (a b : Status) (p q : Reported) (old a_new b_new : Input E)
         (before a_after b_after : World S K D) → IsSome old.left
         → ((command : Command) → Forms words command
-        → IsSome (read_by (disk_model D.seen D.calls D.may_leave D.faults) command before))
-        → Ends (disk_model D.seen D.calls D.may_leave D.faults) words a old a_new before a_after
-        → Ends (disk_model D.seen D.calls D.may_leave D.faults) words b old b_new before b_after
+        → Tells (disk_model D.seen D.calls D.may_leave D.faults) command before)
+        → Ends (disk_model D.seen D.calls D.may_leave D.faults) words a p old a_new before a_after
+        → Ends (disk_model D.seen D.calls D.may_leave D.faults) words b q old b_new before b_after
         → IsDecided a → IsDecided b → a ≡ b }
+{}
+
+/// Where nothing stands against a command, the run answers `Ok` or `Memory`: the words form it, the election's source
+/// describes an election within its limit, what else the command reads is what it needs, and no count of faults rose.
+pub fn a_served_command_is_carried_out<E: Source, S: Source, K: Sink, D: Disk>()
+    ensures { (words : List (List ℕ)) (command : Command) (e : Election) (status : Status)
+        (report : Reported) (old new : Input E) (before after : World S K D)
+        → Ends (disk_model D.seen D.calls D.may_leave D.faults) words status report old new before after
+        → Forms words command → GivesElection old e
+        → IsServed (disk_model D.seen D.calls D.may_leave D.faults) command e before
+        → NothingFailed (disk_model D.seen D.calls D.may_leave D.faults) old new before after
+        → (status ≡ statuses.Ok) ⊎ (status ≡ statuses.Memory) }
 {}

@@ -1,6 +1,8 @@
 //! `ballot_store MEDIUM ELECTION COMMAND`: a history-independent store for cast ballots.
 #![tactic(auto)]
 
+ghost use Rattle.std.specs.Prelude.{◌≡◌, ◌-◌, IfOk, length, vec_len};
+
 mod build;
 mod command;
 mod election;
@@ -11,7 +13,7 @@ mod status;
 mod streams;
 
 use crash_disk::FileDisk;
-use outside_io::{FileSource, StdinSource, StdoutSink};
+use outside_io::{FileSource, Memory, NoTurns, StdinSource, StdoutSink};
 pub use run::run;
 pub use status::{Status, Which};
 use std::os::unix::fs::FileExt;
@@ -32,24 +34,46 @@ fn words_of(rt: &(impl Env + AllocGlobal)) -> Result<Vec<String>, Status> {
     }
 }
 
+// A disk for each word after the third.
+fn further_disks<'a, R: Files + AllocGlobal>(
+    rt: &'a R,
+    words: &'a [String],
+) -> Result<Vec<FileDisk<'a, R>>, Memory>
+    ensures { IfOk result (λ disks. vec_len disks ≡ length words.now - 3) }
+{
+    let mut disks = Vec::new(rt.alloc());
+    'words: for at in 3..words.len().max(3) {
+        disks.push(FileDisk::new(rt, &words[at]))?;
+    }
+    Ok(disks)
+}
+
 // The election is the file of the second word.
 fn status_of<R>(rt: &R) -> Status
 where
     R: Threads + Sync + Env + Files + Input + Print + AllocGlobal,
     R::File: FileExt,
 {
-    match words_of(rt) {
-        Ok(words) => run(
-            rt,
-            rt.alloc(),
-            &words,
-            &mut FileSource::new(rt, words.get(1).map_or("", |path| path.as_str())),
-            &mut StdinSource::new(rt),
-            &mut StdoutSink::new(rt),
-            &mut FileDisk::new(rt, words.first().map_or("", |path| path.as_str())),
-        ),
-        Err(status) => status,
-    }
+    let words = match words_of(rt) {
+        Ok(words) => words,
+        Err(status) => return status,
+    };
+    let mut more = match further_disks(rt, &words) {
+        Ok(disks) => disks,
+        Err(_) => return Status::Memory,
+    };
+    let (status, _report) = run(
+        rt,
+        rt.alloc(),
+        &words,
+        &mut FileSource::new(rt, words.get(1).map_or("", |path| path.as_str())),
+        &mut StdinSource::new(rt),
+        &mut StdoutSink::new(rt),
+        &mut FileDisk::new(rt, words.first().map_or("", |path| path.as_str())),
+        &mut more,
+        &NoTurns,
+    );
+    status
 }
 
 fn main(rt: HostRuntime) -> ExitCode {

@@ -1,8 +1,9 @@
-ghost use Rattle.std.specs.Prelude.{map, string_bytes};
+ghost use Rattle.std.specs.Prelude.{◌≡◌, ◌-◌, [], length, map, string_bytes};
 ghost use Rattle.ballot_store_cli.specs.Outcome.{CommandEnds, Ends};
 ghost use Rattle.ballot_store_cli.specs.Status.{ended};
-ghost use Rattle.ballot_store_cli.specs.World.{disk_model, world};
+ghost use Rattle.ballot_store_cli.specs.World.{reported, world};
 ghost use Rattle.outside_io.specs.Outside.{input, output};
+ghost use Rattle.store_spec.specs.Disk.{disk_model};
 ghost use Rattle.store_spec.specs.Election.{IsElection};
 
 use crate::build::build;
@@ -12,8 +13,10 @@ use crate::init::init;
 use crate::status::Status;
 use ballot_record::Election;
 use crash_disk::Disk;
-use outside_io::{Sink, Source};
+use outside_io::{Sink, Source, Turns};
+use phase_gate::Report;
 use schedule_replay::replay;
+use session_run::run_session;
 use std::alloc::Global;
 use std::thread::Threads;
 
@@ -21,53 +24,78 @@ use std::thread::Threads;
 ///
 /// - `MEDIUM ELECTION build` writes the image of the set of the script's record lines to the sink;
 /// - `MEDIUM ELECTION init` makes an unused disk the medium of the empty set;
+/// - `MEDIUM ELECTION session` recovers the medium and handles a script of ballots, withdrawals, finds and checkpoints;
 /// - `MEDIUM ELECTION replay` replays the schedule of a script over a phase.
-pub fn run<R: Threads + Sync, E: Source, S: Source, K: Sink, D: Disk>(
-    _rt: &R,
+///
+/// The report has how many calls the disk had seen at each checkpoint that a session acknowledged, and how many ballots
+/// its last closed store held. `more` has a disk for each word after the third; no command uses them yet.
+pub fn run<R: Threads + Sync, E: Source, S: Source, K: Sink, D: Disk, T: Turns>(
+    rt: &R,
     alloc: Global,
     words: &[String],
     election: &mut E,
     script: &mut S,
     out: &mut K,
     disk: &mut D,
-) -> Status
-    ensures { Ends (disk_model D.seen D.calls D.may_leave D.faults)
-        (map string_bytes words.now) result
+    more: &mut [D],
+    turns: &T,
+) -> (Status, Report)
+    requires more { length more.old ≡ length words.now - 3 }
+    ensures ends { Ends (disk_model D.seen D.calls D.may_leave D.faults)
+        (map string_bytes words.now) result.0 (reported result.1)
         (input E.left E.faults election.old) (input E.left E.faults election.new)
         (world (input S.left S.faults script.old) (output K.taken K.faults out.old) disk.old)
         (world (input S.left S.faults script.new) (output K.taken K.faults out.new) disk.new) }
+    ensures more { more.new ≡ more.old }
 {
+    let mut report = Report::new(alloc);
     let Some(command) = command_of(words) else {
-        return Status::Usage;
+        return (Status::Usage, report);
     };
     let election = match election_from(alloc, election) {
         Ok(election) => election,
-        Err(cause) => return cause.into(),
+        Err(cause) => return (cause.into(), report),
     };
-    match carry_out(alloc, command, &election, script, out, disk) {
-        Ok(()) => Status::Ok,
-        Err(status) => status,
+    match carry_out(
+        rt,
+        alloc,
+        command,
+        &election,
+        script,
+        out,
+        disk,
+        turns,
+        &mut report,
+    ) {
+        Ok(()) => (Status::Ok, report),
+        Err(status) => (status, report),
     }
 }
 
 /// Carries out a command under an election.
-fn carry_out<S: Source, K: Sink, D: Disk>(
+fn carry_out<R: Threads + Sync, S: Source, K: Sink, D: Disk, T: Turns>(
+    rt: &R,
     alloc: Global,
     command: Command,
     election: &Election,
     script: &mut S,
     out: &mut K,
     disk: &mut D,
+    turns: &T,
+    report: &mut Report,
 ) -> Result<(), Status>
-    requires { IsElection election.now }
+    requires election { IsElection election.now }
+    requires marks { report.old.marks.items ≡ [] }
+    requires held { report.old.held ≡ 0 }
     ensures { CommandEnds (disk_model D.seen D.calls D.may_leave D.faults)
-        command election.now (ended result)
+        command election.now (ended result) (reported report.new)
         (world (input S.left S.faults script.old) (output K.taken K.faults out.old) disk.old)
         (world (input S.left S.faults script.new) (output K.taken K.faults out.new) disk.new) }
 {
     match command {
         Command::Build => build(alloc, election, script, out)?,
         Command::Init => init(alloc, election, out, disk)?,
+        Command::Session => run_session(rt, alloc, election, script, out, disk, turns, report)?,
         Command::Replay => replay(alloc, election, script, out)?,
     }
     Ok(())

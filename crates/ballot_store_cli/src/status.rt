@@ -5,6 +5,7 @@ use crate::election::NoElection;
 use crate::init::NewFault;
 use ballot_record::LineWhy;
 use schedule_replay::ReplayFault;
+use session_run::RunFault;
 use std::fmt;
 
 /// Which of the two inputs of a run.
@@ -33,6 +34,12 @@ pub enum Status {
     WriteFault,
     /// There was no memory.
     Memory,
+    /// The disk has not as many bytes as a medium, or neither gate is open.
+    NoStore,
+    /// This cell, counted from 0, is the first wrong one of the bank that is read.
+    Damaged { cell: u32 },
+    /// The bank that is read was written under another election, with this header.
+    OtherElection { header: [u8; 32] },
     /// There is a store on the disk already.
     Exists,
     /// The disk has more bytes than a medium, so many.
@@ -57,6 +64,9 @@ impl Status {
             Status::ReadFault { .. } => 6,
             Status::WriteFault => 7,
             Status::Memory => 8,
+            Status::NoStore => 9,
+            Status::Damaged { .. } => 10,
+            Status::OtherElection { .. } => 11,
             Status::Exists => 12,
             Status::WrongSize { .. } => 13,
             Status::BadLine { .. } => 15,
@@ -143,6 +153,30 @@ impl From<ReplayFault> for Status {
     }
 }
 
+impl From<RunFault> for Status {
+    ghost use Rattle.std.specs.Prelude.{◌≡◌};
+    ghost use Rattle.ballot_store_cli.specs.Status.{run_fault_status};
+
+    ghost from_gives = { λ fault status. status ≡ run_fault_status fault };
+
+    fn from(fault: RunFault) -> Self {
+        match fault {
+            RunFault::NoStore => Status::NoStore,
+            RunFault::OtherElection { header } => Status::OtherElection { header },
+            RunFault::Damaged { cell } => Status::Damaged { cell },
+            RunFault::TooLong => Status::TooLong {
+                which: Which::Script,
+            },
+            RunFault::ReadFault => Status::ReadFault {
+                which: Which::Script,
+            },
+            RunFault::DiskFault => Status::DiskFault,
+            RunFault::WriteFault => Status::WriteFault,
+            RunFault::Memory => Status::Memory,
+        }
+    }
+}
+
 impl fmt::Display for Status {
     ghost use Rattle.std.specs.Prelude.{Some};
     ghost use Rattle.ballot_store_cli.specs.Status.{status_text};
@@ -169,6 +203,9 @@ impl fmt::Display for Status {
             } => f.write_str("script read fault"),
             Status::WriteFault => f.write_str("write fault"),
             Status::Memory => f.write_str("out of memory"),
+            Status::NoStore => f.write_str("no store"),
+            Status::Damaged { cell } => write!(f, "damaged cell {cell}"),
+            Status::OtherElection { .. } => f.write_str("other election"),
             Status::Exists => f.write_str("store exists"),
             Status::WrongSize { size } => write!(f, "wrong size {size}"),
             Status::BadLine { line, .. } => write!(f, "bad line {line}"),

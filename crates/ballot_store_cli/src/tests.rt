@@ -5,7 +5,8 @@ use crate::{Status, Which, run};
 use ballot_record::LineWhy;
 use crash_disk::{Disk, SureDisk};
 use election_def::ElectionFault;
-use outside_io::{Failed, MemorySink, MemorySource, Sink, Source, SureSink, SureSource};
+use outside_io::{Failed, MemorySink, MemorySource, NoTurns, Sink, Source, SureSink, SureSource};
+use phase_gate::Report;
 use std::alloc::{AllocError, Global};
 use std::process::Abort;
 use std::test::Fail;
@@ -13,6 +14,7 @@ use std::thread::Threads;
 
 mod init;
 mod replay;
+mod session;
 
 fn words(alloc: Global, texts: &[&str]) -> Result<Vec<String>, AllocError> {
     let mut words = Vec::new(alloc);
@@ -38,10 +40,54 @@ where
     E: Source,
     S: Source,
     K: Sink,
+    D: Disk + Drop,
+{
+    Ok(reports_on(rt, texts, election, script, out, disk)?.0)
+}
+
+// The same, with what it reports.
+fn reports_on<R, E, S, K, D>(
+    rt: &R,
+    texts: &[&str],
+    election: &mut E,
+    script: &mut S,
+    out: &mut K,
+    disk: &mut D,
+) -> Result<(Status, Report), Fail>
+where
+    R: Threads + Sync + AllocGlobal + Abort,
+    E: Source,
+    S: Source,
+    K: Sink,
+    D: Disk + Drop,
+{
+    let mut more = Vec::new(rt.alloc());
+    reports_beside(rt, texts, election, script, out, disk, &mut more)
+}
+
+// The same, with a disk for each word after the third.
+fn reports_beside<R, E, S, K, D>(
+    rt: &R,
+    texts: &[&str],
+    election: &mut E,
+    script: &mut S,
+    out: &mut K,
+    disk: &mut D,
+    more: &mut [D],
+) -> Result<(Status, Report), Fail>
+where
+    R: Threads + Sync + AllocGlobal + Abort,
+    E: Source,
+    S: Source,
+    K: Sink,
     D: Disk,
 {
-    let words = words(rt.alloc(), texts)?;
-    Ok(run(rt, rt.alloc(), &words, election, script, out, disk))
+    let alloc = rt.alloc();
+    let words = words(alloc, texts)?;
+    assert_eq!(rt; more.len(), words.len().saturating_sub(3));
+    Ok(run(
+        rt, alloc, &words, election, script, out, disk, more, &NoTurns,
+    ))
 }
 
 // How the run of these words ends where they need no disk: it makes no call of one.
@@ -59,7 +105,11 @@ where
     K: Sink,
 {
     let mut disk = SureDisk::new();
-    let status = ends_on(rt, texts, election, script, out, &mut disk)?;
+    let mut more = Vec::new(rt.alloc());
+    for _ in 3..texts.len() {
+        more.push(SureDisk::new())?;
+    }
+    let (status, _) = reports_beside(rt, texts, election, script, out, &mut disk, &mut more)?;
     assert_eq!(rt; disk.calls(), 0);
     Ok(status)
 }
@@ -146,16 +196,49 @@ where
 const THREE_BALLOTS: &str = "000000000000000901000000010000000\
     0000000000000000e0100000000000000020000000000000001010000000200000005";
 
-// Whether the bytes are the header of the example's images, and these digits from cell 4 on between zeros.
-fn is_image(alloc: Global, bytes: &[u8], cells: &str) -> Result<bool, Fail> {
-    let header = hex::decode(alloc, "48494253544f524500010302000000080000000000000000")?;
+// The header of the example's images, in hexadecimal digits.
+const HEADER: &str = "48494253544f524500010302000000080000000000000000";
+
+// An image with this header and so many bytes, which has these digits from a place on between zeros.
+fn image_with(
+    alloc: Global,
+    header: &str,
+    place: usize,
+    cells: &str,
+    size: usize,
+) -> Result<Vec<u8>, Fail> {
+    let header = hex::decode(alloc, header)?;
     let cells = hex::decode(alloc, cells)?;
     let mut image = Vec::new(alloc);
     image.extend_from_slice(&header)?;
-    image.resize(100, 0)?;
+    image.resize(place, 0)?;
     image.extend_from_slice(&cells)?;
-    image.resize(304, 0)?;
-    Ok(image.as_slice() == bytes)
+    image.resize(size, 0)?;
+    Ok(image)
+}
+
+// The example's image that has these digits from cell 4 on between zeros.
+fn image_of(alloc: Global, cells: &str) -> Result<Vec<u8>, Fail> {
+    image_with(alloc, HEADER, 100, cells, 304)
+}
+
+// These images as banks, and these gates.
+fn medium_with(
+    alloc: Global,
+    bank_a: &[u8],
+    bank_b: &[u8],
+    gates: [u8; 2],
+) -> Result<Vec<u8>, AllocError> {
+    let mut medium = bank_a.to_vec(alloc)?;
+    medium.extend_from_slice(bank_b)?;
+    medium.extend_from_slice(&gates)?;
+    Ok(medium)
+}
+
+// The example's medium whose images have these digits from cell 4 on between zeros.
+fn medium_of(alloc: Global, cells: &str) -> Result<Vec<u8>, Fail> {
+    let image = image_of(alloc, cells)?;
+    Ok(medium_with(alloc, &image, &image, [0xa7; 2])?)
 }
 
 #[test]
@@ -172,12 +255,12 @@ fn three_ballots_in_any_order(rt: HostRuntime) -> Result<(), Fail> {
     for script in scripts {
         let (status, bytes) = build_of(&rt, script)?;
         assert_eq!(rt; status, Status::Ok);
-        assert!(rt; is_image(rt.alloc(), &bytes, THREE_BALLOTS)?);
+        assert!(rt; bytes == image_of(rt.alloc(), THREE_BALLOTS)?);
     }
     let (status, bytes) = build_of(&rt, b"")?;
     assert_eq!(rt; status, Status::Ok);
     assert!(rt;
-        is_image(rt.alloc(), &bytes, "")?,
+        bytes == image_of(rt.alloc(), "")?,
         "an empty script gives an empty image"
     );
     Ok(())
@@ -285,10 +368,8 @@ fn pieces_of_one_byte(rt: HostRuntime) -> Result<(), Fail> {
         let mut sink = MemorySink::new(alloc, 304, Vec::new(alloc))?;
         let status = ends(&rt, &BUILD, &mut example(alloc)?, &mut source, &mut sink)?;
         assert_eq!(rt; status, Status::Ok);
-        assert!(rt;
-            is_image(alloc, sink.bytes(), THREE_BALLOTS)?,
-            "in pieces of {most}"
-        );
+        let image = image_of(alloc, THREE_BALLOTS)?;
+        assert!(rt; sink.bytes() == image.as_slice(), "in pieces of {most}");
     }
     Ok(())
 }
@@ -472,6 +553,13 @@ fn status_texts(rt: HostRuntime) -> Result<(), Fail> {
         (Status::DiskFault, 5, "disk fault"),
         (Status::WriteFault, 7, "write fault"),
         (Status::Memory, 8, "out of memory"),
+        (Status::NoStore, 9, "no store"),
+        (Status::Damaged { cell: 7 }, 10, "damaged cell 7"),
+        (
+            Status::OtherElection { header: [7; 32] },
+            11,
+            "other election",
+        ),
         (Status::Exists, 12, "store exists"),
         (Status::WrongSize { size: 611 }, 13, "wrong size 611"),
         (

@@ -27,6 +27,7 @@ pub fn gates<D: Disk>(disk: &mut D, election: &Election) -> Result<(bool, bool),
         (λ bytes. IsTrue which.1 ↔ HasOpen election.now B bytes)) }
     ensures same_bytes { D.seen disk.new ≡ D.seen disk.old }
     ensures crash_images { KeepsCrashImages D.calls D.may_leave disk.old disk.new }
+    ensures later { D.calls disk.old ≤ D.calls disk.new }
     ensures fault { CountsFault result (D.faults disk.old) (D.faults disk.new) }
 {
     let mut gates = [0; 2];
@@ -44,6 +45,7 @@ pub fn close_gate<D: Disk>(disk: &mut D, election: &Election, bank: Bank) -> Res
     ensures any_moment { (old : List ℕ) → D.seen disk.old ≡ Some old → LeavesOnly D.calls
         D.may_leave disk.old disk.new (IsTorn (gate_of election.now bank) 1 old) }
     ensures told { is_some (D.seen disk.new) ≡ is_some (D.seen disk.old) }
+    ensures later { D.calls disk.old ≤ D.calls disk.new }
     ensures fault { CountsFault result (D.faults disk.old) (D.faults disk.new) }
 {
     write_settled(disk, gate_place(election, bank), &[CLOSED])
@@ -53,12 +55,13 @@ pub fn close_gate<D: Disk>(disk: &mut D, election: &Election, bank: Bank) -> Res
 pub fn open_gate<D: Disk>(disk: &mut D, election: &Election, bank: Bank) -> Result<(), Failed>
     requires settled { IsSettled D.seen D.calls D.may_leave disk.old }
     requires size { HasMediumSize election.now (D.seen disk.old) }
+    ensures told { is_some (D.seen disk.new) ≡ is_some (D.seen disk.old) }
     ensures written { OnOk result (D.seen disk.new
         ≡ option_map (overwritten (gate_of election.now bank) (open_gate ∷ [])) (D.seen disk.old)) }
     ensures settled { OnOk result (IsSettled D.seen D.calls D.may_leave disk.new) }
     ensures any_moment { (old : List ℕ) → D.seen disk.old ≡ Some old → LeavesOnly D.calls
         D.may_leave disk.old disk.new (IsTorn (gate_of election.now bank) 1 old) }
-    ensures told { is_some (D.seen disk.new) ≡ is_some (D.seen disk.old) }
+    ensures later { D.calls disk.old ≤ D.calls disk.new }
     ensures fault { CountsFault result (D.faults disk.old) (D.faults disk.new) }
 {
     write_settled(disk, gate_place(election, bank), &[OPEN])
@@ -74,6 +77,7 @@ pub fn open_both_gates<D: Disk>(disk: &mut D, election: &Election) -> Result<(),
     ensures any_moment { (old : List ℕ) → D.seen disk.old ≡ Some old → LeavesOnly D.calls
         D.may_leave disk.old disk.new (IsTorn (gate_of election.now A) 2 old) }
     ensures told { is_some (D.seen disk.new) ≡ is_some (D.seen disk.old) }
+    ensures later { D.calls disk.old ≤ D.calls disk.new }
     ensures fault { CountsFault result (D.faults disk.old) (D.faults disk.new) }
 {
     write_settled(disk, gate_place(election, Bank::A), &[OPEN, OPEN])

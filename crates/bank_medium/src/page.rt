@@ -27,6 +27,7 @@ pub fn read_page<D: Disk>(
         out.new ≡ slice_range (bytes_of election.now bank bytes) at (at + length out.old))) }
     ensures same_bytes { D.seen disk.new ≡ D.seen disk.old }
     ensures crash_images { KeepsCrashImages D.calls D.may_leave disk.old disk.new }
+    ensures later { D.calls disk.old ≤ D.calls disk.new }
     ensures fault { CountsFault result (D.faults disk.old) (D.faults disk.new) }
 {
     disk.read(bank_place(election, bank) + at as u64, out)
@@ -52,6 +53,7 @@ pub fn write_page<D: Disk>(
         (place_of election.now bank + at) (length bytes.now) disk.old disk.new }
     ensures any_bytes { OnOk result (TearsExactly D.calls D.may_leave
         (place_of election.now bank + at) (length bytes.now) disk.old disk.new) }
+    ensures later { D.calls disk.old ≤ D.calls disk.new }
     ensures fault { CountsFault result (D.faults disk.old) (D.faults disk.new) }
 {
     disk.write_at(bank_place(election, bank) + at as u64, bytes)
@@ -65,6 +67,7 @@ pub fn settle<D: Disk>(disk: &mut D) -> Result<(), Failed>
     ensures inside { KeepsThemInside D.calls D.may_leave disk.old disk.new }
     ensures settled { OnOk result (IsSettled D.seen D.calls D.may_leave disk.new) }
     ensures unsettled { OnErr result (KeepsCrashImages D.calls D.may_leave disk.old disk.new) }
+    ensures later { D.calls disk.old ≤ D.calls disk.new }
     ensures fault { CountsFault result (D.faults disk.old) (D.faults disk.new) }
 {
     disk.sync()
@@ -88,6 +91,7 @@ pub fn write_bank<D: Disk>(
     ensures any_moment { (old : List ℕ) → D.seen disk.old ≡ Some old → LeavesOnly D.calls D.may_leave
         disk.old disk.new (IsTorn (place_of election.now bank) (bank_size election.now) old) }
     ensures told { is_some (D.seen disk.new) ≡ is_some (D.seen disk.old) }
+    ensures later { D.calls disk.old ≤ D.calls disk.new }
     ensures fault { CountsFault result (D.faults disk.old) (D.faults disk.new) }
 {
     write_settled(disk, bank_place(election, bank), bytes)

@@ -18,6 +18,7 @@ pub(crate) fn write_settled<D: Disk>(disk: &mut D, at: u64, bytes: &[u8]) -> Res
     ensures any_moment { (old : List ℕ) → D.seen disk.old ≡ Some old
         → LeavesOnly D.calls D.may_leave disk.old disk.new (IsTorn at (length bytes.now) old) }
     ensures told { is_some (D.seen disk.new) ≡ is_some (D.seen disk.old) }
+    ensures later { D.calls disk.old ≤ D.calls disk.new }
     ensures fault { CountsFault result (D.faults disk.old) (D.faults disk.new) }
 {
     disk.write_at(at, bytes)?;

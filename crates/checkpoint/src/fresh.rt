@@ -74,6 +74,7 @@ pub fn init<D: Disk>(
         (λ fault. IsUnchangedAt fault (D.seen disk.old) (D.seen disk.new)) }
     ensures any_moment { (bytes : List ℕ) → D.seen disk.old ≡ Some bytes
         → SyncsFirst D.calls D.may_leave disk.old disk.new (IsUntouchedOrNew election.now bytes) }
+    ensures later { D.calls disk.old ≤ D.calls disk.new }
     ensures fault { CountsFaultIf (IsErrOf result InitFault.DiskFault)
         (D.faults disk.old) (D.faults disk.new) }
 {
@@ -95,6 +96,7 @@ fn look<D: Disk>(disk: &mut D, election: &Election) -> Result<(), InitFault>
     ensures settled { IsSettled D.seen D.calls D.may_leave disk.new }
     ensures any_moment { (bytes : List ℕ) → D.seen disk.old ≡ Some bytes
         → LeavesOnly D.calls D.may_leave disk.old disk.new (λ c. c ≡ bytes) }
+    ensures later { D.calls disk.old ≤ D.calls disk.new }
     ensures fault { CountsFaultIf (IsErrOf result InitFault.DiskFault)
         (D.faults disk.old) (D.faults disk.new) }
 {

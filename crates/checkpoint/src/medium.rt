@@ -1,6 +1,6 @@
 //! The checkpoint: a medium comes to hold another set.
 
-ghost use Rattle.std.specs.Prelude.{◌≡◌, ◌⊎◌, ℕ, List, Some, is_some, OnOk};
+ghost use Rattle.std.specs.Prelude.{◌≡◌, ◌≤◌, ◌⊎◌, ℕ, List, Some, is_some, OnOk};
 ghost use Rattle.std.specs.Option.{ForSome};
 ghost use Rattle.body_store.specs.Contents.{IsStored};
 ghost use Rattle.outside_io.specs.Told.{AsTold};
@@ -37,6 +37,7 @@ pub fn checkpoint<D: Disk>(
         → IsMediumOf election.now bytes old → LeavesOnly D.calls D.may_leave disk.old disk.new
         (λ c. HoldsSet election.now c old ⊎ HoldsSet election.now c closed.now.ballots) }
     ensures told { is_some (D.seen disk.new) ≡ is_some (D.seen disk.old) }
+    ensures later { D.calls disk.old ≤ D.calls disk.new }
     ensures fault { CountsFault result (D.faults disk.old) (D.faults disk.new) }
 {
     prove!(closed.len() <= election.limit() as usize);

@@ -44,6 +44,7 @@ fn renew_page<D: Disk>(
         → LeavesOnly D.calls D.may_leave disk.old disk.new
         (IsTorn (place_of election.now bank) (bank_size election.now) start) }
     ensures told { is_some (D.seen disk.new) ≡ is_some (D.seen disk.old) }
+    ensures later { D.calls disk.old ≤ D.calls disk.new }
     ensures fault { CountsFault result (D.faults disk.old) (D.faults disk.new) }
 {
     read_page(disk, election, bank, at, found)?;
@@ -77,6 +78,7 @@ fn write_pages<D: Disk>(
         → LeavesOnly D.calls D.may_leave disk.old disk.new
         (IsTorn (place_of election.now bank) (bank_size election.now) old) }
     ensures told { is_some (D.seen disk.new) ≡ is_some (D.seen disk.old) }
+    ensures later { D.calls disk.old ≤ D.calls disk.new }
     ensures fault { CountsFault result (D.faults disk.old) (D.faults disk.new) }
 {
     let end = closed.election().bank_bytes();
@@ -118,6 +120,7 @@ pub fn fill_bank<D: Disk>(
         → LeavesOnly D.calls D.may_leave disk.old disk.new
         (IsHalfRenewed election.now (bank_named bank) (image_of election.now closed.now.ballots) old) }
     ensures told { is_some (D.seen disk.new) ≡ is_some (D.seen disk.old) }
+    ensures later { D.calls disk.old ≤ D.calls disk.new }
     ensures fault { CountsFault result (D.faults disk.old) (D.faults disk.new) }
 {
     write_pages(
@@ -145,6 +148,7 @@ pub fn renew_bank<D: Disk>(
     requires settled { IsSettled D.seen D.calls D.may_leave disk.old }
     requires size { HasMediumSize election.now (D.seen disk.old) }
     requires opened { ForSome (D.seen disk.old) (λ old. HasOpen election.now bank old) }
+    ensures stored { IsStored closed.now }
     ensures renewed { OnOk result (AsTold D.seen disk.old disk.new
         (IsRenewed election.now (bank_named bank) (image_of election.now closed.now.ballots))) }
     ensures settled { OnOk result (IsSettled D.seen D.calls D.may_leave disk.new) }
@@ -152,8 +156,10 @@ pub fn renew_bank<D: Disk>(
         → LeavesOnly D.calls D.may_leave disk.old disk.new
         (IsHalfRenewed election.now (bank_named bank) (image_of election.now closed.now.ballots) old) }
     ensures told { is_some (D.seen disk.new) ≡ is_some (D.seen disk.old) }
+    ensures later { D.calls disk.old ≤ D.calls disk.new }
     ensures fault { CountsFault result (D.faults disk.old) (D.faults disk.new) }
 {
+    prove!(closed.len() <= election.limit() as usize);
     close_gate(disk, election, bank)?;
     fill_bank(disk, closed, election, bank, scratch)
 }

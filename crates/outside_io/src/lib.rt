@@ -1,4 +1,4 @@
-//! Where bytes come from and go to: sources, sinks, and the lines of a source.
+//! What stands outside a run: sources, sinks, the lines of a source, and the turns of workers.
 #![tactic(auto)]
 
 mod count;
@@ -10,6 +10,7 @@ mod sink;
 mod source;
 mod standard;
 mod sure;
+mod turns;
 
 pub use count::Count;
 pub use error::{Failed, Memory};
@@ -19,6 +20,7 @@ pub use sink::Sink;
 pub use source::{Source, read_piece};
 pub use standard::{FileSource, StdinSource, StdoutSink};
 pub use sure::{SureSink, SureSource};
+pub use turns::{NoTurns, Turns};
 
 #[cfg(test)]
 mod tests;

@@ -1,4 +1,5 @@
 pub mod Agreeing
+pub mod Differences
 pub mod OnlyReading
 pub mod Paging
 pub mod Refusals

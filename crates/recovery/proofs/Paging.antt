@@ -1,16 +1,17 @@
 -- A bank that is read page after page.
-use Rattle.std.proofs.Common.{Bool, true, false, ◌≡◌, ℕ, ◌+◌, ◌-◌, ◌≤◌, List, ◌++◌, length, take, drop, Option, Some, None, refl, sym, ◌∙◌, ap, subst, arith}
+use Rattle.std.proofs.Common.{◌≡◌, ℕ, ◌+◌, ◌-◌, ◌≤◌, List, ◌++◌, length, take, drop, Option, Some, None, refl, sym, ◌∙◌, ap, subst, arith}
 use Rattle.std.proofs.Math.Seq.{take-add}
 use Rattle.std.proofs.lemmas.List.{length-append, length-drop, length-take, take-append-drop, take_all}
-use Rattle.std.proofs.lemmas.Bool.{false≢true}
-use Rattle.std.specs.Prelude.{◌↔◌, IsTrue, slice_range, IfSome}
+use Rattle.std.specs.Prelude.{slice_range, IfSome}
 use Rattle.body_store.specs.Contents.{Contents, IsStored}
 use Rattle.image_builder.proofs.Held.{image_fits}
 use Rattle.image_builder.specs.Feeding.{Feeding, IsRefusedPiece}
 use Rattle.image_builder.specs.Reading.{IsRefusedBank}
 use Rattle.image_builder.specs.declared.read.ImageFault.{ImageFault}
 use Rattle.image_builder.specs.declared.read.ImageFault.TheVariants.{OtherElection, Damaged, Memory}
+use Rattle.recovery.proofs.Differences.{differs_behind, differs_within}
 use Rattle.recovery.specs.Canonical.{IsReadAs, IsReadFrom}
+use Rattle.recovery.specs.Differing.{DiffersFirstAt, IsFirstDifference}
 use Rattle.recovery.specs.Faults.{recover_fault}
 use Rattle.recovery.specs.Refused.{IsRefusedMedium}
 use Rattle.store_spec.specs.Ballot.{Ballot}
@@ -98,29 +99,35 @@ stored_image e store own stored =
 pub stored_election : (e : Election) (store : Contents) → e ≡ store.election → IsStored store → IsElection e
 stored_election e store own stored = subst IsElection (sym own) stored.election
 
+-- pages before it agree, and a page differs
+pub differs_in_page : (xs ys : List ℕ) (at k place : ℕ) → take at xs ≡ take at ys → DiffersFirstAt place (slice_range xs at (at + k)) (slice_range ys at (at + k)) → DiffersFirstAt (at + place) xs ys
+differs_in_page xs ys at k place same differs = differs_behind xs ys at place same (differs_within (drop at xs) (drop at ys) (at + k - at) place differs)
+
 module _ (e : Election) (bank : Bank) (image : List ℕ) where
   -- a page differs
-  pub differs_told : (first now : Option (List ℕ)) (at k : ℕ) (same : Bool) → now ≡ first → same ≡ false
-      → IfSome now (λ bytes. IsTrue same ↔ (slice_range (bank_of e bank bytes) at (at + k) ≡ slice_range image at (at + k)))
-      → IfSome first (λ bytes. IsTrue false ↔ (bank_of e bank bytes ≡ image))
-  differs_told None now at k same still differs page = tt
-  differs_told (Some bytes) now at k same still differs page =
-      let here = subst (λ (o : Option (List ℕ)). IfSome o (λ bytes. IsTrue same ↔ (slice_range (bank_of e bank bytes) at (at + k) ≡ slice_range image at (at + k)))) still page in
-      (λ agrees. absurd (false≢true agrees), λ whole. sym differs ∙ here.1 (ap (λ (xs : List ℕ). slice_range xs at (at + k)) whole))
+  pub differs_told : (first now : Option (List ℕ)) (at k place : ℕ) (differs : Option ℕ) → differs ≡ Some place → now ≡ first
+      → IfSome first (λ bytes. take at (bank_of e bank bytes) ≡ take at image)
+      → IfSome now (λ bytes. IsFirstDifference (slice_range (bank_of e bank bytes) at (at + k)) (slice_range image at (at + k)) differs)
+      → IfSome first (λ bytes. DiffersFirstAt (at + place) (bank_of e bank bytes) image)
+  differs_told None now at k place differs is still before page = tt
+  differs_told (Some bytes) now at k place differs is still before page =
+      let there = subst (λ (o : Option (List ℕ)). IfSome o (λ bytes. IsFirstDifference (slice_range (bank_of e bank bytes) at (at + k)) (slice_range image at (at + k)) differs)) still page in
+      let here = subst (λ (o : Option ℕ). IsFirstDifference (slice_range (bank_of e bank bytes) at (at + k)) (slice_range image at (at + k)) o) is there in
+      differs_in_page (bank_of e bank bytes) image at k place before here
 
   -- it agrees
-  pub agrees_told : (first now : Option (List ℕ)) (at k : ℕ) (same : Bool) → now ≡ first → same ≡ true
+  pub agrees_told : (first now : Option (List ℕ)) (at k : ℕ) (differs : Option ℕ) → differs ≡ None → now ≡ first
       → IfSome first (λ bytes. take at (bank_of e bank bytes) ≡ take at image)
-      → IfSome now (λ bytes. IsTrue same ↔ (slice_range (bank_of e bank bytes) at (at + k) ≡ slice_range image at (at + k)))
+      → IfSome now (λ bytes. IsFirstDifference (slice_range (bank_of e bank bytes) at (at + k)) (slice_range image at (at + k)) differs)
       → IfSome first (λ bytes. take (at + k) (bank_of e bank bytes) ≡ take (at + k) image)
-  agrees_told None now at k same still agrees before page = tt
-  agrees_told (Some bytes) now at k same still agrees before page =
-      let here = subst (λ (o : Option (List ℕ)). IfSome o (λ bytes. IsTrue same ↔ (slice_range (bank_of e bank bytes) at (at + k) ≡ slice_range image at (at + k)))) still page in
-      same_more (bank_of e bank bytes) image at k before (here.0 agrees)
+  agrees_told None now at k differs is still before page = tt
+  agrees_told (Some bytes) now at k differs is still before page =
+      let there = subst (λ (o : Option (List ℕ)). IfSome o (λ bytes. IsFirstDifference (slice_range (bank_of e bank bytes) at (at + k)) (slice_range image at (at + k)) differs)) still page in
+      let here = subst (λ (o : Option ℕ). IsFirstDifference (slice_range (bank_of e bank bytes) at (at + k)) (slice_range image at (at + k)) o) is there in
+      same_more (bank_of e bank bytes) image at k before here
 
   -- all pages agree
   pub whole_told : (first : Option (List ℕ)) (at : ℕ) → ((x : List ℕ) → first ≡ Some x → length x ≡ medium_size e) → length image ≡ bank_size e → bank_size e ≤ at
-      → IfSome first (λ bytes. take at (bank_of e bank bytes) ≡ take at image) → IfSome first (λ bytes. IsTrue true ↔ (bank_of e bank bytes ≡ image))
+      → IfSome first (λ bytes. take at (bank_of e bank bytes) ≡ take at image) → IfSome first (λ bytes. bank_of e bank bytes ≡ image)
   whole_told None at long fits far before = tt
-  whole_told (Some bytes) at long fits far before =
-      (λ agrees. same_all (bank_of e bank bytes) image at (omega (arith, length-bank_of e bank bytes (long bytes refl))) (omega arith) before, λ whole. refl)
+  whole_told (Some bytes) at long fits far before = same_all (bank_of e bank bytes) image at (omega (arith, length-bank_of e bank bytes (long bytes refl))) (omega arith) before

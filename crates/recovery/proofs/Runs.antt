@@ -7,9 +7,9 @@ use Rattle.crash_disk.proofs.Moments.{joined, one_call, weaker}
 use Rattle.outside_io.specs.Told.{IfTold}
 use Rattle.outside_io.proofs.Told.{told_holds}
 use Rattle.recovery.proofs.Agreeing.{half_holds, holds_the_same, read_holds, renewed_medium}
-use Rattle.recovery.proofs.OnlyReading.{reads_joined, reads_once}
+use Rattle.recovery.proofs.OnlyReading.{nothing_joined, nothing_once, settled_reads}
 use Rattle.recovery.specs.Canonical.{IsReadAs}
-use Rattle.recovery.specs.ReadsOnly.{ReadsOnly}
+use Rattle.recovery.specs.ReadsOnly.{ReadsOnly, WritesNothing}
 use Rattle.recovery.specs.Refused.{IsUnchangedAt}
 use Rattle.recovery.specs.declared.fault.RecoverFault.{RecoverFault}
 use Rattle.recovery.specs.declared.fault.RecoverFault.TheVariants.{NoStore, OtherElection, Damaged, DiskFault, Memory}
@@ -59,6 +59,11 @@ module _ {D : Type 0} (seen : D → Option (List ℕ)) (calls : D → ℕ) (may_
   pub sees_still : seen mid ≡ Some bytes
   sees_still = reads.same_bytes ∙ sees
 
+-- two runs on a settled disk, neither of which writes
+pub looked : {D : Type 0} (seen : D → Option (List ℕ)) (calls : D → ℕ) (may_leave : D → ℕ → List ℕ → Type 0) (old mid new : D) → IsSettled seen calls may_leave old
+    → WritesNothing seen calls may_leave old mid → WritesNothing seen calls may_leave mid new → ReadsOnly seen calls may_leave old new
+looked seen calls may_leave old mid new settled first next = settled_reads seen calls may_leave old new settled (nothing_joined seen calls may_leave old mid new first next)
+
 -- a store was read, and then the medium was made that of it
 module _ {D : Type 0} (seen : D → Option (List ℕ)) (calls : D → ℕ) (may_leave : D → ℕ → List ℕ → Type 0) (e : Election) (set : List Ballot) (election : IsElection e) where
   pub restored : (old mid new : D) (bytes : List ℕ) → ReadsOnly seen calls may_leave old mid → seen old ≡ Some bytes → HoldsSet e bytes set
@@ -68,10 +73,10 @@ module _ {D : Type 0} (seen : D → Option (List ℕ)) (calls : D → ℕ) (may_
       (weaker calls may_leave mid new (λ c. HoldsSet e c set) (HoldsTheSame e bytes) (λ c now. holds_the_same e set bytes c election held now) run)
 
   -- by what its calls tell
-  pub restored_told : (old one two new : D) (bank : Bank) (bytes : List ℕ) → ReadsOnly seen calls may_leave old one → ReadsOnly seen calls may_leave one two → seen old ≡ Some bytes
+  pub restored_told : (old one two new : D) (bank : Bank) (bytes : List ℕ) → IsSettled seen calls may_leave old → WritesNothing seen calls may_leave old one → WritesNothing seen calls may_leave one two → seen old ≡ Some bytes
       → IfSome (seen one) (λ x. IsReadAs e x bank set) → ((x : List ℕ) → seen two ≡ Some x → LeavesOnly calls may_leave two new (λ c. HoldsSet e c set)) → LeavesOnly calls may_leave old new (HoldsTheSame e bytes)
-  restored_told old one two new bank bytes first next sees read run =
-      let reads = reads_joined seen calls may_leave old one two first next in
+  restored_told old one two new bank bytes settled first next sees read run =
+      let reads = looked seen calls may_leave old one two settled first next in
       let found = told_holds (λ x. IsReadAs e x bank set) bytes (first.same_bytes ∙ sees) read in
       restored old two new bytes reads sees (read_holds e set bank bytes found) (run bytes (reads.same_bytes ∙ sees))
 
@@ -96,4 +101,4 @@ module _ {D : Type 0} (seen : D → Option (List ℕ)) (calls : D → ℕ) (may_
   unsynced_reads bytes sees told law keeps =
       let now = some_of (seen new) (told ∙ ap is_some sees) in
       let was : seen old ≡ Some now.0 = (settled now.0).0 (keeps.at_most.after now.0 (law now.0 now.1)) in
-      reads_once seen calls may_leave old new settled (now.1 ∙ sym was) keeps
+      settled_reads seen calls may_leave old new settled (nothing_once seen calls may_leave old new (now.1 ∙ sym was) keeps)

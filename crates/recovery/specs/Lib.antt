@@ -1,4 +1,5 @@
 pub mod Canonical
+pub mod Differing
 pub mod Faults
 pub mod ReadsOnly
 pub mod Refused

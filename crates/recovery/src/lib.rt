@@ -7,7 +7,8 @@ mod look;
 mod restoring;
 
 pub use fault::RecoverFault;
-pub use restoring::recover;
+pub use look::{choose, first_difference, read_bank};
+pub use restoring::{other_of, recover};
 
 #[cfg(test)]
 mod tests;

@@ -1,6 +1,6 @@
 //! Recovery.
 
-ghost use Rattle.std.specs.Prelude.{◌≡◌, ◌↔◌, ℕ, List, Some, is_some, IsErrOf, IsTrue, IfErr, IfOk, IfSome, OnOk};
+ghost use Rattle.std.specs.Prelude.{◌≡◌, ◌≤◌, ◌↔◌, ℕ, List, Some, is_some, IsErrOf, IsTrue, IfErr, IfOk, IfSome, OnOk};
 ghost use Rattle.std.specs.Option.{ForSome};
 ghost use Rattle.bank_medium.specs.Banks.{bank_named};
 ghost use Rattle.body_store.specs.Contents.{IsStored};
@@ -53,6 +53,7 @@ pub fn recover<D: Disk>(
         → IsSettled D.seen D.calls D.may_leave disk.old → D.seen disk.old ≡ Some bytes
         → IsMediumOf election.now bytes set
         → ReadsOnly D.seen D.calls D.may_leave disk.old disk.new }
+    ensures later { D.calls disk.old ≤ D.calls disk.new }
     ensures fault { CountsFaultIf (IsErrOf result RecoverFault.DiskFault)
         (D.faults disk.old) (D.faults disk.new) }
 {
@@ -85,6 +86,7 @@ fn restore<D: Disk>(
     ensures canonical { (bytes : List ℕ) (set : List Ballot) → D.seen disk.old ≡ Some bytes
         → IsMediumOf election.now bytes set
         → ReadsOnly D.seen D.calls D.may_leave disk.old disk.new }
+    ensures later { D.calls disk.old ≤ D.calls disk.new }
     ensures fault { CountsFaultIf (IsErrOf result RecoverFault.DiskFault)
         (D.faults disk.old) (D.faults disk.new) }
 {
@@ -119,6 +121,7 @@ fn make_canonical<D: Disk>(
     ensures canonical { (bytes : List ℕ) (set : List Ballot) → D.seen disk.old ≡ Some bytes
         → IsMediumOf election.now bytes set
         → ReadsOnly D.seen D.calls D.may_leave disk.old disk.new }
+    ensures later { D.calls disk.old ≤ D.calls disk.new }
     ensures fault { CountsFault result (D.faults disk.old) (D.faults disk.new) }
 {
     let other = other_of(bank);
@@ -139,7 +142,7 @@ fn make_canonical<D: Disk>(
 }
 
 /// The other bank.
-fn other_of(bank: Bank) -> Bank
+pub fn other_of(bank: Bank) -> Bank
     ensures { bank_named result ≡ other_bank (bank_named bank) }
 {
     match bank {

@@ -17,7 +17,7 @@ use Rattle.step_core.specs.Withdrawing.{Withdrawing}
 use Rattle.store_spec.specs.Election.{Election}
 
 -- each one of so many is done, so all are
-all_done : {X : Type 0} (IsDone : X → Type 0) (tabs : List X) (many : ℕ) → length tabs ≡ many → ((id : ℕ) → id < many → IsSomeAnd (slice_get tabs id) IsDone) → All IsDone tabs
+pub all_done : {X : Type 0} (IsDone : X → Type 0) (tabs : List X) (many : ℕ) → length tabs ≡ many → ((id : ℕ) → id < many → IsSomeAnd (slice_get tabs id) IsDone) → All IsDone tabs
 all_done {X} IsDone tabs many counted each k d within =
     subst (λ (o : Option X). IsSomeAnd o IsDone) (slice_get-get_or tabs k d within) (each k (omega arith))
 

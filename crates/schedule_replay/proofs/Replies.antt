@@ -4,7 +4,9 @@ use Rattle.std.proofs.lemmas.Simd.{map-map}
 use Rattle.std.proofs.lemmas.Option.{slice_get-map}
 use Rattle.std.specs.Option.{option_map_or}
 use Rattle.std.specs.Prelude.{IfOk, option_map, slice_get}
-use Rattle.schedule_replay.specs.Replayed.{cast_words, met_text, reply_lines, reply_text, withdraw_words}
+use Rattle.reply_lines.specs.Words.{met_text}
+use Rattle.schedule_replay.specs.Replayed.{cast_words, withdraw_words}
+use Rattle.store_spec.specs.Session.{reply_lines, withdraw_text}
 use Rattle.step_core.specs.CastCore.{met_of}
 use Rattle.step_core.specs.Casting as casting
 use Rattle.step_core.specs.Casting.{Casting}
@@ -27,10 +29,10 @@ cast_words_are c id replies ws are stands =
     sym (map-map met_text met_of replies) ∙ ap (map met_text) are
     ∙ words_there (λ (tab : casting.Tabulator). map (λ a. a.met) tab.answers) met_text c.tabs id ws stands
 
-pub withdraw_words_are : (w : Withdrawing) (id : ℕ) (replies : List WithdrawReply) (ws : List (List ℕ)) → map reply_of replies ≡ withdrawing.replies_at w id → slice_get (withdraw_words w) id ≡ Some ws → map (λ reply. reply_text (reply_of reply)) replies ≡ ws
+pub withdraw_words_are : (w : Withdrawing) (id : ℕ) (replies : List WithdrawReply) (ws : List (List ℕ)) → map reply_of replies ≡ withdrawing.replies_at w id → slice_get (withdraw_words w) id ≡ Some ws → map (λ reply. withdraw_text (reply_of reply)) replies ≡ ws
 withdraw_words_are w id replies ws are stands =
-    sym (map-map reply_text reply_of replies) ∙ ap (map reply_text) are
-    ∙ words_there (λ (tab : withdrawing.Withdrawer). map (λ a. a.reply) tab.answers) reply_text w.tabs id ws stands
+    sym (map-map withdraw_text reply_of replies) ∙ ap (map withdraw_text) are
+    ∙ words_there (λ (tab : withdrawing.Withdrawer). map (λ a. a.reply) tab.answers) withdraw_text w.tabs id ws stands
 
 -- the lines of the words that are told are those of the words that stand there
 pub lines_are : {A E : Type 0} (r : Result A E) (old now : List ℕ) (list : ℕ) (words : List (List ℕ)) (Stands : List (List ℕ) → Type 0) → ((ws : List (List ℕ)) → Stands ws → words ≡ ws) → IfOk r (λ _. now ≡ old ++ reply_lines list 1 words) → IfOk r (λ _. (ws : List (List ℕ)) → Stands ws → now ≡ old ++ reply_lines list 1 ws)

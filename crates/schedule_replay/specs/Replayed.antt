@@ -3,6 +3,7 @@
 use Rattle.std.specs.Prelude.{◌≡◌, ℕ, ◌+◌, ◌-◌, ◌==◌, if◌then◌else◌, List, [], ◌∷◌, ◌++◌, length, map, codes, All}
 use Rattle.std.specs.Fmt.{decimal}
 use Rattle.std.specs.List.Sorted.{IsNonDecreasing}
+use Rattle.reply_lines.specs.Words.{met_text}
 use Rattle.schedule_replay.specs.Input.{Input, lists_in, schedule_in}
 use Rattle.schedule_replay.specs.declared.line.Kind.{Kind}
 use Rattle.schedule_replay.specs.declared.line.Kind.TheVariants as kinds
@@ -13,10 +14,7 @@ use Rattle.step_core.specs.Withdrawing.{Withdrawing}
 use Rattle.store_spec.specs.BallotLine.{space}
 use Rattle.store_spec.specs.Election.{Election}
 use Rattle.store_spec.specs.Input.{line_end}
-use Rattle.store_spec.specs.Phase.{Met}
-use Rattle.store_spec.specs.Phase as met
-use Rattle.store_spec.specs.WithdrawPhase.{WithdrawReply}
-use Rattle.store_spec.specs.WithdrawPhase as reply
+use Rattle.store_spec.specs.Session.{all_reply_lines, withdraw_text}
 
 -- ---- the lines
 
@@ -32,20 +30,6 @@ abbrev pub cell_lines : ℕ → List ℕ → List ℕ
 cell_lines place [] = []
 cell_lines place (v ∷ cells) = cell_lines_at place v ++ cell_lines (place + 1) cells
 
--- `I K REPLY`
-abbrev pub reply_line : ℕ → ℕ → List ℕ → List ℕ
-reply_line list at word = decimal list ++ space ∷ (decimal at ++ space ∷ (word ++ line_end ∷ []))
-
--- the same of each reply of a list, from one on
-abbrev pub reply_lines : ℕ → ℕ → List (List ℕ) → List ℕ
-reply_lines list at [] = []
-reply_lines list at (word ∷ words) = reply_line list at word ++ reply_lines list (at + 1) words
-
--- the same of each list, from one on
-abbrev pub all_reply_lines : ℕ → List (List (List ℕ)) → List ℕ
-all_reply_lines list [] = []
-all_reply_lines list (words ∷ lists) = reply_lines list 1 words ++ all_reply_lines (list + 1) lists
-
 abbrev pub count_line : ℕ → List ℕ
 count_line count = codes "steps " ++ (decimal count ++ line_end ∷ [])
 
@@ -58,22 +42,11 @@ replay_text count after end replies =
     ++ cell_lines 0 end
     ++ all_reply_lines 1 replies
 
-abbrev pub met_text : Met → List ℕ
-met_text met.Met.Held = codes "held"
-met_text met.Met.Accepted = codes "accepted"
-met_text met.Met.Taken = codes "taken"
-met_text met.Met.Full = codes "full"
-
-abbrev pub reply_text : WithdrawReply → List ℕ
-reply_text reply.WithdrawReply.Withdrawn = codes "withdrawn"
-reply_text reply.WithdrawReply.Gone = codes "gone"
-reply_text reply.WithdrawReply.Absent = codes "absent"
-
 abbrev pub cast_words : Casting → List (List (List ℕ))
 cast_words c = map (λ tab. map met_text (map (λ a. a.met) tab.answers)) c.tabs
 
 abbrev pub withdraw_words : Withdrawing → List (List (List ℕ))
-withdraw_words w = map (λ tab. map reply_text (map (λ a. a.reply) tab.answers)) w.tabs
+withdraw_words w = map (λ tab. map withdraw_text (map (λ a. a.reply) tab.answers)) w.tabs
 
 -- ---- the steps
 

@@ -12,6 +12,8 @@ mod script;
 mod text;
 
 pub use fault::ReplayFault;
+pub use machine::Machine;
+pub use run::rest_all;
 pub use schedule::replay;
 
 #[cfg(test)]

@@ -1,9 +1,10 @@
 ghost use Rattle.std.specs.Prelude.{◌≡◌, ◌≢◌, ◌++◌, ◌-◌, ◌<◌, ◌≤◌, ℕ, List, IfOk, length, string_bytes, slice_get, Some};
-ghost use Rattle.schedule_replay.specs.Replayed.{cast_words, reply_lines, withdraw_words};
+ghost use Rattle.schedule_replay.specs.Replayed.{cast_words, withdraw_words};
+ghost use Rattle.store_spec.specs.Session.{reply_lines};
 ghost use Rattle.schedule_replay.specs.Machine.{IsShortCasting, IsShortWithdrawing, cast_work, withdraw_work};
 
-use crate::text::push_replies;
 use outside_io::Memory;
+use reply_lines::push_replies;
 use step_core::{CastCore, Stepped, WithdrawCore};
 
 /// Some that step on shared words, each with a list of its own.

@@ -1,6 +1,7 @@
 ghost use Rattle.std.specs.Prelude.{◌≡◌, ◌≢◌, ◌++◌, ◌<◌, ℕ, IfOk, string_bytes};
 ghost use Rattle.schedule_replay.specs.Machine.{Follows, InTurn, StepsOn};
-ghost use Rattle.schedule_replay.specs.Replayed.{all_reply_lines, places_of};
+ghost use Rattle.schedule_replay.specs.Replayed.{places_of};
+ghost use Rattle.store_spec.specs.Session.{all_reply_lines};
 ghost use Rattle.schedule_replay.specs.Runs.{IsScheduled, TellsReplay};
 
 use crate::machine::Machine;
@@ -41,7 +42,7 @@ fn rest<C: Machine>(core: &mut C, tab: usize)
 }
 
 /// Steps one after another until nobody has anything left to do.
-fn rest_all<C: Machine>(core: &mut C, tabs: usize)
+pub fn rest_all<C: Machine>(core: &mut C, tabs: usize)
     requires counted { tabs ≡ C.tabs core.old }
     requires sound { C.sound core.old }
     ensures in_turn { InTurn C.steps C.done core.old core.new }

@@ -4,6 +4,16 @@
 use Rattle.std.specs.Prelude.{◌≡◌, ◌↔◌, ◌⊎◌, ℕ, ◌+◌, ◌*◌, ◌<◌, ◌≤◌, max, List, ◌++◌, length, take, drop, Option, Some, None}
 use Rattle.store_spec.specs.Fault.{last_count, next_count}
 
+-- the members of a disk, as its trait has them
+pub record DiskModel (D : Type 0) : Type 1 where
+  pub seen : D → Option (List ℕ)
+  pub calls : D → ℕ
+  pub may_leave : D → ℕ → List ℕ → Type 0
+  pub faults : D → ℕ
+
+abbrev pub disk_model : {D : Type 0} → (D → Option (List ℕ)) → (D → ℕ) → (D → ℕ → List ℕ → Type 0) → (D → ℕ) → DiskModel D
+disk_model seen calls may_leave faults = record { seen = seen; calls = calls; may_leave = may_leave; faults = faults }
+
 -- ---- moments
 
 -- The moments in their order: after so many calls, and inside the next one.

@@ -18,9 +18,12 @@ pub mod Medium
 pub mod Measure
 pub mod Phase
 pub mod Probe
+pub mod Report
+pub mod ReportFigures
 pub mod ScriptLine
 pub mod Session
 pub mod StepFigures
+pub mod Stop
 pub mod WithdrawFigures
 pub mod WithdrawInvariant
 pub mod WithdrawPhase

@@ -1,5 +1,5 @@
 -- The session machine: what each line of a script does, and what is replied to it.
-use Rattle.std.specs.Prelude.{◌≡◌, ◌⊎◌, ℕ, ◌+◌, ◌-◌, ◌<◌, ◌≤◌, ◌==◌, not, if◌then◌else◌, Bool, List, [], ◌∷◌, ◌++◌, length, map, flat_map, replicate, filter, get_or, slice_set, codes, Option, Some, None}
+use Rattle.std.specs.Prelude.{◌≡◌, ◌⊎◌, ℕ, ◌+◌, ◌-◌, nat_le, ◌==◌, not, if◌then◌else◌, Bool, List, [], ◌∷◌, ◌++◌, length, map, flat_map, replicate, filter, get_or, slice_set, codes, Option, Some, None}
 use Rattle.std.specs.Fmt.{decimal}
 use Rattle.std.specs.List.{list_any}
 use Rattle.store_spec.specs.Ballot.{Ballot, numbers_of}
@@ -23,22 +23,17 @@ pub data Phase : Type 0 where
   Withdraws : List (List ℕ) → Phase
   Finds : List (List ℕ) → Phase
 
--- the phase, the set of the last closed store, and the sets that were acknowledged, the first one first
+-- the phase, and the set of the last closed store
 pub record State : Type 0 where
   pub phase : Phase
   pub set : List Ballot
-  pub acknowledged : List (List Ballot)
+
+abbrev pub in_phase : Phase → List Ballot → State
+in_phase phase set = record { phase = phase; set = set }
 
 -- a session begins closed, with the set that is held
 abbrev pub begun : List Ballot → State
-begun set = record { phase = Closed; set = set; acknowledged = [] }
-
-abbrev pub in_phase : State → Phase → State
-in_phase s phase = record { phase = phase; set = s.set; acknowledged = s.acknowledged }
-
--- the phase is closed again, with this set
-abbrev pub closed_with : State → List Ballot → State
-closed_with s set = record { phase = Closed; set = set; acknowledged = s.acknowledged }
+begun set = in_phase Closed set
 
 abbrev pub opened : Work → ℕ → Phase
 opened Casting tabs = Casts (replicate tabs [])
@@ -48,6 +43,18 @@ opened Finding tabs = Finds (replicate tabs [])
 -- lists with one item more at the end of one of them, counted from 1
 abbrev pub queued : {X : Type 0} → List (List X) → ℕ → X → List (List X)
 queued lists tab x = slice_set lists (tab - 1) (get_or lists (tab - 1) [] ++ x ∷ [])
+
+-- ---- what a line does
+
+-- what is replied, the sets that are acknowledged, one or none, and the state after it
+pub record Effect : Type 0 where
+  pub reply : List ℕ
+  pub acknowledged : List (List Ballot)
+  pub next : State
+
+-- nothing is acknowledged
+abbrev pub replies : List ℕ → State → Effect
+replies text next = record { reply = text; acknowledged = []; next = next }
 
 -- ---- replies
 
@@ -71,11 +78,14 @@ wrong_phase n phase = refusal n (codes "wrong-phase " ++ phase_text phase)
 abbrev pub counted : List ℕ → ℕ → List ℕ
 counted word n = line_of (word ++ space ∷ decimal n)
 
--- `I K REPLY` for each reply of list I, from K on
+-- `I K REPLY`
+abbrev pub reply_line : ℕ → ℕ → List ℕ → List ℕ
+reply_line list at word = decimal list ++ space ∷ (decimal at ++ space ∷ line_of word)
+
+-- the same for each reply of list I, from K on
 abbrev pub reply_lines : ℕ → ℕ → List (List ℕ) → List ℕ
 reply_lines list at [] = []
-reply_lines list at (word ∷ words) =
-    line_of (decimal list ++ space ∷ (decimal at ++ space ∷ word)) ++ reply_lines list (at + 1) words
+reply_lines list at (word ∷ words) = reply_line list at word ++ reply_lines list (at + 1) words
 
 -- the same of each list, from I on
 abbrev pub all_reply_lines : ℕ → List (List (List ℕ)) → List ℕ
@@ -98,83 +108,86 @@ find_text present = if present then codes "present" else codes "absent"
 
 -- ---- the close of a phase
 
+-- `closed N`, behind the replies of the lists
+abbrev pub closing : List (List (List ℕ)) → List Ballot → Effect
+closing words after = replies (all_reply_lines 1 words ++ counted (codes "closed") (length after)) (begun after)
+
 -- the replies of a casting phase, and the set after it
-pub record ClosesCasting (e : Election) (s : State) (lists : List (List Ballot)) (text : List ℕ) (next : State) : Type 0 where
-  pub replies : List (List CastLine)
-  pub of_lists : map (map (λ l. l.ballot)) replies ≡ lists
+pub record ClosesCasting (e : Election) (set : List Ballot) (lists : List (List Ballot)) (effect : Effect) : Type 0 where
+  pub lines : List (List CastLine)
+  pub of_lists : map (map (λ l. l.ballot)) lines ≡ lists
   pub after : List Ballot
-  pub outcome : BallotOutcome e s.set replies after
-  pub is : text ≡ all_reply_lines 1 (map (map (λ l. cast_text l.reply)) replies) ++ counted (codes "closed") (length after)
-  pub end : next ≡ closed_with s after
+  pub outcome : BallotOutcome e set lines after
+  pub is : effect ≡ closing (map (map (λ l. cast_text l.reply)) lines) after
 
 -- the ballots of a set whose numbers are none of these
 abbrev pub ballots_without : List Ballot → List ℕ → List Ballot
 ballots_without ballots numbers = filter (λ b. not (list_any (λ number. number == b.number) numbers)) ballots
 
-pub record ClosesWithdrawing (s : State) (lists : List (List ℕ)) (text : List ℕ) (next : State) : Type 0 where
-  pub replies : List (List Withdrawal)
-  pub of_lists : map (map (λ a. a.number)) replies ≡ lists
+pub record ClosesWithdrawing (set : List Ballot) (lists : List (List ℕ)) (effect : Effect) : Type 0 where
+  pub lines : List (List Withdrawal)
+  pub of_lists : map (map (λ a. a.number)) lines ≡ lists
   pub after : List Ballot
-  pub rest : after ≡ ballots_without s.set (listed replies)
-  pub outcome : WithdrawOutcome (numbers_of s.set) replies (numbers_of after)
-  pub is : text ≡ all_reply_lines 1 (map (map (λ a. withdraw_text a.reply)) replies) ++ counted (codes "closed") (length after)
-  pub end : next ≡ closed_with s after
+  pub rest : after ≡ ballots_without set (listed lines)
+  pub outcome : WithdrawOutcome (numbers_of set) lines (numbers_of after)
+  pub is : effect ≡ closing (map (map (λ a. withdraw_text a.reply)) lines) after
 
-pub record ClosesFinding (s : State) (lists : List (List ℕ)) (text : List ℕ) (next : State) : Type 0 where
-  pub replies : List (List FoundNumber)
-  pub of_lists : map (map (λ a. a.number)) replies ≡ lists
-  pub outcome : FindOutcome (numbers_of s.set) replies (numbers_of s.set)
-  pub is : text ≡ all_reply_lines 1 (map (map (λ a. find_text a.present)) replies) ++ counted (codes "closed") (length s.set)
-  pub end : next ≡ in_phase s Closed
+pub record ClosesFinding (set : List Ballot) (lists : List (List ℕ)) (effect : Effect) : Type 0 where
+  pub lines : List (List FoundNumber)
+  pub of_lists : map (map (λ a. a.number)) lines ≡ lists
+  pub outcome : FindOutcome (numbers_of set) lines (numbers_of set)
+  pub is : effect ≡ closing (map (map (λ a. find_text a.present)) lines) set
 
 -- ---- a line
 
--- it does nothing, and this is replied
-abbrev pub Stays : State → List ℕ → List ℕ → State → Type 0
-Stays s reply text next = (text ≡ reply) × (next ≡ s)
+-- nothing is done but to reply
+abbrev pub stays : State → List ℕ → Effect
+stays s text = replies text s
 
--- an item for list number `tab`: it waits there, unless there is no such list
-pub record Queues {X : Type 0} (n : ℕ) (s : State) (phase : List (List X) → Phase) (lists : List (List X)) (tab : ℕ) (x : X) (text : List ℕ) (next : State) : Type 0 where
-  pub waits : tab ≤ length lists → (text ≡ []) × (next ≡ in_phase s (phase (queued lists tab x)))
-  pub refused : length lists < tab → Stays s (refusal n (codes "invalid")) text next
+-- an item for list number `tab` waits there; it is invalid where there is no such list
+abbrev pub queues : {X : Type 0} → ℕ → State → (List (List X) → Phase) → List (List X) → ℕ → X → Effect
+queues n s phase lists tab x =
+    if nat_le tab (length lists) then replies [] (in_phase (phase (queued lists tab x)) s.set) else stays s (refusal n (codes "invalid"))
 
 -- what a line of a form does, by the phase
-abbrev pub Does : Election → ℕ → State → ScriptLine → Phase → List ℕ → State → Type 0
-Does e n s (Open work tabs) Closed text next =
-    (text ≡ counted (phase_text (opened work tabs)) tabs) × (next ≡ in_phase s (opened work tabs))
-Does e n s Checkpoint Closed text next =
-    (text ≡ counted (codes "checkpoint") (length s.set))
-    × (next ≡ record { phase = Closed; set = s.set; acknowledged = s.acknowledged ++ s.set ∷ [] })
-Does e n s (Cast tab b) (Casts lists) text next = Queues n s Casts lists tab b text next
-Does e n s (CastInvalid tab) (Casts lists) text next = Stays s (refusal n (codes "invalid")) text next
-Does e n s (Withdraw tab number) (Withdraws lists) text next = Queues n s Withdraws lists tab number text next
-Does e n s (Find tab number) (Finds lists) text next = Queues n s Finds lists tab number text next
-Does e n s Close (Casts lists) text next = ClosesCasting e s lists text next
-Does e n s Close (Withdraws lists) text next = ClosesWithdrawing s lists text next
-Does e n s Close (Finds lists) text next = ClosesFinding s lists text next
-Does e n s line phase text next = Stays s (wrong_phase n phase) text next
+abbrev pub Does : Election → ℕ → State → ScriptLine → Phase → Effect → Type 0
+Does e n s (Open work tabs) Closed effect =
+    effect ≡ replies (counted (phase_text (opened work tabs)) tabs) (in_phase (opened work tabs) s.set)
+Does e n s Checkpoint Closed effect =
+    effect ≡ record { reply = counted (codes "checkpoint") (length s.set); acknowledged = s.set ∷ []; next = s }
+Does e n s (Cast tab b) (Casts lists) effect = effect ≡ queues n s Casts lists tab b
+Does e n s (CastInvalid tab) (Casts lists) effect = effect ≡ stays s (refusal n (codes "invalid"))
+Does e n s (Withdraw tab number) (Withdraws lists) effect = effect ≡ queues n s Withdraws lists tab number
+Does e n s (Find tab number) (Finds lists) effect = effect ≡ queues n s Finds lists tab number
+Does e n s Close (Casts lists) effect = ClosesCasting e s.set lists effect
+Does e n s Close (Withdraws lists) effect = ClosesWithdrawing s.set lists effect
+Does e n s Close (Finds lists) effect = ClosesFinding s.set lists effect
+Does e n s line phase effect = effect ≡ stays s (wrong_phase n phase)
 
--- What line number n does to the state, and what is replied. A line that is too wide is malformed.
-abbrev pub Answers : Election → ℕ → State → Option (List ℕ) → List ℕ → State → Type 0
-Answers e n s None text next = Stays s (refusal n (codes "malformed")) text next
-Answers e n s (Some bytes) text next =
-    (IsMalformed e bytes × Stays s (refusal n (codes "malformed")) text next)
-    ⊎ ((line : ScriptLine) × Says e bytes line × Does e n s line s.phase text next)
+-- What line number n, counted from 1, does in a state. A line that is too wide is malformed.
+abbrev pub Answers : Election → ℕ → State → Option (List ℕ) → Effect → Type 0
+Answers e n s None effect = effect ≡ stays s (refusal n (codes "malformed"))
+Answers e n s (Some bytes) effect =
+    (IsMalformed e bytes × (effect ≡ stays s (refusal n (codes "malformed"))))
+    ⊎ ((line : ScriptLine) × Says e bytes line × Does e n s line s.phase effect)
 
 -- ---- a script
 
--- lines, the first of which has number n, with a reply each, lead from one state to another
-abbrev pub Plays : Election → ℕ → State → List (Option (List ℕ)) → List (List ℕ) → State → Type 0
+-- lines, the first of which has number n, do these things one after another, and lead from one state to another
+abbrev pub Plays : Election → ℕ → State → List (Option (List ℕ)) → List Effect → State → Type 0
 Plays e n s [] [] end = end ≡ s
-Plays e n s (line ∷ lines) (reply ∷ replies) end =
-    (next : State) × Answers e n s line reply next × Plays e (n + 1) next lines replies end
-Plays e n s lines replies end = ⊥
+Plays e n s (line ∷ lines) (effect ∷ effects) end = Answers e n s line effect × Plays e (n + 1) effect.next lines effects end
+Plays e n s lines effects end = ⊥
+
+-- what is written for lines
+abbrev pub written : List Effect → List ℕ
+written effects = flat_map (λ effect. effect.reply) effects
+
+-- the sets that lines acknowledge, in order
+abbrev pub acknowledged_in : List Effect → List (List Ballot)
+acknowledged_in effects = flat_map (λ effect. effect.acknowledged) effects
 
 -- what is written at the end of a script
 abbrev pub last_reply : Phase → List ℕ
 last_reply Closed = []
 last_reply phase = line_of (codes "dropped " ++ phase_text phase)
-
--- all that is written for a script
-abbrev pub written : List (List ℕ) → List ℕ
-written replies = flat_map (λ reply. reply) replies

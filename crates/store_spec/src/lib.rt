@@ -1,11 +1,13 @@
 //! The definitions that the whole store is proved against, and worked figures of them.
 #![tactic(auto)]
 
+mod report_figures;
 mod step_figures;
 mod withdraw_figures;
 
 ghost use Rattle.store_spec.specs.Figures.{ExampleHomes, ExampleSizes, ExamplePlaces, ExampleLayout, ExampleImage, ExampleLines};
 
+pub use report_figures::example_reports;
 pub use step_figures::{example_claims, example_outcome, example_race};
 pub use withdraw_figures::{example_finding, example_stale_candidate, example_withdrawal};
 

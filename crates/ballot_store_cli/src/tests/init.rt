@@ -1,10 +1,9 @@
 //! The command `init`, on disks in memory.
 
-use super::{ends_on, example};
+use super::{ends_on, example, medium_of};
 use crate::Status;
 use crash_disk::{Disk, FusedDisk, MemoryDisk, Room, SureDisk};
 use outside_io::{MemorySink, SureSink, SureSource};
-use std::alloc::Global;
 use std::process::Abort;
 use std::test::Fail;
 use std::thread::Threads;
@@ -17,23 +16,11 @@ const ROOM: Room = Room {
     written: 2000,
 };
 
-// Whether the bytes are the medium of no ballots.
-fn is_empty_medium(alloc: Global, bytes: &[u8]) -> Result<bool, Fail> {
-    let header = hex::decode(alloc, "48494253544f524500010302000000080000000000000000")?;
-    let mut medium = Vec::new(alloc);
-    for _ in 0..2 {
-        medium.extend_from_slice(&header)?;
-        medium.extend_from_slice(&[0; 280])?;
-    }
-    medium.extend_from_slice(&[0xa7; 2])?;
-    Ok(medium.as_slice() == bytes)
-}
-
 // How `init` ends on a disk, and what the sink took.
 fn init_on<R, D>(rt: &R, disk: &mut D) -> Result<(Status, Vec<u8>), Fail>
 where
     R: Threads + Sync + AllocGlobal + Abort,
-    D: Disk,
+    D: Disk + Drop,
 {
     let alloc = rt.alloc();
     let mut script = SureSource::new(b"a script that nobody reads".to_vec(alloc)?);
@@ -58,7 +45,7 @@ fn an_unused_disk(rt: HostRuntime) -> Result<(), Fail> {
         let (status, taken) = init_on(&rt, &mut disk)?;
         assert_eq!(rt; status, Status::Ok, "{size}");
         assert_eq!(rt; taken.as_slice(), b"ready\n".as_slice());
-        assert!(rt; is_empty_medium(alloc, disk.bytes())?, "{size}");
+        assert!(rt; disk.bytes() == medium_of(alloc, "")?.as_slice(), "{size}");
     }
     Ok(())
 }
@@ -71,7 +58,7 @@ fn a_used_disk(rt: HostRuntime) -> Result<(), Fail> {
     let (status, taken) = init_on(&rt, &mut disk)?;
     assert_eq!(rt; status, Status::Exists);
     assert_eq!(rt; taken.len(), 0);
-    assert!(rt; is_empty_medium(alloc, disk.bytes())?);
+    assert!(rt; disk.bytes() == medium_of(alloc, "")?.as_slice());
     let mut disk = MemoryDisk::new(alloc, vec![in alloc; 7; 611]?, Vec::new(alloc), ROOM)?;
     let (status, taken) = init_on(&rt, &mut disk)?;
     assert_eq!(rt; status, Status::WrongSize { size: 611 });
@@ -103,7 +90,7 @@ fn faults(rt: HostRuntime) -> Result<(), Fail> {
     )?;
     assert_eq!(rt; status, Status::WriteFault);
     assert!(rt;
-        is_empty_medium(alloc, disk.bytes())?,
+        disk.bytes() == medium_of(alloc, "")?.as_slice(),
         "the medium stands, and nobody was told"
     );
     let status = ends_on(

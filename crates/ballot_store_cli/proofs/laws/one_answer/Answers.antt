@@ -1,5 +1,5 @@
 use Rattle.ballot_store_cli.proofs.OneAnswer.{one_answer}
-use Rattle.ballot_store_cli.specs.World.{disk_model}
+use Rattle.store_spec.specs.Disk.{disk_model}
 use Rattle.ballot_store_cli.proofs.laws.one_answer.Goals as goal
 
 pub returns : goal.returns

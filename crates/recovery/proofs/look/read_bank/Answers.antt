@@ -3,13 +3,13 @@ use Rattle.std.proofs.lemmas.List.{length-take}
 use Rattle.std.proofs.lemmas.Result.{err_from_is_err_and}
 use Rattle.std.specs.Prelude.{IfSome, slice_range}
 use Rattle.bank_medium.specs.Banks.{bank_named, bytes_of}
-use Rattle.recovery.proofs.OnlyReading.{reads_on}
+use Rattle.recovery.proofs.OnlyReading.{nothing_on}
 use Rattle.recovery.proofs.Paging.{fed_more, read_told, refused_told}
 use Rattle.recovery.proofs.look.read_bank.Goals as goal
 
 pub returns-in_err-read_page-clause-reads : goal.returns-in_err-read_page-clause-reads
 returns-in_err-read_page-clause-reads g c =
-    reads_on g.D.Disk.seen g.D.Disk.calls g.D.Disk.may_leave c.args.disk.now c.loop-at.disk c.read_page.new.disk c.loop-at.invariant.reads c.read_page.ensures.same_bytes c.read_page.ensures.crash_images
+    nothing_on g.D.Disk.seen g.D.Disk.calls g.D.Disk.may_leave c.args.disk.now c.loop-at.disk c.read_page.new.disk c.loop-at.invariant.reads c.read_page.ensures.same_bytes c.read_page.ensures.crash_images
 
 pub returns-in_err-reader-2-clause-refused : goal.returns-in_err-reader-2-clause-refused
 returns-in_err-reader-2-clause-refused g c =
@@ -21,7 +21,7 @@ returns-in_err-reader-2-clause-refused g c =
 
 pub returns-in_err-reader-2-clause-reads : goal.returns-in_err-reader-2-clause-reads
 returns-in_err-reader-2-clause-reads g c =
-    reads_on g.D.Disk.seen g.D.Disk.calls g.D.Disk.may_leave c.args.disk.now c.loop-at.disk c.read_page.new.disk c.loop-at.invariant.reads c.read_page.ensures.same_bytes c.read_page.ensures.crash_images
+    nothing_on g.D.Disk.seen g.D.Disk.calls g.D.Disk.may_leave c.args.disk.now c.loop-at.disk c.read_page.new.disk c.loop-at.invariant.reads c.read_page.ensures.same_bytes c.read_page.ensures.crash_images
 
 pub loop-at-preserved : goal.loop-at-preserved
 loop-at-preserved g c =
@@ -34,7 +34,7 @@ loop-at-preserved g c =
     record {
       few = omega (arith, kept, length-take c.min.result c.loop-at.page, c.min.ensures, c.loop-at-test.true);
       fed = fed_more e (bank_named c.args.bank) (g.D.Disk.seen c.args.disk.now) (g.D.Disk.seen c.loop-at.disk) at (length piece) c.loop-at.reader c.in_ok-reader-2.reader piece c.loop-at.invariant.reads.same_bytes refl c.loop-at.invariant.fed here c.in_ok-reader-2.ensures.fed;
-      reads = reads_on g.D.Disk.seen g.D.Disk.calls g.D.Disk.may_leave c.args.disk.now c.loop-at.disk c.read_page.new.disk c.loop-at.invariant.reads c.read_page.ensures.same_bytes c.read_page.ensures.crash_images;
+      reads = nothing_on g.D.Disk.seen g.D.Disk.calls g.D.Disk.may_leave c.args.disk.now c.loop-at.disk c.read_page.new.disk c.loop-at.invariant.reads c.read_page.ensures.same_bytes c.read_page.ensures.crash_images;
       no_fault = c.in_ok-read_page.ensures.fault.steady ∙ c.loop-at.invariant.no_fault;
     }
 

@@ -5,6 +5,7 @@ use Rattle.bank_medium.specs.Banks.{bank_named, bytes_of}
 use Rattle.outside_io.proofs.Told.{told_holds}
 use Rattle.outside_io.specs.Told.{IfTold}
 use Rattle.recovery.proofs.Agreeing.{agreeing_medium, medium_agrees, medium_open, read_holds}
+use Rattle.recovery.proofs.OnlyReading.{settled_reads}
 use Rattle.recovery.proofs.Paging.{stored_election}
 use Rattle.recovery.proofs.Runs.{reading, reading_then, renewed_told, renewing}
 use Rattle.recovery.proofs.restoring.make_canonical.Goals as goal
@@ -32,7 +33,7 @@ pub returns-in_err-is_image-clause-any_moment : goal.returns-in_err-is_image-cla
 returns-in_err-is_image-clause-any_moment g c bytes sees =
     let e = c.args.election.now in
     let set = c.args.closed.now.ballots in
-    reading g.D.Disk.seen g.D.Disk.calls g.D.Disk.may_leave c.args.disk.now c.is_image.new.disk bytes c.is_image.ensures.reads sees (λ c. HoldsSet e c set) (read_holds e set (bank_named c.args.bank) bytes (c.requires.read bytes sees))
+    reading g.D.Disk.seen g.D.Disk.calls g.D.Disk.may_leave c.args.disk.now c.is_image.new.disk bytes (settled_reads g.D.Disk.seen g.D.Disk.calls g.D.Disk.may_leave c.args.disk.now c.is_image.new.disk c.requires.settled c.is_image.ensures.reads) sees (λ c. HoldsSet e c set) (read_holds e set (bank_named c.args.bank) bytes (c.requires.read bytes sees))
 
 pub returns-then-branch-clause-medium : goal.returns-then-branch-clause-medium
 returns-then-branch-clause-medium g c =
@@ -61,7 +62,7 @@ returns-clause-any_moment g c bytes sees =
     let e = c.args.election.now in
     let set = c.args.closed.now.ballots in
     let read = c.requires.read bytes sees in
-    reading_then g.D.Disk.seen g.D.Disk.calls g.D.Disk.may_leave c.args.disk.now c.is_image.new.disk bytes c.is_image.ensures.reads sees c.renew_bank.new.disk (λ c. HoldsSet e c set) (read_holds e set (bank_named c.args.bank) bytes read)
+    reading_then g.D.Disk.seen g.D.Disk.calls g.D.Disk.may_leave c.args.disk.now c.is_image.new.disk bytes (settled_reads g.D.Disk.seen g.D.Disk.calls g.D.Disk.may_leave c.args.disk.now c.is_image.new.disk c.requires.settled c.is_image.ensures.reads) sees c.renew_bank.new.disk (λ c. HoldsSet e c set) (read_holds e set (bank_named c.args.bank) bytes read)
     (renewing e set (bank_named c.args.bank) (bank_named c.other_of-other.result) c.other_of-other.ensures g.D.Disk.calls g.D.Disk.may_leave bytes read c.is_image.new.disk c.renew_bank.new.disk
     (c.renew_bank.ensures.any_moment bytes (c.is_image.ensures.reads.same_bytes ∙ sees)))
 

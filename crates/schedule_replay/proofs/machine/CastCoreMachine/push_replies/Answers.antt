@@ -1,7 +1,8 @@
 use Rattle.std.proofs.Common.{◌≡◌, ◌-◌, Some, map}
 use Rattle.std.specs.Prelude.{slice_get, string_bytes}
 use Rattle.schedule_replay.proofs.Replies.{cast_words_are, lines_are}
-use Rattle.schedule_replay.specs.Replayed.{cast_words, met_text}
+use Rattle.reply_lines.specs.Words.{met_text}
+use Rattle.schedule_replay.specs.Replayed.{cast_words}
 use Rattle.step_core.specs.CastCore.{met_of}
 use Rattle.schedule_replay.proofs.machine.CastCoreMachine.push_replies.Goals as goal
 

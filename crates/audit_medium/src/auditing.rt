@@ -1,0 +1,88 @@
+//! The audit of a medium. Nothing is written here.
+
+ghost use Rattle.std.specs.Prelude.{◌≡◌, ◌↔◌, ◌≤◌, IsErrOf, IsTrue, IfErr, IfOk, IfSome};
+ghost use Rattle.std.specs.Option.{ForSome};
+ghost use Rattle.audit_medium.specs.Audited.{IsAudited};
+ghost use Rattle.bank_medium.specs.Banks.{bank_named};
+ghost use Rattle.recovery.specs.Canonical.{IsReadAs};
+ghost use Rattle.recovery.specs.ReadsOnly.{ReadsOnly, WritesNothing};
+ghost use Rattle.recovery.specs.Refused.{IsRefusedMedium};
+ghost use Rattle.recovery.specs.declared.fault.RecoverFault.TheVariants.{DiskFault};
+ghost use Rattle.store_spec.specs.Disk.{IsSettled};
+ghost use Rattle.store_spec.specs.Fault.{CountsFault, CountsFaultIf};
+ghost use Rattle.store_spec.specs.Medium.{IsOpen, other_bank};
+
+use crate::finding::Audit;
+use ballot_record::Election;
+use bank_medium::{Bank, bank_place, gate_place};
+use body_store::Closed;
+use crash_disk::Disk;
+use image_builder::Scratch;
+use outside_io::Failed;
+use recovery::{RecoverFault, choose, first_difference, other_of, read_bank};
+use std::alloc::Global;
+
+/// Reads the store that a medium holds, and compares the medium with that of the store. It asks for the size and reads.
+/// The disk need not be settled: what is told is what a read gives.
+pub fn audit<D: Disk>(
+    alloc: Global,
+    disk: &mut D,
+    election: &Election,
+) -> Result<Audit, RecoverFault>
+    ensures audited { IfOk result
+        (λ audit. IfSome (D.seen disk.old) (λ bytes. IsAudited election.now bytes audit)) }
+    ensures refused { IfErr result
+        (λ fault. IfSome (D.seen disk.old) (λ bytes. IsRefusedMedium election.now bytes fault)) }
+    ensures same_bytes { D.seen disk.new ≡ D.seen disk.old }
+    ensures reads { WritesNothing D.seen D.calls D.may_leave disk.old disk.new }
+    ensures settled { IsSettled D.seen D.calls D.may_leave disk.old
+        → ReadsOnly D.seen D.calls D.may_leave disk.old disk.new }
+    ensures later { D.calls disk.old ≤ D.calls disk.new }
+    ensures fault { CountsFaultIf (IsErrOf result DiskFault) (D.faults disk.old) (D.faults disk.new) }
+{
+    let (bank, open_too) = choose(disk, election)?;
+    let mut scratch = Scratch::new(alloc, election)?;
+    let closed = read_bank(alloc, disk, election, bank, &mut scratch.found)?;
+    Ok(compare(disk, &closed, election, bank, open_too, &mut scratch)?)
+}
+
+/// Compares the other bank and its gate with those of the medium of the store that was read from a bank. That bank and its
+/// gate are as the medium has them.
+fn compare<D: Disk>(
+    disk: &mut D,
+    closed: &Closed,
+    election: &Election,
+    bank: Bank,
+    open_too: bool,
+    scratch: &mut Scratch,
+) -> Result<Audit, Failed>
+    requires own { election.now ≡ closed.now.election }
+    requires read { ForSome (D.seen disk.old)
+        (λ bytes. IsReadAs election.now bytes (bank_named bank) closed.now.ballots) }
+    requires gate { ForSome (D.seen disk.old)
+        (λ bytes. IsTrue open_too ↔ IsOpen election.now (other_bank (bank_named bank)) bytes) }
+    ensures audited { IfOk result
+        (λ audit. IfSome (D.seen disk.old) (λ bytes. IsAudited election.now bytes audit)) }
+    ensures reads { WritesNothing D.seen D.calls D.may_leave disk.old disk.new }
+    ensures fault { CountsFault result (D.faults disk.old) (D.faults disk.new) }
+{
+    let other = other_of(bank);
+    let first = first_difference(
+        disk,
+        closed,
+        election,
+        other,
+        &mut scratch.found,
+        &mut scratch.made,
+    )?;
+    if let Some(at) = first {
+        let place = bank_place(election, other) + at as u64;
+        return Ok(Audit::Differs { place });
+    }
+    if open_too {
+        let held = closed.len() as u32;
+        return Ok(Audit::Canonical { held });
+    }
+    let place = gate_place(election, other);
+    Ok(Audit::Differs { place })
+}

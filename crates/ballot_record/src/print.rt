@@ -1,0 +1,108 @@
+ghost use Rattle.std.specs.Prelude.{◌≡◌, [], ◌∷◌, ◌++◌, if◌then◌else◌, map, decimal, OnErr, OnOk};
+ghost use Rattle.std.specs.List.{join_with_byte};
+ghost use Rattle.store_spec.specs.Ballot.{IsValid};
+ghost use Rattle.store_spec.specs.BallotLine.{choices_in, comma, group_text, record_line, slash};
+ghost use Rattle.store_spec.specs.Election as definition;
+ghost use Rattle.ballot_record.specs.Print.{IsFrontOf};
+ghost use Rattle.ballot_record.specs.Record as seen;
+
+use crate::{Election, Record};
+use itoa::Buffer;
+use outside_io::Memory;
+
+/// Appends a number in decimal digits.
+fn put_number(number: u64, out: &mut Vec<u8>) -> Result<(), Memory>
+    ensures text { OnOk result (out.new.items ≡ out.old.items ++ decimal number) }
+    ensures front { OnErr result (IsFrontOf out.old.items out.new.items) }
+{
+    let mut digits = Buffer::new();
+    out.extend_from_slice(digits.format(number).as_bytes())?;
+    Ok(())
+}
+
+/// Appends what stands between two parts, before each but the first.
+fn put_between(first: bool, between: u8, out: &mut Vec<u8>) -> Result<(), Memory>
+    ensures text { OnOk result
+        (out.new.items ≡ out.old.items ++ (if first then [] else between ∷ [])) }
+    ensures front { OnErr result (IsFrontOf out.old.items out.new.items) }
+{
+    if !first {
+        out.push(between)?;
+    }
+    Ok(())
+}
+
+/// Appends the choices of a mark set, in ascending order with commas between them.
+fn put_choices(set: u32, out: &mut Vec<u8>) -> Result<(), Memory>
+    ensures text { (e : definition.Election) → OnOk result
+        (out.new.items ≡ out.old.items ++ join_with_byte comma (map decimal (choices_in e set))) }
+    ensures front { OnErr result (IsFrontOf out.old.items out.new.items) }
+{
+    let mut rest = set;
+    let mut choice = 0;
+    let mut first = true;
+    'choices: while rest != 0 {
+        choice += 1;
+        if rest % 2 == 1 {
+            put_between(first, b',', out)?;
+            put_number(choice, out)?;
+            first = false;
+        }
+        rest /= 2;
+    }
+    Ok(())
+}
+
+/// Appends the choices of a mark set, or a dash where there is none.
+fn put_group(set: u32, out: &mut Vec<u8>) -> Result<(), Memory>
+    ensures text { (e : definition.Election) → OnOk result
+        (out.new.items ≡ out.old.items ++ group_text (choices_in e set)) }
+    ensures front { OnErr result (IsFrontOf out.old.items out.new.items) }
+{
+    if set == 0 {
+        out.push(b'-')?;
+        return Ok(());
+    }
+    put_choices(set, out)
+}
+
+/// Appends a group for each mark set, with slashes between them.
+fn put_groups(sets: &[u32], out: &mut Vec<u8>) -> Result<(), Memory>
+    ensures text { (e : definition.Election) → OnOk result (out.new.items
+        ≡ out.old.items ++ join_with_byte slash (map group_text (map (choices_in e) sets.now))) }
+    ensures front { OnErr result (IsFrontOf out.old.items out.new.items) }
+{
+    'groups: for (place, set) in sets.iter().enumerate() {
+        put_between(place == 0, b'/', out)?;
+        put_group(*set, out)?;
+    }
+    Ok(())
+}
+
+fn put_parts(ballot: &Record, election: &Election, out: &mut Vec<u8>) -> Result<(), Memory>
+    requires { IsValid election.now (seen.ballot ballot.now) }
+    ensures text { OnOk result
+        (out.new.items ≡ out.old.items ++ record_line election.now (seen.ballot ballot.now)) }
+    ensures front { OnErr result (IsFrontOf out.old.items out.new.items) }
+{
+    put_number(ballot.number, out)?;
+    out.push(b' ')?;
+    put_number(u64::from(ballot.style), out)?;
+    out.push(b' ')?;
+    put_groups(&ballot.marks[..election.contests()], out)
+}
+
+/// Appends the line of a valid ballot, without a line end. It takes no memory where there is room.
+pub fn put_line(ballot: &Record, election: &Election, out: &mut Vec<u8>) -> Result<(), Memory>
+    requires { IsValid election.now (seen.ballot ballot.now) }
+    ensures line { OnOk result
+        (out.new.items ≡ out.old.items ++ record_line election.now (seen.ballot ballot.now)) }
+    ensures memory { OnErr result (out.new.items ≡ out.old.items) }
+{
+    let before = out.len();
+    let put = put_parts(ballot, election, out);
+    if put.is_err() {
+        out.truncate(before);
+    }
+    put
+}

@@ -1,0 +1,10 @@
+use Rattle.std.proofs.Common.{map, string_bytes}
+use Rattle.phase_gate.proofs.Closes.{closes_withdrawing}
+use Rattle.phase_gate.proofs.closing.close_withdrawing.Goals as goal
+use Rattle.step_core.specs.WithdrawCore.{reply_of}
+
+pub returns-clause-closes : goal.returns-clause-closes
+returns-clause-closes g c =
+    let played = c.in_ok-after in
+    closes_withdrawing c.args.closed.ballots played.after.ballots (map (λ list. list.items) c.args.lists.now) reply_of (λ list. list.items) c.deref.result.now played.answers.items
+    (string_bytes c.args.reply.now) (string_bytes c.push_all_replies.new.text) (string_bytes c.push_count.new.text) c.len.result played.ensures.plays c.deref.ensures.value c.requires.nothing c.in_ok-push_all_replies.ensures c.in_ok-push_count.ensures c.len.ensures.count

@@ -1,0 +1,6 @@
+pub mod Around
+pub mod Checkpointed
+pub mod Gate
+pub mod LineEnds
+pub mod Standing
+pub mod Work

@@ -1,0 +1,86 @@
+//! The close of a phase: what waited is handled, and each item is answered.
+
+ghost use Rattle.std.specs.Prelude.{◌≡◌, [], All, IfOk, length, map, string_bytes};
+ghost use Rattle.body_store.specs.Contents.{ballots_of};
+ghost use Rattle.phase_gate.specs.Standing.{AreLists};
+ghost use Rattle.store_spec.specs.Ballot.{IsValid};
+ghost use Rattle.store_spec.specs.Session.{ClosesCasting, ClosesFinding, ClosesWithdrawing, begun, replies};
+
+use crate::text::push_count;
+use ballot_record::{Election, Record};
+use body_store::Closed;
+use outside_io::{Memory, Turns};
+use phase_play::{play_casting, play_finding, play_withdrawing};
+use reply_lines::push_all_replies;
+use std::alloc::Global;
+use std::thread::Threads;
+
+/// The store after a casting phase in which these ballots waited.
+pub fn close_casting<R: Threads + Sync, T: Turns>(
+    rt: &R,
+    alloc: Global,
+    closed: Closed,
+    election: &Election,
+    lists: &[Vec<Record>],
+    turns: &T,
+    reply: &mut String,
+) -> Result<Closed, Memory>
+    requires own { election.now ≡ closed.election }
+    requires lists { AreLists lists.now }
+    requires valid { All (λ list. All (IsValid election.now) (ballots_of list.items)) lists.now }
+    requires nothing { string_bytes reply.old ≡ [] }
+    ensures election { IfOk result (λ store. store.election ≡ election.now) }
+    ensures closes { IfOk result (λ store. ClosesCasting election.now closed.ballots
+        (map (λ list. ballots_of list.items) lists.now)
+        (replies (string_bytes reply.new) (begun store.ballots))) }
+{
+    let (after, finals) = play_casting(rt, alloc, closed, election, lists, turns)?;
+    push_all_replies(reply, &finals)?;
+    push_count(reply, "closed", after.len())?;
+    Ok(after)
+}
+
+/// The store after a withdrawing phase in which these numbers waited.
+pub fn close_withdrawing<R: Threads + Sync, T: Turns>(
+    rt: &R,
+    alloc: Global,
+    closed: Closed,
+    election: &Election,
+    lists: &[Vec<u64>],
+    turns: &T,
+    reply: &mut String,
+) -> Result<Closed, Memory>
+    requires own { election.now ≡ closed.election }
+    requires lists { AreLists lists.now }
+    requires nothing { string_bytes reply.old ≡ [] }
+    ensures election { IfOk result (λ store. store.election ≡ election.now) }
+    ensures closes { IfOk result (λ store. ClosesWithdrawing closed.ballots
+        (map (λ list. list.items) lists.now)
+        (replies (string_bytes reply.new) (begun store.ballots))) }
+{
+    let (after, answers) = play_withdrawing(rt, alloc, closed, election, lists, turns)?;
+    push_all_replies(reply, &answers)?;
+    push_count(reply, "closed", after.len())?;
+    Ok(after)
+}
+
+/// Answers for the numbers that waited in a finding phase.
+pub fn close_finding<R: Threads + Sync, T: Turns>(
+    rt: &R,
+    alloc: Global,
+    closed: &Closed,
+    lists: &[Vec<u64>],
+    turns: &T,
+    reply: &mut String,
+) -> Result<(), Memory>
+    requires lists { AreLists lists.now }
+    requires nothing { string_bytes reply.old ≡ [] }
+    ensures closes { IfOk result (λ _. ClosesFinding closed.now.ballots
+        (map (λ list. list.items) lists.now)
+        (replies (string_bytes reply.new) (begun closed.now.ballots))) }
+{
+    let answers = play_finding(rt, alloc, closed, lists, turns)?;
+    push_all_replies(reply, &answers)?;
+    push_count(reply, "closed", closed.len())?;
+    Ok(())
+}

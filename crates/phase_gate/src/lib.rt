@@ -1,0 +1,19 @@
+//! The session: a script is handled line by line, phase after phase, and a checkpoint makes the medium that of the set.
+#![tactic(auto)]
+
+mod closing;
+mod fault;
+mod gate;
+mod line;
+mod report;
+mod session;
+mod text;
+mod work;
+
+pub use fault::SessionFault;
+pub use gate::Phase;
+pub use report::Report;
+pub use session::Session;
+
+#[cfg(test)]
+mod tests;

@@ -1,0 +1,263 @@
+//! What a line of a script does with a session, and what is replied to it.
+
+ghost use Rattle.std.specs.Prelude.{◌≡◌, ℕ, [], List, IfOk, Some, false, string_bytes};
+ghost use Rattle.phase_gate.specs.Gate.{effect_of, queued_effect, state_of, IsNamed};
+ghost use Rattle.phase_gate.specs.Work.{CanWait, item_line, kind_of, phase_of};
+ghost use Rattle.script_lines.specs.Line.{script_line};
+ghost use Rattle.store_spec.specs.ScriptLine.{IsTab, Says};
+ghost use Rattle.store_spec.specs.ScriptLine.{ScriptLine as said};
+ghost use Rattle.store_spec.specs.Session.{Answers, Does, refusal, stays, wrong_phase};
+
+use crate::closing::{close_casting, close_finding, close_withdrawing};
+use crate::gate::{Answer, Gate, Phase};
+use crate::text::{push_count, push_refusal};
+use crate::work::{Item, Kind, Queued, Work};
+use ballot_record::Election;
+use outside_io::{Memory, Turns};
+use script_lines::{Line, read_script_line};
+use std::alloc::Global;
+use std::thread::Threads;
+
+impl Gate {
+    /// Its phase.
+    pub fn phase(&self) -> Phase
+        ensures { IsNamed result (phase_of self.now.work) }
+    {
+        match self.work {
+            Work::Closed => Phase::Closed,
+            Work::Casting(_) => Phase::Casting,
+            Work::Withdrawing(_) => Phase::Withdrawing,
+            Work::Finding(_) => Phase::Finding,
+        }
+    }
+
+    /// What a line does that has this number. Its reply comes into `reply`.
+    pub fn answer<R: Threads + Sync, T: Turns>(
+        self,
+        rt: &R,
+        alloc: Global,
+        line: &[u8],
+        index: u64,
+        turns: &T,
+        reply: &mut String,
+    ) -> Result<Answer, Memory>
+        requires nothing { string_bytes reply.old ≡ [] }
+        ensures answers { IfOk result (λ answer. Answers self.election index (state_of self)
+            (Some line.now) (effect_of answer (string_bytes reply.new))) }
+        ensures election { IfOk result (λ answer. answer.gate.election ≡ self.election) }
+    {
+        match read_script_line(line, &self.election) {
+            Some(said) => self.perform(rt, alloc, said, index, turns, reply),
+            None => self.refuse(index, "malformed", reply),
+        }
+    }
+
+    /// Does what a line says.
+    fn perform<R: Threads + Sync, T: Turns>(
+        self,
+        rt: &R,
+        alloc: Global,
+        line: Line,
+        index: u64,
+        turns: &T,
+        reply: &mut String,
+    ) -> Result<Answer, Memory>
+        requires said { (bytes : List ℕ) × Says self.election bytes (script_line line) }
+        requires nothing { string_bytes reply.old ≡ [] }
+        ensures does { IfOk result (λ answer. Does self.election index (state_of self)
+            (script_line line) (phase_of self.work)
+            (effect_of answer (string_bytes reply.new))) }
+        ensures election { IfOk result (λ answer. answer.gate.election ≡ self.election) }
+    {
+        match line {
+            Line::OpenCast { tabs } => self.open(alloc, Kind::Casting, tabs, index, reply),
+            Line::OpenWithdraw { tabs } => self.open(alloc, Kind::Withdrawing, tabs, index, reply),
+            Line::OpenFind { tabs } => self.open(alloc, Kind::Finding, tabs, index, reply),
+            Line::Cast { tab, ballot } => self.wait(tab, Item::Cast(ballot), index, reply),
+            Line::CastInvalid { .. } => self.cast_invalid(index, reply),
+            Line::Withdraw { tab, number } => self.wait(tab, Item::Withdraw(number), index, reply),
+            Line::Find { tab, number } => self.wait(tab, Item::Find(number), index, reply),
+            Line::Close => self.close(rt, alloc, index, turns, reply),
+            Line::Checkpoint => self.checkpoint(index, reply),
+        }
+    }
+
+    /// Does nothing, and says why.
+    fn refuse(self, index: u64, why: &str, reply: &mut String) -> Result<Answer, Memory>
+        requires nothing { string_bytes reply.old ≡ [] }
+        ensures stays { IfOk result (λ answer. effect_of answer (string_bytes reply.new)
+            ≡ stays (state_of self) (refusal index why.now)) }
+        ensures election { IfOk result (λ answer. answer.gate.election ≡ self.election) }
+    {
+        push_refusal(reply, index, why)?;
+        Ok(Answer::of(self))
+    }
+
+    /// Does nothing: the line does not belong to the phase.
+    fn refuse_phase(self, index: u64, reply: &mut String) -> Result<Answer, Memory>
+        requires nothing { string_bytes reply.old ≡ [] }
+        ensures stays { IfOk result (λ answer. effect_of answer (string_bytes reply.new)
+            ≡ stays (state_of self) (wrong_phase index (phase_of self.work))) }
+        ensures election { IfOk result (λ answer. answer.gate.election ≡ self.election) }
+    {
+        let why = self.work.refusal();
+        self.refuse(index, why, reply)
+    }
+
+    /// Opens a phase for so many tabulators.
+    fn open(
+        self,
+        alloc: Global,
+        kind: Kind,
+        tabs: u8,
+        index: u64,
+        reply: &mut String,
+    ) -> Result<Answer, Memory>
+        requires tabs { IsTab tabs }
+        requires nothing { string_bytes reply.old ≡ [] }
+        ensures does { IfOk result (λ answer. Does self.election index (state_of self)
+            (said.Open (kind_of kind) tabs) (phase_of self.work)
+            (effect_of answer (string_bytes reply.new))) }
+        ensures election { IfOk result (λ answer. answer.gate.election ≡ self.election) }
+    {
+        let Gate {
+            election,
+            closed,
+            work,
+        } = self;
+        match work {
+            Work::Closed => {
+                let work = Work::opened(alloc, kind, tabs)?;
+                push_count(reply, work.name(), usize::from(tabs))?;
+                Ok(Answer::of(Gate {
+                    election,
+                    closed,
+                    work,
+                }))
+            }
+            work => Gate {
+                election,
+                closed,
+                work,
+            }
+            .refuse_phase(index, reply),
+        }
+    }
+
+    /// A line of a ballot that is not valid.
+    fn cast_invalid(self, index: u64, reply: &mut String) -> Result<Answer, Memory>
+        requires nothing { string_bytes reply.old ≡ [] }
+        ensures does { (tab : ℕ) → IfOk result (λ answer. Does self.election index (state_of self)
+            (said.CastInvalid tab) (phase_of self.work)
+            (effect_of answer (string_bytes reply.new))) }
+        ensures election { IfOk result (λ answer. answer.gate.election ≡ self.election) }
+    {
+        match self.phase() {
+            Phase::Casting => self.refuse(index, "invalid", reply),
+            _ => self.refuse_phase(index, reply),
+        }
+    }
+
+    /// An item is to be handled at the close of the phase.
+    fn wait(self, tab: u8, item: Item, index: u64, reply: &mut String) -> Result<Answer, Memory>
+        requires tab { IsTab tab }
+        requires item { CanWait self.election item }
+        requires nothing { string_bytes reply.old ≡ [] }
+        ensures does { IfOk result (λ answer. Does self.election index (state_of self)
+            (item_line tab item) (phase_of self.work)
+            (effect_of answer (string_bytes reply.new))) }
+        ensures election { IfOk result (λ answer. answer.gate.election ≡ self.election) }
+    {
+        let Gate {
+            election,
+            closed,
+            work,
+        } = self;
+        let (work, queued) = work.wait(tab, item)?;
+        Gate {
+            election,
+            closed,
+            work,
+        }
+        .queued(queued, index, reply)
+    }
+
+    /// Answers for an item: it waits, or there is no such list, or the phase is another.
+    fn queued(self, queued: Queued, index: u64, reply: &mut String) -> Result<Answer, Memory>
+        requires nothing { string_bytes reply.old ≡ [] }
+        ensures effect { IfOk result (λ answer. effect_of answer (string_bytes reply.new)
+            ≡ queued_effect index (state_of self) queued) }
+        ensures election { IfOk result (λ answer. answer.gate.election ≡ self.election) }
+    {
+        match queued {
+            Queued::Waits => Ok(Answer::of(self)),
+            Queued::NoList => self.refuse(index, "invalid", reply),
+            Queued::OtherPhase => self.refuse_phase(index, reply),
+        }
+    }
+
+    /// Closes a phase: what waits is handled.
+    fn close<R: Threads + Sync, T: Turns>(
+        self,
+        rt: &R,
+        alloc: Global,
+        index: u64,
+        turns: &T,
+        reply: &mut String,
+    ) -> Result<Answer, Memory>
+        requires nothing { string_bytes reply.old ≡ [] }
+        ensures does { IfOk result (λ answer. Does self.election index (state_of self)
+            said.Close (phase_of self.work) (effect_of answer (string_bytes reply.new))) }
+        ensures election { IfOk result (λ answer. answer.gate.election ≡ self.election) }
+    {
+        let Gate {
+            election,
+            closed,
+            work,
+        } = self;
+        let closed = match work {
+            Work::Casting(lists) => {
+                close_casting(rt, alloc, closed, &election, &lists, turns, reply)?
+            }
+            Work::Withdrawing(lists) => {
+                close_withdrawing(rt, alloc, closed, &election, &lists, turns, reply)?
+            }
+            Work::Finding(lists) => {
+                close_finding(rt, alloc, &closed, &lists, turns, reply)?;
+                closed
+            }
+            Work::Closed => {
+                return Gate {
+                    election,
+                    closed,
+                    work,
+                }
+                .refuse_phase(index, reply);
+            }
+        };
+        Ok(Answer::of(Gate {
+            election,
+            closed,
+            work: Work::Closed,
+        }))
+    }
+
+    /// The set is to be acknowledged.
+    fn checkpoint(self, index: u64, reply: &mut String) -> Result<Answer, Memory>
+        requires nothing { string_bytes reply.old ≡ [] }
+        ensures does { IfOk result (λ answer. Does self.election index (state_of self)
+            said.Checkpoint (phase_of self.work) (effect_of answer (string_bytes reply.new))) }
+        ensures election { IfOk result (λ answer. answer.gate.election ≡ self.election) }
+    {
+        match self.phase() {
+            Phase::Closed => {
+                push_count(reply, "checkpoint", self.closed.len())?;
+                Ok(Answer {
+                    gate: self,
+                    acknowledges: true,
+                })
+            }
+            _ => self.refuse_phase(index, reply),
+        }
+    }
+}

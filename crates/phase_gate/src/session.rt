@@ -1,0 +1,154 @@
+//! A session: one line after another.
+
+ghost use Rattle.std.specs.Prelude.{◌≡◌, ◌∷◌, [], List, IfErr, IfOk, OnErr, OnOk};
+ghost use Rattle.outside_io.specs.Outside.{output};
+ghost use Rattle.phase_gate.specs.Around.{around};
+ghost use Rattle.outside_io.specs.Stream.{TakesAll, TakesSome};
+ghost use Rattle.phase_gate.specs.Checkpointed.{Acknowledges, IsMediumNow, NotAcknowledged};
+ghost use Rattle.phase_gate.specs.Gate.{IsNamed};
+ghost use Rattle.phase_gate.specs.LineEnds.{LastEnds, LineEnds, state_left};
+ghost use Rattle.store_spec.specs.Ballot.{Ballot};
+ghost use Rattle.store_spec.specs.Disk.{disk_model};
+ghost use Rattle.store_spec.specs.Fault.{Rose};
+ghost use Rattle.store_spec.specs.Session.{begun};
+
+use crate::fault::SessionFault;
+use crate::gate::{Answer, Gate, Phase};
+use crate::report::Report;
+use crate::work::Work;
+use ballot_record::Election;
+use body_store::Closed;
+use checkpoint::checkpoint;
+use crash_disk::Disk;
+use image_builder::Scratch;
+use outside_io::{Sink, Turns};
+use std::alloc::Global;
+use std::marker::Model;
+use std::thread::Threads;
+
+/// A session between two lines of its script.
+#[derive(Drop)]
+pub struct Session {
+    gate: Gate,
+    reply: String,
+}
+
+impl Model for Session {
+    ghost use Rattle.phase_gate.specs.Standing.{Standing, IsStanding};
+
+    ghost Value = { Standing };
+
+    ghost use Rattle.phase_gate.specs.Gate.{standing_of};
+
+    ghost view = { standing_of };
+}
+
+impl Session {
+    /// It begins closed, with the store that is held.
+    pub fn new(alloc: Global, closed: Closed, election: Election) -> Session
+        requires own { election ≡ closed.election }
+        ensures election { result.election ≡ election }
+        ensures begun { result.state ≡ begun closed.ballots }
+    {
+        Session {
+            gate: Gate {
+                election,
+                closed,
+                work: Work::Closed,
+            },
+            reply: String::new(alloc),
+        }
+    }
+
+    /// The phase that it is in.
+    pub fn phase(&self) -> Phase
+        ensures { IsNamed result self.now.state.phase }
+    {
+        self.gate.phase()
+    }
+
+    /// Handles a line of its script, which has this number, counted from 1. Whoever has read the reply to a checkpoint
+    /// can rely on it: the medium is that of the set. A refusal gives the session up.
+    pub fn line<R: Threads + Sync, D: Disk, K: Sink, T: Turns>(
+        self,
+        rt: &R,
+        alloc: Global,
+        line: &[u8],
+        index: u64,
+        disk: &mut D,
+        out: &mut K,
+        turns: &T,
+        scratch: &mut Scratch,
+        report: &mut Report,
+    ) -> Result<Session, SessionFault>
+        requires medium { (set : List Ballot) × IsMediumNow
+            (disk_model D.seen D.calls D.may_leave D.faults) self.election set disk.old }
+        ensures ends { LineEnds (disk_model D.seen D.calls D.may_leave D.faults)
+            self.election index self.state line.now (state_left (λ session. session.state) result)
+            (around (output K.taken K.faults out.old) disk.old report.old)
+            (around (output K.taken K.faults out.new) disk.new report.new) }
+        ensures election { IfOk result (λ session. session.election ≡ self.election) }
+    {
+        let Session { gate, mut reply } = self;
+        reply.clear();
+        let Answer { gate, acknowledges } = gate.answer(rt, alloc, line, index, turns, &mut reply)?;
+        if acknowledges {
+            acknowledge(&gate, disk, scratch, report)?;
+        }
+        report.held = gate.closed.len() as u32;
+        tell(&reply, out)?;
+        Ok(Session { gate, reply })
+    }
+
+    /// The script has ended: a phase that is still open is dropped.
+    pub fn end<K: Sink>(self, out: &mut K) -> Result<(), SessionFault>
+        ensures { LastEnds self.state.phase result
+            (output K.taken K.faults out.old) (output K.taken K.faults out.new) }
+    {
+        tell(self.gate.work.last_reply(), out)
+    }
+}
+
+/// Makes the medium that of the set, and marks how many calls were made by then. The room for the mark is taken first.
+fn acknowledge<D: Disk>(
+    gate: &Gate,
+    disk: &mut D,
+    scratch: &mut Scratch,
+    report: &mut Report,
+) -> Result<(), SessionFault>
+    requires medium { (set : List Ballot) × IsMediumNow
+        (disk_model D.seen D.calls D.may_leave D.faults) gate.now.election set disk.old }
+    ensures acknowledged { OnOk result (Acknowledges
+        (disk_model D.seen D.calls D.may_leave D.faults)
+        gate.now.election (gate.now.closed.ballots ∷ []) disk.old disk.new
+        report.old.marks.items report.new.marks.items) }
+    ensures refused { IfErr result (NotAcknowledged
+        (disk_model D.seen D.calls D.may_leave D.faults)
+        gate.now.election gate.now.closed.ballots disk.old disk.new) }
+    ensures marks { OnErr result (report.new.marks.items ≡ report.old.marks.items) }
+    ensures held { report.new.held ≡ report.old.held }
+{
+    if report.marks.reserve(1).is_err() {
+        return Err(SessionFault::Memory);
+    }
+    if checkpoint(disk, &gate.closed, &gate.election, scratch).is_err() {
+        return Err(SessionFault::DiskFault);
+    }
+    report.marks.push_reserved(disk.calls());
+    Ok(())
+}
+
+/// Writes a reply, where there is one.
+fn tell<K: Sink>(reply: &str, out: &mut K) -> Result<(), SessionFault>
+    ensures taken { OnOk result (TakesAll (K.taken out.old) reply.now (K.taken out.new)) }
+    ensures no_fault { OnOk result (K.faults out.new ≡ K.faults out.old) }
+    ensures some_taken { OnErr result (TakesSome (K.taken out.old) reply.now (K.taken out.new)) }
+    ensures fault { OnErr result (Rose (K.faults out.old) (K.faults out.new)) }
+    ensures why { IfErr result (λ fault. fault ≡ SessionFault.WriteFault) }
+{
+    if reply.is_empty() {
+        return Ok(());
+    }
+    out.write_all(reply.as_bytes())
+        .map_err(|_| SessionFault::WriteFault)
+}

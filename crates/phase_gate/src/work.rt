@@ -1,0 +1,179 @@
+//! A phase, and what waits for its close.
+
+ghost use Rattle.std.specs.Prelude.{◌≡◌, ◌≤◌, ◌++◌, [], IfOk, codes, map, replicate};
+ghost use Rattle.ballot_record.specs.Record as records;
+ghost use Rattle.phase_gate.specs.Work.{CastsInto, FindsInto, GoesInto, WaitsIn, WithdrawsInto, kind_of, phase_of};
+ghost use Rattle.store_spec.specs.Session.{last_reply, opened, phase_text};
+
+use ballot_record::Record;
+use outside_io::Memory;
+use std::alloc::Global;
+
+/// A phase, and a list for each tabulator of what waits for its close.
+#[derive(Drop)]
+pub enum Work {
+    Closed,
+    Casting(Vec<Vec<Record>>),
+    Withdrawing(Vec<Vec<u64>>),
+    Finding(Vec<Vec<u64>>),
+}
+
+/// What a phase does that is not closed.
+#[derive(Clone, Copy, Debug, PartialEq, Eq)]
+pub enum Kind {
+    Casting,
+    Withdrawing,
+    Finding,
+}
+
+/// What is to be done at the close of a phase.
+#[derive(Clone, Copy, Debug, PartialEq, Eq)]
+pub enum Item {
+    /// This ballot is to be cast.
+    Cast(Record),
+    /// The ballot of this number is to be withdrawn.
+    Withdraw(u64),
+    /// The ballot of this number is to be looked for.
+    Find(u64),
+}
+
+/// What became of an item.
+#[derive(Clone, Copy, Debug, PartialEq, Eq)]
+pub enum Queued {
+    /// It waits in its list.
+    Waits,
+    /// There is no such list.
+    NoList,
+    /// It does not belong to the phase.
+    OtherPhase,
+}
+
+impl Work {
+    /// A phase for so many tabulators, in which nothing waits yet.
+    pub fn opened(alloc: Global, kind: Kind, tabs: u8) -> Result<Work, Memory>
+        ensures { IfOk result (λ work. phase_of work ≡ opened (kind_of kind) tabs) }
+    {
+        match kind {
+            Kind::Casting => Ok(Work::Casting(empty_lists(alloc, tabs)?)),
+            Kind::Withdrawing => Ok(Work::Withdrawing(empty_lists(alloc, tabs)?)),
+            Kind::Finding => Ok(Work::Finding(empty_lists(alloc, tabs)?)),
+        }
+    }
+
+    /// Its name in replies.
+    pub fn name(&self) -> &'static str
+        ensures { result.now ≡ phase_text (phase_of self.now) }
+    {
+        match self {
+            Work::Closed => "closed",
+            Work::Casting(_) => "casting",
+            Work::Withdrawing(_) => "withdrawing",
+            Work::Finding(_) => "finding",
+        }
+    }
+
+    /// Why a line is refused that does not belong to it.
+    pub fn refusal(&self) -> &'static str
+        ensures { result.now ≡ codes "wrong-phase " ++ phase_text (phase_of self.now) }
+    {
+        match self {
+            Work::Closed => "wrong-phase closed",
+            Work::Casting(_) => "wrong-phase casting",
+            Work::Withdrawing(_) => "wrong-phase withdrawing",
+            Work::Finding(_) => "wrong-phase finding",
+        }
+    }
+
+    /// What is written where the script ends in it.
+    pub fn last_reply(&self) -> &'static str
+        ensures { result.now ≡ last_reply (phase_of self.now) }
+    {
+        match self {
+            Work::Closed => "",
+            Work::Casting(_) => "dropped casting\n",
+            Work::Withdrawing(_) => "dropped withdrawing\n",
+            Work::Finding(_) => "dropped finding\n",
+        }
+    }
+
+    /// The phase in which an item waits in the list of this number.
+    pub fn wait(self, tab: u8, item: Item) -> Result<(Work, Queued), Memory>
+        requires { 1 ≤ tab }
+        ensures { IfOk result (λ x. GoesInto (phase_of self) tab item x.1 (phase_of x.0)) }
+    {
+        match item {
+            Item::Cast(ballot) => self.cast(tab, ballot),
+            Item::Withdraw(number) => self.withdraw(tab, number),
+            Item::Find(number) => self.find(tab, number),
+        }
+    }
+
+    /// The phase in which a ballot waits to be cast.
+    fn cast(self, tab: u8, ballot: Record) -> Result<(Work, Queued), Memory>
+        requires { 1 ≤ tab }
+        ensures { IfOk result (λ x. CastsInto (phase_of self) tab (records.ballot ballot) x.1
+            (phase_of x.0)) }
+    {
+        match self {
+            Work::Casting(mut lists) => {
+                let queued = queue(&mut lists, tab, ballot)?;
+                Ok((Work::Casting(lists), queued))
+            }
+            other => Ok((other, Queued::OtherPhase)),
+        }
+    }
+
+    /// The phase in which a number waits to be withdrawn.
+    fn withdraw(self, tab: u8, number: u64) -> Result<(Work, Queued), Memory>
+        requires { 1 ≤ tab }
+        ensures { IfOk result
+            (λ x. WithdrawsInto (phase_of self) tab number x.1 (phase_of x.0)) }
+    {
+        match self {
+            Work::Withdrawing(mut lists) => {
+                let queued = queue(&mut lists, tab, number)?;
+                Ok((Work::Withdrawing(lists), queued))
+            }
+            other => Ok((other, Queued::OtherPhase)),
+        }
+    }
+
+    /// The phase in which a number waits to be looked for.
+    fn find(self, tab: u8, number: u64) -> Result<(Work, Queued), Memory>
+        requires { 1 ≤ tab }
+        ensures { IfOk result (λ x. FindsInto (phase_of self) tab number x.1 (phase_of x.0)) }
+    {
+        match self {
+            Work::Finding(mut lists) => {
+                let queued = queue(&mut lists, tab, number)?;
+                Ok((Work::Finding(lists), queued))
+            }
+            other => Ok((other, Queued::OtherPhase)),
+        }
+    }
+}
+
+/// So many empty lists.
+fn empty_lists<X: Drop>(alloc: Global, count: u8) -> Result<Vec<Vec<X>>, Memory>
+    ensures { IfOk result (λ lists. map (λ list. list.items) lists.items ≡ replicate count []) }
+{
+    let mut lists = Vec::with_capacity(alloc, usize::from(count))?;
+    'lists: for _made in 0..count {
+        lists.push(Vec::new(alloc))?;
+    }
+    Ok(lists)
+}
+
+/// Puts an item at the end of a list, the first of which is number 1.
+fn queue<X: Drop>(lists: &mut Vec<Vec<X>>, tab: u8, item: X) -> Result<Queued, Memory>
+    requires { 1 ≤ tab }
+    ensures { IfOk result (λ queued. WaitsIn (λ now. now) (map (λ list. list.items) lists.old.items)
+        tab item queued (map (λ list. list.items) lists.new.items)) }
+{
+    let place = usize::from(tab) - 1;
+    if place >= lists.len() {
+        return Ok(Queued::NoList);
+    }
+    lists[place].push(item)?;
+    Ok(Queued::Waits)
+}

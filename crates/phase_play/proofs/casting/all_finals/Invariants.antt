@@ -1,0 +1,10 @@
+use Rattle.std.proofs.Common.{map, take}
+use Rattle.body_store.specs.Contents.{ballots_of}
+use Rattle.phase_play.proofs.casting.all_finals.Given as goal
+use Rattle.phase_play.specs.Plays.{reply_of}
+use Rattle.phase_play.specs.Told.{TellsAll, met_in}
+
+abbrev pub invariant-loop-tab : goal.invariant-loop-tab
+invariant-loop-tab l =
+    TellsAll l.after.ballots (met_in (map (λ list. ballots_of list.items) (take l.tab l.work)) (map (λ tab. map (λ a. a.met) tab.answers) (take l.tab l.core.tabs)))
+    (map (λ list. map reply_of list.items) l.finals.items)

@@ -1,0 +1,11 @@
+use Rattle.phase_play.proofs.Closing.{closes_casting, closes_finding, closes_withdrawing}
+use Rattle.phase_play.proofs.laws.a_phase_closes.Goals as goal
+
+pub returns-clause-casting : goal.returns-clause-casting
+returns-clause-casting c = closes_casting
+
+pub returns-clause-withdrawing : goal.returns-clause-withdrawing
+returns-clause-withdrawing c = closes_withdrawing
+
+pub returns-clause-finding : goal.returns-clause-finding
+returns-clause-finding c = closes_finding

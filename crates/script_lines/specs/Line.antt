@@ -1,0 +1,18 @@
+-- What a line of the program says, as the definitions see it.
+use Rattle.ballot_record.specs.Record.{ballot}
+use Rattle.script_lines.specs.declared.line.Line.{Line}
+use Rattle.script_lines.specs.declared.line.Line.TheVariants as lines
+use Rattle.store_spec.specs.ScriptLine.{ScriptLine}
+use Rattle.store_spec.specs.ScriptLine.ScriptLine.{Open, Cast, CastInvalid, Withdraw, Find, Close, Checkpoint}
+use Rattle.store_spec.specs.ScriptLine.Work.{Casting, Withdrawing, Finding}
+
+abbrev pub script_line : Line → ScriptLine
+script_line (lines.OpenCast tabs) = Open Casting tabs
+script_line (lines.OpenWithdraw tabs) = Open Withdrawing tabs
+script_line (lines.OpenFind tabs) = Open Finding tabs
+script_line (lines.Cast tab r) = Cast tab (ballot r)
+script_line (lines.CastInvalid tab) = CastInvalid tab
+script_line (lines.Withdraw tab number) = Withdraw tab number
+script_line (lines.Find tab number) = Find tab number
+script_line lines.Close = Close
+script_line lines.Checkpoint = Checkpoint

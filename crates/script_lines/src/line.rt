@@ -1,0 +1,24 @@
+use ballot_record::Record;
+
+/// What a line of a script says. Tabulators count from 1.
+#[derive(Clone, Copy, Debug, PartialEq, Eq)]
+pub enum Line {
+    /// A casting phase opens, with so many tabulators.
+    OpenCast { tabs: u8 },
+    /// A withdrawing phase opens, with so many withdrawers.
+    OpenWithdraw { tabs: u8 },
+    /// A finding phase opens, with so many finders.
+    OpenFind { tabs: u8 },
+    /// This ballot is cast at one of them.
+    Cast { tab: u8, ballot: Record },
+    /// A record line that spells no valid ballot of the election is cast at one of them.
+    CastInvalid { tab: u8 },
+    /// The ballot of a number is withdrawn at one of them.
+    Withdraw { tab: u8, number: u64 },
+    /// A number is looked for at one of them.
+    Find { tab: u8, number: u64 },
+    /// The phase closes.
+    Close,
+    /// What is held goes to the medium.
+    Checkpoint,
+}

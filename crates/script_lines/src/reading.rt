@@ -1,0 +1,74 @@
+ghost use Rattle.std.specs.Prelude.{IfNone, IfSome, MatchOption};
+ghost use Rattle.store_spec.specs.BallotLine.{IsRecordLine};
+ghost use Rattle.store_spec.specs.ScriptLine.{IsMalformed, IsTab, Says, item_text};
+ghost use Rattle.store_spec.specs.Election as definition;
+ghost use Rattle.script_lines.specs.Line.{script_line};
+ghost use Rattle.script_lines.specs.Words.{IsNoItem, IsNoOpening, work};
+
+use crate::Line;
+use crate::words::{MAX_TABS, Work, take_tab, take_work, whole_number};
+use ballot_record::{Election, LineFault, read_line};
+
+/// What a line says that opens a phase.
+fn read_open(line: &[u8]) -> Option<Line>
+    ensures { MatchOption result (IsNoOpening line.now)
+        (λ l. (e : definition.Election) → Says e line.now (script_line l)) }
+{
+    let (work, rest) = take_work(line.strip_prefix(b"open ")?)?;
+    let tabs = whole_number(rest, MAX_TABS)? as u8;
+    match work {
+        Work::Casting => Some(Line::OpenCast { tabs }),
+        Work::Withdrawing => Some(Line::OpenWithdraw { tabs }),
+        Work::Finding => Some(Line::OpenFind { tabs }),
+    }
+}
+
+/// What a line says that casts at a tabulator what these bytes spell.
+fn read_cast(tab: u8, bytes: &[u8], election: &Election) -> Option<Line>
+    requires { IsTab tab }
+    ensures { MatchOption result (¬ IsRecordLine election.now bytes.now)
+        (λ l. Says election.now (item_text (work Work.Casting) tab bytes.now) (script_line l)) }
+{
+    match read_line(bytes, election) {
+        Ok(ballot) => Some(Line::Cast { tab, ballot }),
+        Err(LineFault::Invalid) => Some(Line::CastInvalid { tab }),
+        Err(LineFault::Malformed) => None,
+    }
+}
+
+/// What a line says that is for one of the lists.
+fn read_item(line: &[u8], election: &Election) -> Option<Line>
+    ensures { MatchOption result (IsNoItem election.now line.now)
+        (λ l. Says election.now line.now (script_line l)) }
+{
+    let (work, rest) = take_work(line)?;
+    let (tab, rest) = take_tab(rest)?;
+    match work {
+        Work::Casting => read_cast(tab, rest, election),
+        Work::Withdrawing => {
+            let number = whole_number(rest, u64::MAX)?;
+            Some(Line::Withdraw { tab, number })
+        }
+        Work::Finding => {
+            let number = whole_number(rest, u64::MAX)?;
+            Some(Line::Find { tab, number })
+        }
+    }
+}
+
+/// What a line of a script says under an election, and `None` where it is malformed.
+pub fn read_script_line(line: &[u8], election: &Election) -> Option<Line>
+    ensures said { IfSome result (λ l. Says election.now line.now (script_line l)) }
+    ensures malformed { IfNone result (IsMalformed election.now line.now) }
+{
+    if line == b"close".as_slice() {
+        return Some(Line::Close);
+    }
+    if line == b"checkpoint".as_slice() {
+        return Some(Line::Checkpoint);
+    }
+    if let Some(opening) = read_open(line) {
+        return Some(opening);
+    }
+    read_item(line, election)
+}

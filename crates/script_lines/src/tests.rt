@@ -1,0 +1,121 @@
+use super::*;
+use ballot_record::{Election, Record};
+
+fn read(line: &str) -> Option<Line> {
+    read_script_line(line.as_bytes(), &Election::example())
+}
+
+fn ballot(number: u64, sets: [u32; 2]) -> Record {
+    let mut marks = [0; 16];
+    marks[0] = sets[0];
+    marks[1] = sets[1];
+    Record {
+        number,
+        style: 1,
+        marks,
+    }
+}
+
+#[test]
+fn lines_that_open_and_close(rt: HostRuntime) {
+    let lines = [
+        ("open cast 1", Line::OpenCast { tabs: 1 }),
+        ("open cast 64", Line::OpenCast { tabs: 64 }),
+        ("open withdraw 2", Line::OpenWithdraw { tabs: 2 }),
+        ("open find 10", Line::OpenFind { tabs: 10 }),
+        ("close", Line::Close),
+        ("checkpoint", Line::Checkpoint),
+    ];
+    for (line, said) in lines.iter() {
+        assert_eq!(rt; read(line), Some(*said));
+    }
+}
+
+#[test]
+fn lines_for_a_list(rt: HostRuntime) {
+    let casts = [
+        ("cast 1 9 1 1/-", 1, ballot(9, [0b1, 0])),
+        ("cast 64 14 1 -/2", 64, ballot(14, [0, 0b10])),
+        (
+            "cast 10 18446744073709551615 1 2/1,3",
+            10,
+            ballot(u64::MAX, [0b10, 0b101]),
+        ),
+    ];
+    for (line, tab, ballot) in casts.iter() {
+        let said = Line::Cast {
+            tab: *tab,
+            ballot: *ballot,
+        };
+        assert_eq!(rt; read(line), Some(said));
+    }
+    let others = [
+        ("cast 1 9 2 1/-", Line::CastInvalid { tab: 1 }),
+        ("cast 1 9 1 5/-", Line::CastInvalid { tab: 1 }),
+        ("cast 64 9 1 1", Line::CastInvalid { tab: 64 }),
+        ("withdraw 3 9", Line::Withdraw { tab: 3, number: 9 }),
+        (
+            "withdraw 64 18446744073709551615",
+            Line::Withdraw {
+                tab: 64,
+                number: u64::MAX,
+            },
+        ),
+        ("find 12 1", Line::Find { tab: 12, number: 1 }),
+    ];
+    for (line, said) in others.iter() {
+        assert_eq!(rt; read(line), Some(*said));
+    }
+}
+
+/// Lines that are not in the grammar, each for one reason.
+const MALFORMED: &str = "open
+open cast
+open cast 0
+open cast 01
+open cast 65
+open cast 321
+open  cast 1
+open cast  1
+open close 1
+Close
+closed
+ checkpoint
+cast
+cast 1
+cast 1 9 1
+cast 1  9 1 1/-
+cast 0 9 1 1/-
+cast 65 9 1 1/-
+cast 65 9 2 1/-
+withdraw 1
+withdraw 1 0
+withdraw 1 09
+withdraw 1 9 1 1/-
+withdraw 65 9
+find 1 18446744073709551616
+find 1 -1
+find 9
+tally
+export
+9 1 1/-";
+
+#[test]
+fn malformed_lines(rt: HostRuntime) {
+    for line in MALFORMED.lines() {
+        assert_eq!(rt; read(line), None);
+    }
+    for line in [
+        "",
+        " ",
+        "open cast ",
+        "open cast 1 ",
+        "close ",
+        "close\r",
+        "checkpoint ",
+        "cast 1 ",
+        "cast 1 9 1 1/- ",
+    ] {
+        assert_eq!(rt; read(line), None);
+    }
+}

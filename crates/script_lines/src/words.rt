@@ -1,0 +1,57 @@
+ghost use Rattle.std.specs.Prelude.{◌≡◌, ◌≤◌, ◌++◌, ◌∷◌, MatchOption};
+ghost use Rattle.std.specs.Fmt.{decimal};
+ghost use Rattle.store_spec.specs.BallotLine.{space};
+ghost use Rattle.store_spec.specs.ScriptLine.{IsTab, work_text};
+ghost use Rattle.script_lines.specs.Words.{IsNotUpTo, LacksTab, LacksWork, work};
+
+use ballot_record::take_number;
+
+/// The most tabulators of a phase.
+pub const MAX_TABS: u64 = 64;
+
+/// What a phase does that is not closed.
+#[derive(Clone, Copy)]
+pub enum Work {
+    /// Ballots are cast.
+    Casting,
+    /// Ballots are withdrawn.
+    Withdrawing,
+    /// Numbers are looked for.
+    Finding,
+}
+
+/// The work that is named first, with a space behind it, and the bytes after that.
+pub fn take_work(bytes: &[u8]) -> Option<(Work, &[u8])>
+    ensures { MatchOption result (LacksWork bytes.now)
+        (λ x. bytes.now ≡ work_text (work x.0) ++ space ∷ x.1.now) }
+{
+    if let Some(rest) = bytes.strip_prefix(b"cast ") {
+        return Some((Work::Casting, rest));
+    }
+    if let Some(rest) = bytes.strip_prefix(b"withdraw ") {
+        return Some((Work::Withdrawing, rest));
+    }
+    if let Some(rest) = bytes.strip_prefix(b"find ") {
+        return Some((Work::Finding, rest));
+    }
+    None
+}
+
+/// The tabulator that stands first, with a space behind it, and the bytes after that.
+pub fn take_tab(bytes: &[u8]) -> Option<(u8, &[u8])>
+    ensures { MatchOption result (LacksTab bytes.now)
+        (λ x. IsTab x.0 × (bytes.now ≡ decimal x.0 ++ space ∷ x.1.now)) }
+{
+    let (tab, rest) = take_number(bytes, MAX_TABS)?;
+    let rest = rest.strip_prefix(b" ")?;
+    Some((tab as u8, rest))
+}
+
+/// The number from 1 to the limit that all the bytes are.
+pub fn whole_number(bytes: &[u8], limit: u64) -> Option<u64>
+    ensures { MatchOption result (IsNotUpTo limit bytes.now)
+        (λ n. (1 ≤ n) × (n ≤ limit) × (bytes.now ≡ decimal n)) }
+{
+    let (number, rest) = take_number(bytes, limit)?;
+    if rest.is_empty() { Some(number) } else { None }
+}

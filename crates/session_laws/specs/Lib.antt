@@ -1,0 +1,3 @@
+pub mod NewBallots
+pub mod SessionFigures
+pub mod SessionStates

@@ -1,0 +1,6 @@
+pub mod Acknowledging
+pub mod Beginning
+pub mod Ending
+pub mod Plays
+pub mod SoFar
+pub mod Stops

@@ -1,0 +1,4 @@
+pub mod Counting
+pub mod Placing
+pub mod Texts
+pub mod Writing

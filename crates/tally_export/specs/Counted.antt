@@ -1,0 +1,36 @@
+-- Counts of the program, as those of a set of ballots. Choice c + 1 of contest k + 1 stands at places c and k.
+use Rattle.std.specs.Prelude.{◌≡◌, ℕ, ◌+◌, ◌-◌, ◌<◌, ◌≤◌, [], nat_lt, if◌then◌else◌, List, count_ones, slice_index}
+use Rattle.std.specs.Int.{bit_at}
+use Rattle.std.specs.List.{slice_index_or}
+use Rattle.store_spec.specs.Ballot.{Ballot}
+use Rattle.store_spec.specs.Election.{Election, most_choices, most_contests}
+use Rattle.store_spec.specs.Report.{overvotes, undervotes, votes}
+use Rattle.tally_export.specs.declared.counts.Counts.{Counts}
+use Rattle.tally_export.specs.declared.counts.Tally.{Tally}
+use Rattle.tally_export.specs.declared.counts.TheConstants.{CHOICES}
+
+-- the counts of every choice and contest that there may be
+pub record IsTallyOf (e : Election) (ballots : List Ballot) (tally : Tally) : Type 0 where
+  pub choices : (k c : ℕ) → k < most_contests e → c < most_choices e
+      → slice_index (slice_index_or tally.choices k []) c ≡ votes e ballots (k + 1) (c + 1)
+  pub under : (k : ℕ) → k < most_contests e → slice_index tally.under k ≡ undervotes e ballots (k + 1)
+  pub over : (k : ℕ) → k < most_contests e → slice_index tally.over k ≡ overvotes e ballots (k + 1)
+
+-- the counts of contest k
+pub record AreCountsOf (e : Election) (ballots : List Ballot) (k : ℕ) (counts : Counts) : Type 0 where
+  pub choices : (c : ℕ) → c < most_choices e → slice_index counts.choices c ≡ votes e ballots k (c + 1)
+  pub under : counts.under ≡ undervotes e ballots k
+  pub over : counts.over ≡ overvotes e ballots k
+
+-- no count is above this number
+pub record AreAtMost (most : ℕ) (counts : Counts) : Type 0 where
+  pub choices : (c : ℕ) → c < CHOICES → slice_index counts.choices c ≤ most
+  pub under : counts.under ≤ most
+  pub over : counts.over ≤ most
+
+-- a mark set was counted where so many marks are allowed
+pub record CountsSet (allowed set : ℕ) (before now : Counts) : Type 0 where
+  pub choices : (c : ℕ) → c < CHOICES → slice_index now.choices c
+      ≡ slice_index before.choices c + (if nat_lt allowed (count_ones set) then 0 else bit_at set c)
+  pub under : now.under ≡ before.under + (allowed - count_ones set)
+  pub over : now.over ≡ before.over + (if nat_lt allowed (count_ones set) then 1 else 0)

@@ -1,0 +1,57 @@
+ghost use Rattle.std.specs.Prelude.{◌≡◌, ℕ, ◌+◌, ◌^◌, ◌<◌, ◌≤◌, length, slice_index};
+ghost use Rattle.std.specs.Int.{bit_at};
+
+use ballot_record::{MAX_CHOICES, MAX_CONTESTS};
+
+/// The most choices of a contest.
+pub const CHOICES: usize = MAX_CHOICES as usize;
+
+/// What the ballots of a store add up to. Choice c + 1 of contest k + 1 stands at place c of place k, and 0 stands
+/// where the election has no such choice.
+#[derive(Clone, Copy, Debug, PartialEq, Eq)]
+pub struct Tally {
+    /// How many ballots mark each choice, without those that mark more choices of its contest than it allows.
+    pub choices: [[u64; CHOICES]; MAX_CONTESTS],
+    /// How many marks fewer than each contest allows its ballots have.
+    pub under: [u64; MAX_CONTESTS],
+    /// How many ballots mark more choices than each contest allows.
+    pub over: [u64; MAX_CONTESTS],
+}
+
+/// What ballots add up to in one contest.
+#[derive(Clone, Copy)]
+pub struct Counts {
+    pub choices: [u64; CHOICES],
+    pub under: u64,
+    pub over: u64,
+}
+
+/// Counts each choice of a mark set.
+fn add_choices(counts: &mut [u64], set: u32)
+    requires few { length counts.old ≤ 32 }
+    requires room { (c : ℕ) → c < length counts.old → slice_index counts.old c < 2 ^ 63 }
+    ensures { (c : ℕ) → c < length counts.old
+        → slice_index counts.new c ≡ slice_index counts.old c + bit_at set c }
+{
+    for (choice, count) in counts.iter_mut().enumerate() {
+        *count += u64::from(set >> choice & 1);
+    }
+}
+
+impl Counts {
+    ghost use Rattle.tally_export.specs.Counted.{AreAtMost, CountsSet};
+
+    /// Counts the mark set of a ballot, where so many marks are allowed.
+    pub fn add(&mut self, set: u32, allowed: u32)
+        requires { AreAtMost (2 ^ 32) self.old }
+        ensures { CountsSet allowed set self.old self.new }
+    {
+        let marks = set.count_ones();
+        if marks > allowed {
+            self.over += 1;
+            return;
+        }
+        self.under += u64::from(allowed - marks);
+        add_choices(&mut self.choices, set);
+    }
+}

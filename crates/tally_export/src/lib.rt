@@ -1,0 +1,17 @@
+//! Reports on a closed store: the tally of its ballots, and their export.
+#![tactic(auto)]
+
+mod contests;
+mod counts;
+mod fault;
+mod lines;
+mod text;
+
+pub use contests::tally;
+pub use counts::{CHOICES, Tally};
+pub use fault::PutFault;
+pub use lines::export;
+pub use text::write_tally;
+
+#[cfg(test)]
+mod tests;

@@ -1,0 +1,65 @@
+ghost use Rattle.std.specs.Prelude.{◌≡◌, ◌∷◌, [], ◌++◌, IfOk, OnErr, OnOk, codes};
+ghost use Rattle.ballot_record.specs.Record as seen;
+ghost use Rattle.outside_io.specs.Stream.{TakesAll, TakesSome};
+ghost use Rattle.store_spec.specs.Ballot.{IsValid};
+ghost use Rattle.store_spec.specs.BallotLine.{record_line};
+ghost use Rattle.store_spec.specs.Fault.{CountsFaultIf};
+ghost use Rattle.store_spec.specs.Input.{line_end};
+ghost use Rattle.store_spec.specs.Report.{count_line, export_text};
+
+use crate::PutFault;
+use ballot_record::{Election, Record, put_line};
+use body_store::Closed;
+use outside_io::{Memory, Sink};
+use std::alloc::Global;
+
+/// The lines that are gathered are written once they have more bytes than this.
+const FULL: usize = 65536;
+
+/// The first line, which counts the ballots.
+fn first_line(alloc: Global, ballots: usize) -> Result<Vec<u8>, Memory>
+    ensures { IfOk result
+        (λ text. text.items ≡ count_line (codes "export") ballots ++ line_end ∷ []) }
+{
+    Ok(format!(in alloc; "export {ballots}\n")?.into_bytes())
+}
+
+/// Appends the line of a ballot, with its end.
+fn put_ballot(ballot: &Record, election: &Election, text: &mut Vec<u8>) -> Result<(), Memory>
+    requires { IsValid election.now (seen.ballot ballot.now) }
+    ensures { OnOk result (text.new.items
+        ≡ text.old.items ++ (record_line election.now (seen.ballot ballot.now) ++ line_end ∷ [])) }
+{
+    put_line(ballot, election, text)?;
+    text.push(b'\n')?;
+    Ok(())
+}
+
+/// Writes how many ballots a store holds, and then the line of each, in ascending order of their numbers. Lines are
+/// gathered, and written once they have more than 64 KiB.
+pub fn export<K: Sink>(
+    alloc: Global,
+    closed: &Closed,
+    election: &Election,
+    out: &mut K,
+) -> Result<(), PutFault>
+    requires { closed.now.election ≡ election.now }
+    ensures all { OnOk result (TakesAll (K.taken out.old)
+        (export_text election.now closed.now.ballots) (K.taken out.new)) }
+    ensures some { OnErr result (TakesSome (K.taken out.old)
+        (export_text election.now closed.now.ballots) (K.taken out.new)) }
+    ensures fault { CountsFaultIf (result ≡ Err PutFault.WriteFault)
+        (K.faults out.old) (K.faults out.new) }
+{
+    let records = closed.records();
+    let mut text = first_line(alloc, records.len())?;
+    'records: for record in records {
+        put_ballot(record, election, &mut text)?;
+        if text.len() > FULL {
+            out.write_all(&text)?;
+            text.clear();
+        }
+    }
+    out.write_all(&text)?;
+    Ok(())
+}
