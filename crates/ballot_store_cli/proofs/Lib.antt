@@ -3,8 +3,11 @@ mod Carrying
 mod Causes
 mod Complete
 mod Index
+mod Generating
 mod Making
+mod Naming
 mod OneAnswer
+mod OneAudit
 mod OneBuild
 mod OneElection
 mod OneInit

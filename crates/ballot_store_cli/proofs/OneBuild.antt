@@ -44,6 +44,7 @@ build_decides e status.NoStore before after text is decided ends = ends
 build_decides e (status.Damaged cell) before after text is decided ends = ends
 build_decides e (status.OtherElection header) before after text is decided ends = ends
 build_decides e (status.WrongSize size) before after text is decided ends = ends
+build_decides e (status.NotCanonical place) before after text is decided ends = ends
 
 -- what lines build is no set and a bad line both
 ok_err : {A B : Type 0} (a : A) (b : B) → Ok a ≡ Err b → ⊥
@@ -88,5 +89,6 @@ one_build e text status.NoStore b x y = absurd x
 one_build e text (status.Damaged cell) b x y = absurd x
 one_build e text (status.OtherElection header) b x y = absurd x
 one_build e text (status.WrongSize size) b x y = absurd x
+one_build e text (status.NotCanonical place) b x y = absurd x
 one_build e text a (status.TooLong which.Election) x y = absurd y
 one_build e text a other x y = absurd y

@@ -32,6 +32,7 @@ refusal_decides status.NoStore old new text is decided refused = refused
 refusal_decides (status.Damaged cell) old new text is decided refused = refused
 refusal_decides (status.OtherElection header) old new text is decided refused = refused
 refusal_decides (status.WrongSize size) old new text is decided refused = refused
+refusal_decides (status.NotCanonical place) old new text is decided refused = refused
 
 pub election_decides_one : (text : List ℕ) (a b : Status) → DecidesElection text a → DecidesElection text b → a ≡ b
 election_decides_one text status.BadElection status.BadElection x y = refl
@@ -51,6 +52,7 @@ election_decides_one text status.NoStore b x y = absurd x
 election_decides_one text (status.Damaged cell) b x y = absurd x
 election_decides_one text (status.OtherElection header) b x y = absurd x
 election_decides_one text (status.WrongSize size) b x y = absurd x
+election_decides_one text (status.NotCanonical place) b x y = absurd x
 election_decides_one text a (status.TooLong which.Script) x y = absurd y
 election_decides_one text a other x y = absurd y
 
@@ -71,3 +73,4 @@ none_refused text status.NoStore e few describes refused = refused
 none_refused text (status.Damaged cell) e few describes refused = refused
 none_refused text (status.OtherElection header) e few describes refused = refused
 none_refused text (status.WrongSize size) e few describes refused = refused
+none_refused text (status.NotCanonical place) e few describes refused = refused

@@ -39,6 +39,7 @@ init_decides model e status.NoStore old new before after bytes is decided ends =
 init_decides model e (status.Damaged cell) old new before after bytes is decided ends = ends.leaves
 init_decides model e (status.OtherElection header) old new before after bytes is decided ends = ends.leaves
 init_decides model e (status.TooLong which) old new before after bytes is decided ends = ends.leaves
+init_decides model e (status.NotCanonical place) old new before after bytes is decided ends = ends.leaves
 init_decides model e (status.BadLine line why) old new before after bytes is decided ends = ends.leaves
 
 -- a disk is unused, or a store, or has too many bytes
@@ -71,5 +72,6 @@ one_init e bytes status.DiskFault b x y = absurd x
 one_init e bytes (status.ReadFault which) b x y = absurd x
 one_init e bytes status.WriteFault b x y = absurd x
 one_init e bytes status.Memory b x y = absurd x
+one_init e bytes (status.NotCanonical place) b x y = absurd x
 one_init e bytes (status.BadLine line why) b x y = absurd x
 one_init e bytes a other x y = absurd y

@@ -1,7 +1,8 @@
 -- The words that the program is called with: a medium, an election, and a command.
 use Rattle.std.specs.Prelude.{◌≡◌, ◌≢◌, ℕ, List, [], ◌∷◌, codes}
 use Rattle.ballot_store_cli.specs.declared.command.Command.{Command}
-use Rattle.ballot_store_cli.specs.declared.command.Command.TheVariants.{Build, Init, Session, Replay}
+use Rattle.large_options.specs.Options.{IsOptions}
+use Rattle.ballot_store_cli.specs.declared.command.Command.TheVariants.{Build, Init, Session, Audit, Replay, Large}
 
 abbrev pub DASH : ℕ
 DASH = 45
@@ -16,7 +17,9 @@ abbrev pub Names : List (List ℕ) → Command → Type 0
 Names words Build = words ≡ codes "build" ∷ []
 Names words Init = words ≡ codes "init" ∷ []
 Names words Session = words ≡ codes "session" ∷ []
+Names words Audit = words ≡ codes "audit" ∷ []
 Names words Replay = words ≡ codes "replay" ∷ []
+Names words (Large o) = (rest : List (List ℕ)) × (words ≡ codes "large" ∷ rest) × IsOptions rest o.seed o.count o.tabs
 
 -- they name no command
 abbrev pub NameNone : List (List ℕ) → Type 0

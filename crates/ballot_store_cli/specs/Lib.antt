@@ -1,8 +1,10 @@
+pub mod Audit
 pub mod Ballots
 pub mod Build
 pub mod Command
 pub mod ElectionText
 pub mod Init
+pub mod Large
 pub mod Outcome
 pub mod Replay
 pub mod Script

@@ -18,4 +18,4 @@ around_it world report = record { sink = world.streams.sink; disk = world.disk; 
 pub record SessionRunEnds {S K D : Type 0} (model : DiskModel D) (e : Election) (status : Status) (report : Reported) (before after : World S K D) : Type 0 where
   pub answer : Result (Unit {0}) RunFault
   pub told : status ≡ ended_as run_fault_status answer
-  pub ends : SessionEnds model e answer before.streams.script after.streams.script (around_it before nothing_reported) (around_it after report)
+  pub ends : SessionEnds model (λ text. text) e answer before.streams.script after.streams.script (around_it before nothing_reported) (around_it after report)

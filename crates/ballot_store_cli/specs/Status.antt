@@ -2,8 +2,10 @@
 use Rattle.std.specs.Prelude.{ℕ, List, ◌++◌, codes, Result, Ok as Fine, Err}
 use Rattle.std.specs.Fmt.{decimal}
 use Rattle.ballot_store_cli.specs.declared.status.Status.{Status}
-use Rattle.ballot_store_cli.specs.declared.status.Status.TheVariants.{Ok, Usage, BadElection, TooLong, DiskFault, ReadFault, WriteFault, Memory, NoStore, Damaged, OtherElection, Exists, WrongSize, BadLine}
+use Rattle.ballot_store_cli.specs.declared.status.Status.TheVariants.{Ok, Usage, BadElection, TooLong, DiskFault, ReadFault, WriteFault, Memory, NoStore, Damaged, OtherElection, Exists, WrongSize, NotCanonical, BadLine}
 use Rattle.ballot_store_cli.specs.declared.status.Which.TheVariants.{Election, Script}
+use Rattle.ballot_store_cli.specs.declared.audit.AuditFault.{AuditFault}
+use Rattle.ballot_store_cli.specs.declared.audit.AuditFault.TheVariants as audit
 use Rattle.ballot_store_cli.specs.declared.build.BuildFault.{BuildFault}
 use Rattle.ballot_store_cli.specs.declared.build.script.ScriptFault.{ScriptFault}
 use Rattle.ballot_store_cli.specs.declared.build.script.ScriptFault.TheVariants as script
@@ -14,6 +16,8 @@ use Rattle.ballot_store_cli.specs.declared.init.NewFault.{NewFault}
 use Rattle.ballot_store_cli.specs.declared.init.NewFault.TheVariants as new
 use Rattle.checkpoint.specs.declared.fresh.InitFault.{InitFault}
 use Rattle.checkpoint.specs.declared.fresh.InitFault.TheVariants as init
+use Rattle.recovery.specs.declared.fault.RecoverFault.{RecoverFault}
+use Rattle.recovery.specs.declared.fault.RecoverFault.TheVariants as recover
 use Rattle.schedule_replay.specs.declared.fault.ReplayFault.{ReplayFault}
 use Rattle.schedule_replay.specs.declared.fault.ReplayFault.TheVariants as replay
 use Rattle.session_run.specs.declared.fault.RunFault.{RunFault}
@@ -35,6 +39,7 @@ exit_status (Damaged cell) = 10
 exit_status (OtherElection header) = 11
 exit_status Exists = 12
 exit_status (WrongSize size) = 13
+exit_status (NotCanonical place) = 14
 exit_status (BadLine line why) = 15
 
 abbrev pub status_text : Status → List ℕ
@@ -53,6 +58,7 @@ status_text (Damaged cell) = codes "damaged cell " ++ decimal cell
 status_text (OtherElection header) = codes "other election"
 status_text Exists = codes "store exists"
 status_text (WrongSize size) = codes "wrong size " ++ decimal size
+status_text (NotCanonical place) = codes "not canonical at " ++ decimal place
 status_text (BadLine line why) = codes "bad line " ++ decimal line
 
 -- the status is neither a fault of the outside nor want of memory
@@ -85,6 +91,15 @@ new_fault_status new.DiskFault = DiskFault
 new_fault_status new.WriteFault = WriteFault
 new_fault_status new.Memory = Memory
 
+abbrev pub audit_fault_status : AuditFault → Status
+audit_fault_status audit.NoStore = NoStore
+audit_fault_status (audit.OtherElection header) = OtherElection header
+audit_fault_status (audit.Damaged cell) = Damaged cell
+audit_fault_status (audit.NotCanonical place) = NotCanonical place
+audit_fault_status audit.DiskFault = DiskFault
+audit_fault_status audit.WriteFault = WriteFault
+audit_fault_status audit.Memory = Memory
+
 abbrev pub replay_fault_status : ReplayFault → Status
 replay_fault_status (replay.BadLine line why) = BadLine line why
 replay_fault_status replay.TooLong = TooLong Script
@@ -111,7 +126,7 @@ abbrev pub ended : Result (Unit {0}) Status → Status
 ended (Fine done) = Ok
 ended (Err status) = status
 
--- what reading a text, or a script of record lines, answers, as the part above tells it
+-- what reading a text, a medium or a script of record lines answers, as the part above tells it
 abbrev pub no_election : ElectionFault → NoElection
 no_election election.NotElection = none.BadText
 no_election election.Memory = none.Memory
@@ -121,6 +136,13 @@ new_fault (init.WrongSize size) = new.WrongSize size
 new_fault init.Exists = new.Exists
 new_fault init.DiskFault = new.DiskFault
 new_fault init.Memory = new.Memory
+
+abbrev pub audit_fault : RecoverFault → AuditFault
+audit_fault recover.NoStore = audit.NoStore
+audit_fault (recover.OtherElection header) = audit.OtherElection header
+audit_fault (recover.Damaged cell) = audit.Damaged cell
+audit_fault recover.DiskFault = audit.DiskFault
+audit_fault recover.Memory = audit.Memory
 
 abbrev pub build_fault : ScriptFault → BuildFault
 build_fault (script.BadLine line why) = build.BadLine line why

@@ -3,7 +3,7 @@
 ghost use Rattle.std.specs.Prelude.{◌≡◌, ◌⊎◌, ℕ, List, IsSome};
 ghost use Rattle.ballot_store_cli.specs.Command.{Forms};
 ghost use Rattle.ballot_store_cli.specs.Outcome.{Ends, Tells};
-ghost use Rattle.ballot_store_cli.specs.Served.{GivesElection, IsServed, NothingFailed};
+ghost use Rattle.ballot_store_cli.specs.Served.{GivesElection, IsCarriedOut, IsServed, NothingFailed};
 ghost use Rattle.ballot_store_cli.specs.World.{Reported, World};
 ghost use Rattle.store_spec.specs.Disk.{disk_model};
 ghost use Rattle.outside_io.specs.Outside.{Input};
@@ -34,8 +34,10 @@ pub fn one_answer<E: Source, S: Source, K: Sink, D: Disk>()
         → IsDecided a → IsDecided b → a ≡ b }
 {}
 
-/// Where nothing stands against a command, the run answers `Ok` or `Memory`: the words form it, the election's source
-/// describes an election within its limit, what else the command reads is what it needs, and no count of faults rose.
+/// Where nothing stands against a command, it is carried out, or there was no memory: the words form it, the election's
+/// source describes an election within its limit, what else the command reads is what it needs, and no count of faults
+/// rose. So a session on a medium that holds a set answers `Ok` or `Memory`, and an audit of it also `NotCanonical`,
+/// exactly where the medium is not that of the set.
 pub fn a_served_command_is_carried_out<E: Source, S: Source, K: Sink, D: Disk>()
     ensures { (words : List (List ℕ)) (command : Command) (e : Election) (status : Status)
         (report : Reported) (old new : Input E) (before after : World S K D)
@@ -43,5 +45,6 @@ pub fn a_served_command_is_carried_out<E: Source, S: Source, K: Sink, D: Disk>()
         → Forms words command → GivesElection old e
         → IsServed (disk_model D.seen D.calls D.may_leave D.faults) command e before
         → NothingFailed (disk_model D.seen D.calls D.may_leave D.faults) old new before after
-        → (status ≡ statuses.Ok) ⊎ (status ≡ statuses.Memory) }
+        → IsCarriedOut (disk_model D.seen D.calls D.may_leave D.faults) command e before status
+        ⊎ (status ≡ statuses.Memory) }
 {}

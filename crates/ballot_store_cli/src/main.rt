@@ -3,10 +3,12 @@
 
 ghost use Rattle.std.specs.Prelude.{◌≡◌, ◌-◌, IfOk, length, vec_len};
 
+mod audit;
 mod build;
 mod command;
 mod election;
 mod init;
+mod large;
 pub mod laws;
 mod run;
 mod status;

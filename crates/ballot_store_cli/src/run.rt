@@ -4,17 +4,21 @@ ghost use Rattle.ballot_store_cli.specs.Status.{ended};
 ghost use Rattle.ballot_store_cli.specs.World.{reported, world};
 ghost use Rattle.outside_io.specs.Outside.{input, output};
 ghost use Rattle.store_spec.specs.Disk.{disk_model};
+ghost use Rattle.large_options.specs.declared.options.Options.{Options};
 ghost use Rattle.store_spec.specs.Election.{IsElection};
+ghost use Rattle.store_spec.specs.ScriptLine.{IsTab};
 
+use crate::audit::audit;
 use crate::build::build;
 use crate::command::{Command, command_of};
 use crate::election::election_from;
 use crate::init::init;
+use crate::large::large;
 use crate::status::Status;
 use ballot_record::Election;
 use crash_disk::Disk;
 use outside_io::{Sink, Source, Turns};
-use phase_gate::Report;
+use phase_gate::{Report, Telling};
 use schedule_replay::replay;
 use session_run::run_session;
 use std::alloc::Global;
@@ -25,7 +29,10 @@ use std::thread::Threads;
 /// - `MEDIUM ELECTION build` writes the image of the set of the script's record lines to the sink;
 /// - `MEDIUM ELECTION init` makes an unused disk the medium of the empty set;
 /// - `MEDIUM ELECTION session` recovers the medium and handles a script of ballots, withdrawals, finds and checkpoints;
-/// - `MEDIUM ELECTION replay` replays the schedule of a script over a phase.
+/// - `MEDIUM ELECTION audit` writes whether the medium is that of the set that it holds, or where it first differs;
+/// - `MEDIUM ELECTION replay` replays the schedule of a script over a phase;
+/// - `MEDIUM ELECTION large --seed S --count C --tabs T` handles the script that these options generate as a session does,
+///   and writes the summary of its replies.
 ///
 /// The report has how many calls the disk had seen at each checkpoint that a session acknowledged, and how many ballots
 /// its last closed store held. `more` has a disk for each word after the third; no command uses them yet.
@@ -49,8 +56,10 @@ pub fn run<R: Threads + Sync, E: Source, S: Source, K: Sink, D: Disk, T: Turns>(
     ensures more { more.new ≡ more.old }
 {
     let mut report = Report::new(alloc);
-    let Some(command) = command_of(words) else {
-        return (Status::Usage, report);
+    let command = match command_of(alloc, words) {
+        Ok(Some(command)) => command,
+        Ok(None) => return (Status::Usage, report),
+        Err(_) => return (Status::Memory, report),
     };
     let election = match election_from(alloc, election) {
         Ok(election) => election,
@@ -84,6 +93,7 @@ fn carry_out<R: Threads + Sync, S: Source, K: Sink, D: Disk, T: Turns>(
     turns: &T,
     report: &mut Report,
 ) -> Result<(), Status>
+    requires options { (o : Options) → command ≡ Command.Large o → IsTab o.tabs }
     requires election { IsElection election.now }
     requires marks { report.old.marks.items ≡ [] }
     requires held { report.old.held ≡ 0 }
@@ -95,8 +105,20 @@ fn carry_out<R: Threads + Sync, S: Source, K: Sink, D: Disk, T: Turns>(
     match command {
         Command::Build => build(alloc, election, script, out)?,
         Command::Init => init(alloc, election, out, disk)?,
-        Command::Session => run_session(rt, alloc, election, script, out, disk, turns, report)?,
+        Command::Session => run_session(
+            rt,
+            alloc,
+            election,
+            script,
+            out,
+            disk,
+            turns,
+            Telling::All,
+            report,
+        )?,
+        Command::Audit => audit(alloc, election, out, disk)?,
         Command::Replay => replay(alloc, election, script, out)?,
+        Command::Large(options) => large(rt, alloc, options, election, out, disk, turns, report)?,
     }
     Ok(())
 }

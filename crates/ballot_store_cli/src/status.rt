@@ -1,5 +1,6 @@
 ghost use Rattle.std.specs.Prelude.{◌≡◌};
 
+use crate::audit::AuditFault;
 use crate::build::BuildFault;
 use crate::election::NoElection;
 use crate::init::NewFault;
@@ -44,6 +45,8 @@ pub enum Status {
     Exists,
     /// The disk has more bytes than a medium, so many.
     WrongSize { size: u64 },
+    /// The medium differs from that of the set that it holds, first at this byte, counted from 0.
+    NotCanonical { place: u64 },
     /// A line of a script was refused; lines count from 1.
     BadLine { line: u64, why: LineWhy },
 }
@@ -69,6 +72,7 @@ impl Status {
             Status::OtherElection { .. } => 11,
             Status::Exists => 12,
             Status::WrongSize { .. } => 13,
+            Status::NotCanonical { .. } => 14,
             Status::BadLine { .. } => 15,
         }
     }
@@ -128,6 +132,25 @@ impl From<NewFault> for Status {
             NewFault::DiskFault => Status::DiskFault,
             NewFault::WriteFault => Status::WriteFault,
             NewFault::Memory => Status::Memory,
+        }
+    }
+}
+
+impl From<AuditFault> for Status {
+    ghost use Rattle.std.specs.Prelude.{◌≡◌};
+    ghost use Rattle.ballot_store_cli.specs.Status.{audit_fault_status};
+
+    ghost from_gives = { λ fault status. status ≡ audit_fault_status fault };
+
+    fn from(fault: AuditFault) -> Self {
+        match fault {
+            AuditFault::NoStore => Status::NoStore,
+            AuditFault::OtherElection { header } => Status::OtherElection { header },
+            AuditFault::Damaged { cell } => Status::Damaged { cell },
+            AuditFault::NotCanonical { place } => Status::NotCanonical { place },
+            AuditFault::DiskFault => Status::DiskFault,
+            AuditFault::WriteFault => Status::WriteFault,
+            AuditFault::Memory => Status::Memory,
         }
     }
 }
@@ -208,6 +231,7 @@ impl fmt::Display for Status {
             Status::OtherElection { .. } => f.write_str("other election"),
             Status::Exists => f.write_str("store exists"),
             Status::WrongSize { size } => write!(f, "wrong size {size}"),
+            Status::NotCanonical { place } => write!(f, "not canonical at {place}"),
             Status::BadLine { line, .. } => write!(f, "bad line {line}"),
         }
     }

@@ -13,6 +13,7 @@ use std::test::Fail;
 use std::thread::Threads;
 
 mod init;
+mod large;
 mod replay;
 mod session;
 

@@ -15,7 +15,7 @@ use std::path::Path;
 const OWNER_ALONE: u32 = 0o600;
 
 /// A disk over a file, whose path is opened at the first call. Where no file is there, it has no bytes, and the first
-/// write makes one. To reach outside the file is a fault.
+/// write makes one. To reach outside the file is a fault, and so is a write to one that may only be read.
 #[derive(Drop)]
 pub struct FileDisk<'a, F: Files> {
     files: &'a F,
@@ -70,11 +70,7 @@ impl<'a, F: Files> FileDisk<'a, F> {
         ensures owes_folder { self.old.owes_folder ≡ true → self.new.owes_folder ≡ true }
     {
         if self.file.is_none() {
-            match OpenOptions::new()
-                .read(true)
-                .write(true)
-                .open(self.files, self.path)
-            {
+            match open_existing(self.files, self.path) {
                 Ok(file) => self.keep(file),
                 Err(error) if error.kind() == ErrorKind::NotFound => {}
                 Err(error) => return Err(error),
@@ -143,6 +139,25 @@ impl<'a, F: Files> FileDisk<'a, F> {
         self.calls.add_one();
         self.faults.counted(outcome)
     }
+}
+
+/// Opens a file that is there: to be read and written, or, where it may not be written, to be read.
+fn open_existing<F: Files>(files: &F, path: &str) -> io::Result<F::File> {
+    let opened = OpenOptions::new().read(true).write(true).open(files, path);
+    match opened {
+        Err(error) if is_write_refused(error.kind()) => {
+            OpenOptions::new().read(true).open(files, path)
+        }
+        opened => opened,
+    }
+}
+
+/// Whether an error says that a file may not be written.
+fn is_write_refused(kind: ErrorKind) -> bool {
+    matches!(
+        kind,
+        ErrorKind::PermissionDenied | ErrorKind::ReadOnlyFilesystem
+    )
 }
 
 impl<'a, F: Files> FileDisk<'a, F>

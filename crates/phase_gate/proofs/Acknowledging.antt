@@ -24,7 +24,9 @@ told_now P None (Some bytes) told = absurd (cc told.told)
 told_now P (Some before) (Some bytes) told = told.related before bytes refl refl
 
 -- a settled disk is now the medium of a set
-pub medium_now : {D : Type 0} (model : DiskModel D) (e : Election) (set : List Ballot) (old new : D) → IsSettled model.seen model.calls model.may_leave new → AsTold model.seen old new (λ before bytes. IsMediumOf e bytes set) → IsMediumNow model e set new
+pub medium_now : {D : Type 0} (model : DiskModel D) (e : Election) (set : List Ballot) (old new : D)
+    → IsSettled model.seen model.calls model.may_leave new
+    → AsTold model.seen old new (λ before bytes. IsMediumOf e bytes set) → IsMediumNow model e set new
 medium_now model e set old new settled told = record {
   settled = settled;
   medium = told_now (λ bytes. IsMediumOf e bytes set) (model.seen old) (model.seen new) told;

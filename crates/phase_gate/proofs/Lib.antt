@@ -1,6 +1,11 @@
 pub mod Acknowledging
 pub mod Closes
 pub mod Kept
+pub mod LineParts
+pub mod Outcomes
+pub mod Phases
 pub mod Queues
-pub mod Telling
+pub mod Reports
+pub mod Summaries
+pub mod Told
 pub mod Waiting

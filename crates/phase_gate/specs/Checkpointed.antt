@@ -15,11 +15,13 @@ pub record IsMediumNow {D : Type 0} (model : DiskModel D) (e : Election) (set : 
 
 -- from the medium of one set on, each crash image of each moment holds that set or this one
 abbrev pub HoldsEither : {D : Type 0} → DiskModel D → Election → List Ballot → D → D → Type 0
-HoldsEither model e set old new = (bytes : List ℕ) (before : List Ballot) → model.seen old ≡ Some bytes → IsMediumOf e bytes before
+HoldsEither model e set old new =
+    (bytes : List ℕ) (before : List Ballot) → model.seen old ≡ Some bytes → IsMediumOf e bytes before
     → LeavesOnly model.calls model.may_leave old new (λ image. HoldsSet e image before ⊎ HoldsSet e image set)
 
 -- it ended well
-pub record Checkpointed {D : Type 0} (model : DiskModel D) (e : Election) (set : List Ballot) (old new : D) : Type 0 where
+pub record Checkpointed {D : Type 0} (model : DiskModel D) (e : Election) (set : List Ballot)
+    (old new : D) : Type 0 where
   pub told : is_some (model.seen new) ≡ is_some (model.seen old)
   pub now : IsMediumNow model e set new
   pub crashes : HoldsEither model e set old new
@@ -27,7 +29,8 @@ pub record Checkpointed {D : Type 0} (model : DiskModel D) (e : Election) (set :
   pub no_fault : model.faults new ≡ model.faults old
 
 -- it failed
-pub record FailsCheckpoint {D : Type 0} (model : DiskModel D) (e : Election) (set : List Ballot) (old new : D) : Type 0 where
+pub record FailsCheckpoint {D : Type 0} (model : DiskModel D) (e : Election) (set : List Ballot)
+    (old new : D) : Type 0 where
   pub told : is_some (model.seen new) ≡ is_some (model.seen old)
   pub crashes : HoldsEither model e set old new
   pub later : model.calls old ≤ model.calls new

@@ -1,14 +1,19 @@
 -- How the parts of a session are seen.
-use Rattle.std.specs.Prelude.{◌≡◌, ℕ, List, [], ◌∷◌, if◌then◌else◌, codes}
+use Rattle.std.specs.Prelude.{◌≡◌, ℕ, List, [], ◌∷◌, codes}
 use Rattle.phase_gate.specs.Standing.{Standing}
 use Rattle.phase_gate.specs.Work.{phase_of}
 use Rattle.phase_gate.specs.declared.gate.Answer.{Answer}
 use Rattle.phase_gate.specs.declared.gate.Gate.{Gate}
 use Rattle.phase_gate.specs.declared.gate.Phase.{Phase}
 use Rattle.phase_gate.specs.declared.gate.Phase.TheVariants as names
+use Rattle.phase_gate.specs.declared.gate.Task.{Task}
+use Rattle.phase_gate.specs.declared.gate.Task.TheVariants.{Acknowledge, Tally, Export}
 use Rattle.phase_gate.specs.declared.work.Queued.{Queued}
 use Rattle.phase_gate.specs.declared.work.Queued.TheVariants.{Waits, NoList, OtherPhase}
 use Rattle.phase_gate.specs.declared.session.Session.TheInside.{Inside}
+use Rattle.store_spec.specs.Ballot.{Ballot}
+use Rattle.store_spec.specs.Election.{Election}
+use Rattle.store_spec.specs.Report.{export_text, tally_text}
 use Rattle.store_spec.specs.Session as session
 use Rattle.store_spec.specs.Session.{Effect, State, in_phase, refusal, replies, stays, wrong_phase}
 use Rattle.store_spec.specs.Session.Phase.{Closed, Casts, Withdraws, Finds}
@@ -16,16 +21,27 @@ use Rattle.store_spec.specs.Session.Phase.{Closed, Casts, Withdraws, Finds}
 abbrev pub state_of : Gate → State
 state_of gate = in_phase (phase_of gate.work) gate.closed.ballots
 
--- what a line did, whose reply is this
+-- what is told where this is left to do, and this text was put
+abbrev pub told_at : Task → Election → List Ballot → List ℕ → List ℕ
+told_at Tally e set text = tally_text e set
+told_at Export e set text = export_text e set
+told_at task e set text = text
+
+-- the sets that are acknowledged where this is left to do
+abbrev pub acknowledged_at : Task → List Ballot → List (List Ballot)
+acknowledged_at Acknowledge set = set ∷ []
+acknowledged_at task set = []
+
+-- what a line did, with what is told of its reply, where this text was put
 abbrev pub effect_of : Answer → List ℕ → Effect
-effect_of answer reply = record {
-  reply = reply;
-  acknowledged = if answer.acknowledges then answer.gate.closed.ballots ∷ [] else [];
+effect_of answer text = record {
+  reply = told_at answer.task answer.gate.election answer.gate.closed.ballots text;
+  acknowledged = acknowledged_at answer.task answer.gate.closed.ballots;
   next = state_of answer.gate;
 }
 
 abbrev pub standing_of : Inside → Standing
-standing_of s = record { election = s.gate.election; state = state_of s.gate }
+standing_of s = record { election = s.gate.election; state = state_of s.gate; telling = s.telling }
 
 -- this is the name of the phase
 abbrev pub IsNamed : Phase → session.Phase → Type 0

@@ -3,4 +3,5 @@ pub mod Checkpointed
 pub mod Gate
 pub mod LineEnds
 pub mod Standing
+pub mod Telling
 pub mod Work

@@ -1,17 +1,18 @@
 //! The close of a phase: what waited is handled, and each item is answered.
 
-ghost use Rattle.std.specs.Prelude.{◌≡◌, [], All, IfOk, length, map, string_bytes};
+ghost use Rattle.std.specs.Prelude.{◌≡◌, [], All, IfOk, map, string_bytes};
 ghost use Rattle.body_store.specs.Contents.{ballots_of};
 ghost use Rattle.phase_gate.specs.Standing.{AreLists};
+ghost use Rattle.phase_gate.specs.Telling.{Tells};
 ghost use Rattle.store_spec.specs.Ballot.{IsValid};
 ghost use Rattle.store_spec.specs.Session.{ClosesCasting, ClosesFinding, ClosesWithdrawing, begun, replies};
 
-use crate::text::push_count;
+use crate::telling::Telling;
+use crate::text::tell_closing;
 use ballot_record::{Election, Record};
 use body_store::Closed;
 use outside_io::{Memory, Turns};
 use phase_play::{play_casting, play_finding, play_withdrawing};
-use reply_lines::push_all_replies;
 use std::alloc::Global;
 use std::thread::Threads;
 
@@ -23,6 +24,7 @@ pub fn close_casting<R: Threads + Sync, T: Turns>(
     election: &Election,
     lists: &[Vec<Record>],
     turns: &T,
+    telling: Telling,
     reply: &mut String,
 ) -> Result<Closed, Memory>
     requires own { election.now ≡ closed.election }
@@ -30,13 +32,12 @@ pub fn close_casting<R: Threads + Sync, T: Turns>(
     requires valid { All (λ list. All (IsValid election.now) (ballots_of list.items)) lists.now }
     requires nothing { string_bytes reply.old ≡ [] }
     ensures election { IfOk result (λ store. store.election ≡ election.now) }
-    ensures closes { IfOk result (λ store. ClosesCasting election.now closed.ballots
-        (map (λ list. ballots_of list.items) lists.now)
+    ensures closes { IfOk result (λ store. Tells telling (ClosesCasting election.now closed.ballots
+        (map (λ list. ballots_of list.items) lists.now))
         (replies (string_bytes reply.new) (begun store.ballots))) }
 {
     let (after, finals) = play_casting(rt, alloc, closed, election, lists, turns)?;
-    push_all_replies(reply, &finals)?;
-    push_count(reply, "closed", after.len())?;
+    tell_closing(reply, telling, &finals, after.len())?;
     Ok(after)
 }
 
@@ -48,19 +49,19 @@ pub fn close_withdrawing<R: Threads + Sync, T: Turns>(
     election: &Election,
     lists: &[Vec<u64>],
     turns: &T,
+    telling: Telling,
     reply: &mut String,
 ) -> Result<Closed, Memory>
     requires own { election.now ≡ closed.election }
     requires lists { AreLists lists.now }
     requires nothing { string_bytes reply.old ≡ [] }
     ensures election { IfOk result (λ store. store.election ≡ election.now) }
-    ensures closes { IfOk result (λ store. ClosesWithdrawing closed.ballots
-        (map (λ list. list.items) lists.now)
+    ensures closes { IfOk result (λ store. Tells telling (ClosesWithdrawing closed.ballots
+        (map (λ list. list.items) lists.now))
         (replies (string_bytes reply.new) (begun store.ballots))) }
 {
     let (after, answers) = play_withdrawing(rt, alloc, closed, election, lists, turns)?;
-    push_all_replies(reply, &answers)?;
-    push_count(reply, "closed", after.len())?;
+    tell_closing(reply, telling, &answers, after.len())?;
     Ok(after)
 }
 
@@ -71,16 +72,16 @@ pub fn close_finding<R: Threads + Sync, T: Turns>(
     closed: &Closed,
     lists: &[Vec<u64>],
     turns: &T,
+    telling: Telling,
     reply: &mut String,
 ) -> Result<(), Memory>
     requires lists { AreLists lists.now }
     requires nothing { string_bytes reply.old ≡ [] }
-    ensures closes { IfOk result (λ _. ClosesFinding closed.now.ballots
-        (map (λ list. list.items) lists.now)
+    ensures closes { IfOk result (λ _. Tells telling (ClosesFinding closed.now.ballots
+        (map (λ list. list.items) lists.now))
         (replies (string_bytes reply.new) (begun closed.now.ballots))) }
 {
     let answers = play_finding(rt, alloc, closed, lists, turns)?;
-    push_all_replies(reply, &answers)?;
-    push_count(reply, "closed", closed.len())?;
+    tell_closing(reply, telling, &answers, closed.len())?;
     Ok(())
 }

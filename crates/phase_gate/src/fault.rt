@@ -1,6 +1,7 @@
 //! Why a session ended before its script.
 
 use outside_io::Memory;
+use tally_export::PutFault;
 
 /// Why a line was not handled to its end.
 #[derive(Clone, Copy, Debug, PartialEq, Eq)]
@@ -21,5 +22,19 @@ impl From<Memory> for SessionFault {
 
     fn from(_: Memory) -> Self {
         SessionFault::Memory
+    }
+}
+
+impl From<PutFault> for SessionFault {
+    ghost use Rattle.std.specs.Prelude.{◌≡◌};
+    ghost use Rattle.phase_gate.specs.Telling.{put_fault};
+
+    ghost from_gives = { λ why fault. fault ≡ put_fault why };
+
+    fn from(why: PutFault) -> Self {
+        match why {
+            PutFault::WriteFault => SessionFault::WriteFault,
+            PutFault::Memory => SessionFault::Memory,
+        }
     }
 }

@@ -31,21 +31,34 @@ pub struct Gate {
     ghost waiting: { MayWait election (phase_of work) },
 }
 
-/// What a line did: the session after it, and whether the set is to be acknowledged.
+/// What is left to do for a line.
+#[derive(Clone, Copy, Debug, PartialEq, Eq)]
+pub enum Task {
+    /// The reply that was put is to be told.
+    Nothing,
+    /// The set is to be acknowledged, and then the reply that was put is to be told.
+    Acknowledge,
+    /// The tally of the set is to be told.
+    Tally,
+    /// The export of the set is to be told.
+    Export,
+}
+
+/// What a line did: the session after it, and what is left to do.
 #[derive(Drop)]
 pub struct Answer {
     pub gate: Gate,
-    pub acknowledges: bool,
+    pub task: Task,
 }
 
 impl Answer {
-    /// The session after a line that acknowledges nothing.
+    /// The session after a line whose reply was put.
     pub fn of(gate: Gate) -> Answer
-        ensures { result ≡ record { gate = gate; acknowledges = false } }
+        ensures { result ≡ record { gate = gate; task = Task.Nothing } }
     {
         Answer {
             gate,
-            acknowledges: false,
+            task: Task::Nothing,
         }
     }
 }

@@ -7,13 +7,16 @@ mod gate;
 mod line;
 mod report;
 mod session;
+mod telling;
 mod text;
 mod work;
+mod writing;
 
 pub use fault::SessionFault;
 pub use gate::Phase;
 pub use report::Report;
 pub use session::Session;
+pub use telling::Telling;
 
 #[cfg(test)]
 mod tests;

@@ -2,6 +2,7 @@
 
 ghost use Rattle.std.specs.Prelude.{◌≡◌, ℕ, [], List, IfOk, Some, false, string_bytes};
 ghost use Rattle.phase_gate.specs.Gate.{effect_of, queued_effect, state_of, IsNamed};
+ghost use Rattle.phase_gate.specs.Telling.{HasNoEnd, Tells, as_told};
 ghost use Rattle.phase_gate.specs.Work.{CanWait, item_line, kind_of, phase_of};
 ghost use Rattle.script_lines.specs.Line.{script_line};
 ghost use Rattle.store_spec.specs.ScriptLine.{IsTab, Says};
@@ -9,8 +10,9 @@ ghost use Rattle.store_spec.specs.ScriptLine.{ScriptLine as said};
 ghost use Rattle.store_spec.specs.Session.{Answers, Does, refusal, stays, wrong_phase};
 
 use crate::closing::{close_casting, close_finding, close_withdrawing};
-use crate::gate::{Answer, Gate, Phase};
-use crate::text::{push_count, push_refusal};
+use crate::gate::{Answer, Gate, Phase, Task};
+use crate::telling::Telling;
+use crate::text::{push_count, tell_opening, tell_refusal};
 use crate::work::{Item, Kind, Queued, Work};
 use ballot_record::Election;
 use outside_io::{Memory, Turns};
@@ -39,16 +41,18 @@ impl Gate {
         line: &[u8],
         index: u64,
         turns: &T,
+        telling: Telling,
         reply: &mut String,
     ) -> Result<Answer, Memory>
         requires nothing { string_bytes reply.old ≡ [] }
-        ensures answers { IfOk result (λ answer. Answers self.election index (state_of self)
-            (Some line.now) (effect_of answer (string_bytes reply.new))) }
+        ensures answers { IfOk result (λ answer. Tells telling
+            (Answers self.election index (state_of self) (Some line.now))
+            (effect_of answer (string_bytes reply.new))) }
         ensures election { IfOk result (λ answer. answer.gate.election ≡ self.election) }
     {
         match read_script_line(line, &self.election) {
-            Some(said) => self.perform(rt, alloc, said, index, turns, reply),
-            None => self.refuse(index, "malformed", reply),
+            Some(said) => self.perform(rt, alloc, said, index, turns, telling, reply),
+            None => self.refuse(index, "malformed", telling, reply),
         }
     }
 
@@ -60,48 +64,76 @@ impl Gate {
         line: Line,
         index: u64,
         turns: &T,
+        telling: Telling,
         reply: &mut String,
     ) -> Result<Answer, Memory>
         requires said { (bytes : List ℕ) × Says self.election bytes (script_line line) }
         requires nothing { string_bytes reply.old ≡ [] }
-        ensures does { IfOk result (λ answer. Does self.election index (state_of self)
-            (script_line line) (phase_of self.work)
+        ensures does { IfOk result (λ answer. Tells telling
+            (Does self.election index (state_of self) (script_line line) (phase_of self.work))
             (effect_of answer (string_bytes reply.new))) }
         ensures election { IfOk result (λ answer. answer.gate.election ≡ self.election) }
     {
         match line {
-            Line::OpenCast { tabs } => self.open(alloc, Kind::Casting, tabs, index, reply),
-            Line::OpenWithdraw { tabs } => self.open(alloc, Kind::Withdrawing, tabs, index, reply),
-            Line::OpenFind { tabs } => self.open(alloc, Kind::Finding, tabs, index, reply),
-            Line::Cast { tab, ballot } => self.wait(tab, Item::Cast(ballot), index, reply),
-            Line::CastInvalid { .. } => self.cast_invalid(index, reply),
-            Line::Withdraw { tab, number } => self.wait(tab, Item::Withdraw(number), index, reply),
-            Line::Find { tab, number } => self.wait(tab, Item::Find(number), index, reply),
-            Line::Close => self.close(rt, alloc, index, turns, reply),
-            Line::Checkpoint => self.checkpoint(index, reply),
+            Line::OpenCast { tabs } => self.open(alloc, Kind::Casting, tabs, index, telling, reply),
+            Line::OpenWithdraw { tabs } => self.open(
+                alloc,
+                Kind::Withdrawing,
+                tabs,
+                index,
+                telling,
+                reply,
+            ),
+            Line::OpenFind { tabs } => self.open(alloc, Kind::Finding, tabs, index, telling, reply),
+            Line::Cast { tab, ballot } => self.wait(tab, Item::Cast(ballot), index, telling, reply),
+            Line::CastInvalid { .. } => self.cast_invalid(index, telling, reply),
+            Line::Withdraw { tab, number } => self.wait(
+                tab,
+                Item::Withdraw(number),
+                index,
+                telling,
+                reply,
+            ),
+            Line::Find { tab, number } => self.wait(tab, Item::Find(number), index, telling, reply),
+            Line::Close => self.close(rt, alloc, index, turns, telling, reply),
+            Line::Checkpoint => self.checkpoint(index, telling, reply),
+            Line::Tally => self.tally(index, telling, reply),
+            Line::Export => self.export(index, telling, reply),
         }
     }
 
     /// Does nothing, and says why.
-    fn refuse(self, index: u64, why: &str, reply: &mut String) -> Result<Answer, Memory>
+    fn refuse(
+        self,
+        index: u64,
+        why: &str,
+        telling: Telling,
+        reply: &mut String,
+    ) -> Result<Answer, Memory>
+        requires why { HasNoEnd why.now }
         requires nothing { string_bytes reply.old ≡ [] }
         ensures stays { IfOk result (λ answer. effect_of answer (string_bytes reply.new)
-            ≡ stays (state_of self) (refusal index why.now)) }
+            ≡ as_told telling (stays (state_of self) (refusal index why.now))) }
         ensures election { IfOk result (λ answer. answer.gate.election ≡ self.election) }
     {
-        push_refusal(reply, index, why)?;
+        tell_refusal(reply, telling, index, why)?;
         Ok(Answer::of(self))
     }
 
     /// Does nothing: the line does not belong to the phase.
-    fn refuse_phase(self, index: u64, reply: &mut String) -> Result<Answer, Memory>
+    fn refuse_phase(
+        self,
+        index: u64,
+        telling: Telling,
+        reply: &mut String,
+    ) -> Result<Answer, Memory>
         requires nothing { string_bytes reply.old ≡ [] }
         ensures stays { IfOk result (λ answer. effect_of answer (string_bytes reply.new)
-            ≡ stays (state_of self) (wrong_phase index (phase_of self.work))) }
+            ≡ as_told telling (stays (state_of self) (wrong_phase index (phase_of self.work)))) }
         ensures election { IfOk result (λ answer. answer.gate.election ≡ self.election) }
     {
         let why = self.work.refusal();
-        self.refuse(index, why, reply)
+        self.refuse(index, why, telling, reply)
     }
 
     /// Opens a phase for so many tabulators.
@@ -111,12 +143,13 @@ impl Gate {
         kind: Kind,
         tabs: u8,
         index: u64,
+        telling: Telling,
         reply: &mut String,
     ) -> Result<Answer, Memory>
         requires tabs { IsTab tabs }
         requires nothing { string_bytes reply.old ≡ [] }
-        ensures does { IfOk result (λ answer. Does self.election index (state_of self)
-            (said.Open (kind_of kind) tabs) (phase_of self.work)
+        ensures does { IfOk result (λ answer. Tells telling (Does self.election index
+            (state_of self) (said.Open (kind_of kind) tabs) (phase_of self.work))
             (effect_of answer (string_bytes reply.new))) }
         ensures election { IfOk result (λ answer. answer.gate.election ≡ self.election) }
     {
@@ -128,7 +161,7 @@ impl Gate {
         match work {
             Work::Closed => {
                 let work = Work::opened(alloc, kind, tabs)?;
-                push_count(reply, work.name(), usize::from(tabs))?;
+                tell_opening(reply, telling, kind, tabs)?;
                 Ok(Answer::of(Gate {
                     election,
                     closed,
@@ -140,31 +173,43 @@ impl Gate {
                 closed,
                 work,
             }
-            .refuse_phase(index, reply),
+            .refuse_phase(index, telling, reply),
         }
     }
 
     /// A line of a ballot that is not valid.
-    fn cast_invalid(self, index: u64, reply: &mut String) -> Result<Answer, Memory>
+    fn cast_invalid(
+        self,
+        index: u64,
+        telling: Telling,
+        reply: &mut String,
+    ) -> Result<Answer, Memory>
         requires nothing { string_bytes reply.old ≡ [] }
-        ensures does { (tab : ℕ) → IfOk result (λ answer. Does self.election index (state_of self)
-            (said.CastInvalid tab) (phase_of self.work)
+        ensures does { (tab : ℕ) → IfOk result (λ answer. Tells telling (Does self.election index
+            (state_of self) (said.CastInvalid tab) (phase_of self.work))
             (effect_of answer (string_bytes reply.new))) }
         ensures election { IfOk result (λ answer. answer.gate.election ≡ self.election) }
     {
         match self.phase() {
-            Phase::Casting => self.refuse(index, "invalid", reply),
-            _ => self.refuse_phase(index, reply),
+            Phase::Casting => self.refuse(index, "invalid", telling, reply),
+            _ => self.refuse_phase(index, telling, reply),
         }
     }
 
     /// An item is to be handled at the close of the phase.
-    fn wait(self, tab: u8, item: Item, index: u64, reply: &mut String) -> Result<Answer, Memory>
+    fn wait(
+        self,
+        tab: u8,
+        item: Item,
+        index: u64,
+        telling: Telling,
+        reply: &mut String,
+    ) -> Result<Answer, Memory>
         requires tab { IsTab tab }
         requires item { CanWait self.election item }
         requires nothing { string_bytes reply.old ≡ [] }
-        ensures does { IfOk result (λ answer. Does self.election index (state_of self)
-            (item_line tab item) (phase_of self.work)
+        ensures does { IfOk result (λ answer. Tells telling (Does self.election index
+            (state_of self) (item_line tab item) (phase_of self.work))
             (effect_of answer (string_bytes reply.new))) }
         ensures election { IfOk result (λ answer. answer.gate.election ≡ self.election) }
     {
@@ -179,20 +224,26 @@ impl Gate {
             closed,
             work,
         }
-        .queued(queued, index, reply)
+        .queued(queued, index, telling, reply)
     }
 
     /// Answers for an item: it waits, or there is no such list, or the phase is another.
-    fn queued(self, queued: Queued, index: u64, reply: &mut String) -> Result<Answer, Memory>
+    fn queued(
+        self,
+        queued: Queued,
+        index: u64,
+        telling: Telling,
+        reply: &mut String,
+    ) -> Result<Answer, Memory>
         requires nothing { string_bytes reply.old ≡ [] }
         ensures effect { IfOk result (λ answer. effect_of answer (string_bytes reply.new)
-            ≡ queued_effect index (state_of self) queued) }
+            ≡ as_told telling (queued_effect index (state_of self) queued)) }
         ensures election { IfOk result (λ answer. answer.gate.election ≡ self.election) }
     {
         match queued {
             Queued::Waits => Ok(Answer::of(self)),
-            Queued::NoList => self.refuse(index, "invalid", reply),
-            Queued::OtherPhase => self.refuse_phase(index, reply),
+            Queued::NoList => self.refuse(index, "invalid", telling, reply),
+            Queued::OtherPhase => self.refuse_phase(index, telling, reply),
         }
     }
 
@@ -203,11 +254,13 @@ impl Gate {
         alloc: Global,
         index: u64,
         turns: &T,
+        telling: Telling,
         reply: &mut String,
     ) -> Result<Answer, Memory>
         requires nothing { string_bytes reply.old ≡ [] }
-        ensures does { IfOk result (λ answer. Does self.election index (state_of self)
-            said.Close (phase_of self.work) (effect_of answer (string_bytes reply.new))) }
+        ensures does { IfOk result (λ answer. Tells telling (Does self.election index
+            (state_of self) said.Close (phase_of self.work))
+            (effect_of answer (string_bytes reply.new))) }
         ensures election { IfOk result (λ answer. answer.gate.election ≡ self.election) }
     {
         let Gate {
@@ -217,13 +270,13 @@ impl Gate {
         } = self;
         let closed = match work {
             Work::Casting(lists) => {
-                close_casting(rt, alloc, closed, &election, &lists, turns, reply)?
+                close_casting(rt, alloc, closed, &election, &lists, turns, telling, reply)?
             }
             Work::Withdrawing(lists) => {
-                close_withdrawing(rt, alloc, closed, &election, &lists, turns, reply)?
+                close_withdrawing(rt, alloc, closed, &election, &lists, turns, telling, reply)?
             }
             Work::Finding(lists) => {
-                close_finding(rt, alloc, &closed, &lists, turns, reply)?;
+                close_finding(rt, alloc, &closed, &lists, turns, telling, reply)?;
                 closed
             }
             Work::Closed => {
@@ -232,7 +285,7 @@ impl Gate {
                     closed,
                     work,
                 }
-                .refuse_phase(index, reply);
+                .refuse_phase(index, telling, reply);
             }
         };
         Ok(Answer::of(Gate {
@@ -243,10 +296,11 @@ impl Gate {
     }
 
     /// The set is to be acknowledged.
-    fn checkpoint(self, index: u64, reply: &mut String) -> Result<Answer, Memory>
+    fn checkpoint(self, index: u64, telling: Telling, reply: &mut String) -> Result<Answer, Memory>
         requires nothing { string_bytes reply.old ≡ [] }
-        ensures does { IfOk result (λ answer. Does self.election index (state_of self)
-            said.Checkpoint (phase_of self.work) (effect_of answer (string_bytes reply.new))) }
+        ensures does { IfOk result (λ answer. Tells telling (Does self.election index
+            (state_of self) said.Checkpoint (phase_of self.work))
+            (effect_of answer (string_bytes reply.new))) }
         ensures election { IfOk result (λ answer. answer.gate.election ≡ self.election) }
     {
         match self.phase() {
@@ -254,10 +308,47 @@ impl Gate {
                 push_count(reply, "checkpoint", self.closed.len())?;
                 Ok(Answer {
                     gate: self,
-                    acknowledges: true,
+                    task: Task::Acknowledge,
                 })
             }
-            _ => self.refuse_phase(index, reply),
+            _ => self.refuse_phase(index, telling, reply),
+        }
+    }
+
+    /// The tally of the set is to be told.
+    fn tally(self, index: u64, telling: Telling, reply: &mut String) -> Result<Answer, Memory>
+        requires nothing { string_bytes reply.old ≡ [] }
+        ensures does { IfOk result (λ answer. Tells telling (Does self.election index
+            (state_of self) said.Tally (phase_of self.work))
+            (effect_of answer (string_bytes reply.new))) }
+        ensures election { IfOk result (λ answer. answer.gate.election ≡ self.election) }
+    {
+        match self.phase() {
+            Phase::Closed => Ok(Answer {
+                gate: self,
+                task: Task::Tally,
+            }),
+            _ => self.refuse_phase(index, telling, reply),
+        }
+    }
+
+    /// The export of the set is to be told. A summary has none of its lines.
+    fn export(self, index: u64, telling: Telling, reply: &mut String) -> Result<Answer, Memory>
+        requires nothing { string_bytes reply.old ≡ [] }
+        ensures does { IfOk result (λ answer. Tells telling (Does self.election index
+            (state_of self) said.Export (phase_of self.work))
+            (effect_of answer (string_bytes reply.new))) }
+        ensures election { IfOk result (λ answer. answer.gate.election ≡ self.election) }
+    {
+        match self.phase() {
+            Phase::Closed => Ok(Answer {
+                gate: self,
+                task: match telling {
+                    Telling::All => Task::Export,
+                    Telling::Summary => Task::Nothing,
+                },
+            }),
+            _ => self.refuse_phase(index, telling, reply),
         }
     }
 }

@@ -3,19 +3,20 @@
 ghost use Rattle.std.specs.Prelude.{◌≡◌, ◌∷◌, [], List, IfErr, IfOk, OnErr, OnOk};
 ghost use Rattle.outside_io.specs.Outside.{output};
 ghost use Rattle.phase_gate.specs.Around.{around};
-ghost use Rattle.outside_io.specs.Stream.{TakesAll, TakesSome};
 ghost use Rattle.phase_gate.specs.Checkpointed.{Acknowledges, IsMediumNow, NotAcknowledged};
-ghost use Rattle.phase_gate.specs.Gate.{IsNamed};
+ghost use Rattle.phase_gate.specs.Gate.{IsNamed, acknowledged_at};
 ghost use Rattle.phase_gate.specs.LineEnds.{LastEnds, LineEnds, state_left};
+ghost use Rattle.phase_gate.specs.Telling.{told_by};
 ghost use Rattle.store_spec.specs.Ballot.{Ballot};
 ghost use Rattle.store_spec.specs.Disk.{disk_model};
-ghost use Rattle.store_spec.specs.Fault.{Rose};
 ghost use Rattle.store_spec.specs.Session.{begun};
 
 use crate::fault::SessionFault;
-use crate::gate::{Answer, Gate, Phase};
+use crate::gate::{Answer, Gate, Phase, Task};
 use crate::report::Report;
+use crate::telling::Telling;
 use crate::work::Work;
+use crate::writing::{tell, tell_task};
 use ballot_record::Election;
 use body_store::Closed;
 use checkpoint::checkpoint;
@@ -30,6 +31,7 @@ use std::thread::Threads;
 #[derive(Drop)]
 pub struct Session {
     gate: Gate,
+    telling: Telling,
     reply: String,
 }
 
@@ -44,11 +46,22 @@ impl Model for Session {
 }
 
 impl Session {
-    /// It begins closed, with the store that is held.
+    /// It begins closed, with the store that is held. It tells all of its replies.
     pub fn new(alloc: Global, closed: Closed, election: Election) -> Session
         requires own { election ≡ closed.election }
         ensures election { result.election ≡ election }
         ensures begun { result.state ≡ begun closed.ballots }
+        ensures telling { result.telling ≡ Telling.All }
+    {
+        Session::telling(alloc, closed, election, Telling::All)
+    }
+
+    /// The same, and this is what it tells of its replies.
+    pub fn telling(alloc: Global, closed: Closed, election: Election, telling: Telling) -> Session
+        requires own { election ≡ closed.election }
+        ensures election { result.election ≡ election }
+        ensures begun { result.state ≡ begun closed.ballots }
+        ensures telling { result.telling ≡ telling }
     {
         Session {
             gate: Gate {
@@ -56,6 +69,7 @@ impl Session {
                 closed,
                 work: Work::Closed,
             },
+            telling,
             reply: String::new(alloc),
         }
     }
@@ -68,7 +82,8 @@ impl Session {
     }
 
     /// Handles a line of its script, which has this number, counted from 1. Whoever has read the reply to a checkpoint
-    /// can rely on it: the medium is that of the set. A refusal gives the session up.
+    /// can rely on it: the medium is that of the set. A tally and an export go straight to the sink. A refusal gives
+    /// the session up.
     pub fn line<R: Threads + Sync, D: Disk, K: Sink, T: Turns>(
         self,
         rt: &R,
@@ -84,28 +99,67 @@ impl Session {
         requires medium { (set : List Ballot) × IsMediumNow
             (disk_model D.seen D.calls D.may_leave D.faults) self.election set disk.old }
         ensures ends { LineEnds (disk_model D.seen D.calls D.may_leave D.faults)
-            self.election index self.state line.now (state_left (λ session. session.state) result)
+            (told_by self.telling) self.election index self.state line.now
+            (state_left (λ session. session.state) result)
             (around (output K.taken K.faults out.old) disk.old report.old)
             (around (output K.taken K.faults out.new) disk.new report.new) }
         ensures election { IfOk result (λ session. session.election ≡ self.election) }
+        ensures telling { IfOk result (λ session. session.telling ≡ self.telling) }
     {
-        let Session { gate, mut reply } = self;
+        let Session {
+            gate,
+            telling,
+            mut reply,
+        } = self;
         reply.clear();
-        let Answer { gate, acknowledges } = gate.answer(rt, alloc, line, index, turns, &mut reply)?;
-        if acknowledges {
-            acknowledge(&gate, disk, scratch, report)?;
-        }
+        let Answer { gate, task } = gate.answer(
+            rt, alloc, line, index, turns, telling, &mut reply,
+        )?;
+        prepare(task, &gate, disk, scratch, report)?;
         report.held = gate.closed.len() as u32;
-        tell(&reply, out)?;
-        Ok(Session { gate, reply })
+        tell_task(alloc, task, &gate, &reply, out)?;
+        Ok(Session {
+            gate,
+            telling,
+            reply,
+        })
     }
 
-    /// The script has ended: a phase that is still open is dropped.
+    /// The script has ended: a phase that is still open is dropped. A summary does not tell it.
     pub fn end<K: Sink>(self, out: &mut K) -> Result<(), SessionFault>
-        ensures { LastEnds self.state.phase result
+        ensures { LastEnds (told_by self.telling) self.state.phase result
             (output K.taken K.faults out.old) (output K.taken K.faults out.new) }
     {
-        tell(self.gate.work.last_reply(), out)
+        match self.telling {
+            Telling::All => Ok(tell(self.gate.work.last_reply(), out)?),
+            Telling::Summary => Ok(()),
+        }
+    }
+}
+
+/// Does what comes before the telling of a line.
+fn prepare<D: Disk>(
+    task: Task,
+    gate: &Gate,
+    disk: &mut D,
+    scratch: &mut Scratch,
+    report: &mut Report,
+) -> Result<(), SessionFault>
+    requires medium { (set : List Ballot) × IsMediumNow
+        (disk_model D.seen D.calls D.may_leave D.faults) gate.now.election set disk.old }
+    ensures acknowledged { OnOk result (Acknowledges
+        (disk_model D.seen D.calls D.may_leave D.faults)
+        gate.now.election (acknowledged_at task gate.now.closed.ballots) disk.old disk.new
+        report.old.marks.items report.new.marks.items) }
+    ensures refused { IfErr result (λ fault. (task ≡ Task.Acknowledge) × NotAcknowledged
+        (disk_model D.seen D.calls D.may_leave D.faults)
+        gate.now.election gate.now.closed.ballots disk.old disk.new fault) }
+    ensures marks { OnErr result (report.new.marks.items ≡ report.old.marks.items) }
+    ensures held { report.new.held ≡ report.old.held }
+{
+    match task {
+        Task::Acknowledge => acknowledge(gate, disk, scratch, report),
+        _ => Ok(()),
     }
 }
 
@@ -136,19 +190,4 @@ fn acknowledge<D: Disk>(
     }
     report.marks.push_reserved(disk.calls());
     Ok(())
-}
-
-/// Writes a reply, where there is one.
-fn tell<K: Sink>(reply: &str, out: &mut K) -> Result<(), SessionFault>
-    ensures taken { OnOk result (TakesAll (K.taken out.old) reply.now (K.taken out.new)) }
-    ensures no_fault { OnOk result (K.faults out.new ≡ K.faults out.old) }
-    ensures some_taken { OnErr result (TakesSome (K.taken out.old) reply.now (K.taken out.new)) }
-    ensures fault { OnErr result (Rose (K.faults out.old) (K.faults out.new)) }
-    ensures why { IfErr result (λ fault. fault ≡ SessionFault.WriteFault) }
-{
-    if reply.is_empty() {
-        return Ok(());
-    }
-    out.write_all(reply.as_bytes())
-        .map_err(|_| SessionFault::WriteFault)
 }

@@ -1,6 +1,6 @@
 //! A phase, and what waits for its close.
 
-ghost use Rattle.std.specs.Prelude.{◌≡◌, ◌≤◌, ◌++◌, [], IfOk, codes, map, replicate};
+ghost use Rattle.std.specs.Prelude.{◌≡◌, ℕ, ◌≤◌, ◌++◌, [], IfOk, codes, map, replicate};
 ghost use Rattle.ballot_record.specs.Record as records;
 ghost use Rattle.phase_gate.specs.Work.{CastsInto, FindsInto, GoesInto, WaitsIn, WithdrawsInto, kind_of, phase_of};
 ghost use Rattle.store_spec.specs.Session.{last_reply, opened, phase_text};
@@ -48,6 +48,19 @@ pub enum Queued {
     OtherPhase,
 }
 
+impl Kind {
+    /// The name of its phase in replies.
+    pub fn name(self) -> &'static str
+        ensures { (tabs : ℕ) → result.now ≡ phase_text (opened (kind_of self) tabs) }
+    {
+        match self {
+            Kind::Casting => "casting",
+            Kind::Withdrawing => "withdrawing",
+            Kind::Finding => "finding",
+        }
+    }
+}
+
 impl Work {
     /// A phase for so many tabulators, in which nothing waits yet.
     pub fn opened(alloc: Global, kind: Kind, tabs: u8) -> Result<Work, Memory>
@@ -57,18 +70,6 @@ impl Work {
             Kind::Casting => Ok(Work::Casting(empty_lists(alloc, tabs)?)),
             Kind::Withdrawing => Ok(Work::Withdrawing(empty_lists(alloc, tabs)?)),
             Kind::Finding => Ok(Work::Finding(empty_lists(alloc, tabs)?)),
-        }
-    }
-
-    /// Its name in replies.
-    pub fn name(&self) -> &'static str
-        ensures { result.now ≡ phase_text (phase_of self.now) }
-    {
-        match self {
-            Work::Closed => "closed",
-            Work::Casting(_) => "casting",
-            Work::Withdrawing(_) => "withdrawing",
-            Work::Finding(_) => "finding",
         }
     }
 

@@ -9,7 +9,7 @@ use Rattle.script_lines.specs.Words.{IsItem, IsNoItem, IsNotUpTo, LacksWork}
 use Rattle.store_spec.specs.BallotLine.{IsRecordLine}
 use Rattle.store_spec.specs.Election.{Election}
 use Rattle.store_spec.specs.ScriptLine.{IsTab, Says, ScriptLine, Work, item_text, work_text}
-use Rattle.store_spec.specs.ScriptLine.ScriptLine.{Open, Cast, CastInvalid, Withdraw, Find, Close, Checkpoint}
+use Rattle.store_spec.specs.ScriptLine.ScriptLine.{Open, Cast, CastInvalid, Withdraw, Find, Close, Checkpoint, Tally, Export}
 use Rattle.store_spec.specs.ScriptLine.Work.{Casting, Withdrawing, Finding}
 
 -- some bytes name one work
@@ -37,6 +37,8 @@ item_front e bytes (Withdraw tab number) item says = (Withdrawing, tab, decimal 
 item_front e bytes (Find tab number) item says = (Finding, tab, decimal number, says.0, says.2)
 item_front e bytes Close item says = absurd item
 item_front e bytes Checkpoint item says = absurd item
+item_front e bytes Tally item says = absurd item
+item_front e bytes Export item says = absurd item
 
 -- with no work there is no line for a list
 pub no_work : (e : Election) (bytes : List ℕ) → LacksWork bytes → IsNoItem e bytes
@@ -59,6 +61,8 @@ no_record e bytes tab rest is_tab named none (Withdraw t n) item says = absurd (
 no_record e bytes tab rest is_tab named none (Find t n) item says = absurd (let same = (one_item Casting Finding tab t rest (decimal n) is_tab says.0 (sym named ∙ says.2)).0 in cc)
 no_record e bytes tab rest is_tab named none Close item says = item
 no_record e bytes tab rest is_tab named none Checkpoint item says = item
+no_record e bytes tab rest is_tab named none Tally item says = item
+no_record e bytes tab rest is_tab named none Export item says = item
 
 -- what is told of what is cast is told of the line
 pub cast_told : (e : Election) (bytes : List ℕ) (tab : ℕ) (rest : List ℕ) (read : Option Line) → IsTab tab → bytes ≡ item_text Casting tab rest
@@ -77,3 +81,5 @@ no_number e bytes w tab rest other is_tab named none (Find t n) item says =
     none n says.1.0 (omega (arith, says.1.1)) (one_item w Finding tab t rest (decimal n) is_tab says.0 (sym named ∙ says.2)).2
 no_number e bytes w tab rest other is_tab named none Close item says = item
 no_number e bytes w tab rest other is_tab named none Checkpoint item says = item
+no_number e bytes w tab rest other is_tab named none Tally item says = item
+no_number e bytes w tab rest other is_tab named none Export item says = item

@@ -1,3 +1,11 @@
+pub mod Ballots
 pub mod Decimals
 pub mod Forms
+pub mod GeneratedBallots
+pub mod Left
+pub mod LineEnds
 pub mod Meanings
+pub mod Numbers
+pub mod Places
+pub mod Saying
+pub mod Script

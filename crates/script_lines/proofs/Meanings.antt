@@ -7,7 +7,7 @@ use Rattle.script_lines.proofs.Forms.{one_item, one_work}
 use Rattle.store_spec.specs.BallotLine.{Spells}
 use Rattle.store_spec.specs.Election.{Election}
 use Rattle.store_spec.specs.ScriptLine.{IsTab, Says, ScriptLine, Work, item_text, open_text, work_text}
-use Rattle.store_spec.specs.ScriptLine.ScriptLine.{Open, Cast, CastInvalid, Withdraw, Find, Close, Checkpoint}
+use Rattle.store_spec.specs.ScriptLine.ScriptLine.{Open, Cast, CastInvalid, Withdraw, Find, Close, Checkpoint, Tally, Export}
 use Rattle.store_spec.specs.ScriptLine.Work.{Casting, Withdrawing, Finding}
 
 -- the fourth byte of a line, which tells its form
@@ -19,6 +19,8 @@ fourth (Withdraw tab number) = 104
 fourth (Find tab number) = 100
 fourth Close = 115
 fourth Checkpoint = 99
+fourth Tally = 108
+fourth Export = 111
 
 -- it stands in each line of the form
 fourth_byte : (e : Election) (bytes : List ℕ) (line : ScriptLine) → Says e bytes line → get_or bytes 3 0 ≡ fourth line
@@ -30,6 +32,8 @@ fourth_byte e bytes (Withdraw tab number) says = ap (λ l. get_or l 3 0) says.2
 fourth_byte e bytes (Find tab number) says = ap (λ l. get_or l 3 0) says.2
 fourth_byte e bytes Close says = ap (λ l. get_or l 3 0) says
 fourth_byte e bytes Checkpoint says = ap (λ l. get_or l 3 0) says
+fourth_byte e bytes Tally says = ap (λ l. get_or l 3 0) says
+fourth_byte e bytes Export says = ap (λ l. get_or l 3 0) says
 
 -- some bytes open one phase
 one_opening : (v w : Work) (m n : ℕ) → IsTab m → IsTab n → open_text v m ≡ open_text w n → (v ≡ w) × (m ≡ n)
@@ -63,6 +67,8 @@ by_form e bytes (Find m a) (Find n b) form x y =
     cc
 by_form e bytes Close Close form x y = refl
 by_form e bytes Checkpoint Checkpoint form x y = refl
+by_form e bytes Tally Tally form x y = refl
+by_form e bytes Export Export form x y = refl
 by_form e bytes a b form x y = absurd (omega arith)
 
 -- a line says one thing
@@ -85,11 +91,11 @@ item_length w tab rest is_tab =
     omega (arith, length-append (work_text w) (32 ∷ (decimal tab ++ 32 ∷ rest)), length-append (decimal tab) (32 ∷ rest))
 
 -- a line for a list with a number is short
-number_length : (w : Work) (tab number : ℕ) (bytes : List ℕ) → IsTab tab → number < 2 ^ 64 → bytes ≡ item_text w tab (decimal number) → length bytes ≤ 8192
+number_length : (w : Work) (tab number : ℕ) (bytes : List ℕ) → IsTab tab → number < 2 ^ 64 → bytes ≡ item_text w tab (decimal number) → length bytes ≤ 1428
 number_length w tab number bytes is_tab small spelled = omega (arith, ap length spelled, item_length w tab (decimal number) is_tab, length-decimal-le 20 number (omega arith) (omega (arith, small)) small)
 
--- a line that says something is short
-pub short : (e : Election) (bytes : List ℕ) (line : ScriptLine) → Says e bytes line → length bytes ≤ 8192
+-- a line that says something is short: the longest one casts
+pub short : (e : Election) (bytes : List ℕ) (line : ScriptLine) → Says e bytes line → length bytes ≤ 1428
 short e bytes (Open w tabs) says =
     let digits = length-decimal-le 2 tabs (omega arith) (omega (arith, says.0.1)) (omega (arith, says.0.1)) in
     omega (arith, ap length says.1, work_length w, length-append (work_text w) (32 ∷ decimal tabs))
@@ -99,3 +105,5 @@ short e bytes (Withdraw tab number) says = number_length Withdrawing tab number 
 short e bytes (Find tab number) says = number_length Finding tab number bytes says.0 says.1.1 says.2
 short e bytes Close says = omega (arith, ap length says)
 short e bytes Checkpoint says = omega (arith, ap length says)
+short e bytes Tally says = omega (arith, ap length says)
+short e bytes Export says = omega (arith, ap length says)

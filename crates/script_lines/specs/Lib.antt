@@ -1,2 +1,5 @@
+pub mod Generated
 pub mod Line
+pub mod Parts
+pub mod Script
 pub mod Words

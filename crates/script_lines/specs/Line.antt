@@ -3,7 +3,7 @@ use Rattle.ballot_record.specs.Record.{ballot}
 use Rattle.script_lines.specs.declared.line.Line.{Line}
 use Rattle.script_lines.specs.declared.line.Line.TheVariants as lines
 use Rattle.store_spec.specs.ScriptLine.{ScriptLine}
-use Rattle.store_spec.specs.ScriptLine.ScriptLine.{Open, Cast, CastInvalid, Withdraw, Find, Close, Checkpoint}
+use Rattle.store_spec.specs.ScriptLine.ScriptLine.{Open, Cast, CastInvalid, Withdraw, Find, Close, Checkpoint, Tally, Export}
 use Rattle.store_spec.specs.ScriptLine.Work.{Casting, Withdrawing, Finding}
 
 abbrev pub script_line : Line → ScriptLine
@@ -16,3 +16,5 @@ script_line (lines.Withdraw tab number) = Withdraw tab number
 script_line (lines.Find tab number) = Find tab number
 script_line lines.Close = Close
 script_line lines.Checkpoint = Checkpoint
+script_line lines.Tally = Tally
+script_line lines.Export = Export

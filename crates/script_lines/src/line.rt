@@ -21,4 +21,8 @@ pub enum Line {
     Close,
     /// What is held goes to the medium.
     Checkpoint,
+    /// What is held is counted.
+    Tally,
+    /// The ballots that are held are written.
+    Export,
 }

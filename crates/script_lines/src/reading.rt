@@ -67,6 +67,12 @@ pub fn read_script_line(line: &[u8], election: &Election) -> Option<Line>
     if line == b"checkpoint".as_slice() {
         return Some(Line::Checkpoint);
     }
+    if line == b"tally".as_slice() {
+        return Some(Line::Tally);
+    }
+    if line == b"export".as_slice() {
+        return Some(Line::Export);
+    }
     if let Some(opening) = read_open(line) {
         return Some(opening);
     }

@@ -1,3 +1,5 @@
+mod generated;
+
 use super::*;
 use ballot_record::{Election, Record};
 
@@ -25,6 +27,8 @@ fn lines_that_open_and_close(rt: HostRuntime) {
         ("open find 10", Line::OpenFind { tabs: 10 }),
         ("close", Line::Close),
         ("checkpoint", Line::Checkpoint),
+        ("tally", Line::Tally),
+        ("export", Line::Export),
     ];
     for (line, said) in lines.iter() {
         assert_eq!(rt; read(line), Some(*said));
@@ -96,8 +100,9 @@ withdraw 65 9
 find 1 18446744073709551616
 find 1 -1
 find 9
-tally
-export
+Tally
+export 1
+exported
 9 1 1/-";
 
 #[test]
@@ -113,6 +118,7 @@ fn malformed_lines(rt: HostRuntime) {
         "close ",
         "close\r",
         "checkpoint ",
+        "tally ",
         "cast 1 ",
         "cast 1 9 1 1/- ",
     ] {

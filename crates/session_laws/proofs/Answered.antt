@@ -5,7 +5,7 @@ use Rattle.std.specs.List.{list_any}
 use Rattle.store_spec.specs.Ballot.{Ballot, numbers_of}
 use Rattle.store_spec.specs.Election.{Election}
 use Rattle.store_spec.specs.ScriptLine.{ScriptLine}
-use Rattle.store_spec.specs.ScriptLine.ScriptLine.{Open, Cast, CastInvalid, Close, Checkpoint, Find, Withdraw}
+use Rattle.store_spec.specs.ScriptLine.ScriptLine.{Open, Cast, CastInvalid, Close, Checkpoint, Export, Find, Tally, Withdraw}
 use Rattle.store_spec.specs.Session.{Answers, ClosesWithdrawing, Does, Effect, Phase, Plays, State, ballots_without, cast_text, closing, in_phase, withdraw_text}
 use Rattle.store_spec.specs.Session.Phase.{Casts, Closed, Finds, Withdraws}
 use Rattle.store_spec.specs.WithdrawPhase.{WithdrawOutcome, listed, without}
@@ -53,6 +53,10 @@ does_some e n Closed set (Open work tabs) is = (_, refl)
 does_some e n phase set (Open work tabs) is = (_, refl)
 does_some e n Closed set Checkpoint is = (_, refl)
 does_some e n phase set Checkpoint is = (_, refl)
+does_some e n Closed set Tally is = (_, refl)
+does_some e n phase set Tally is = (_, refl)
+does_some e n Closed set Export is = (_, refl)
+does_some e n phase set Export is = (_, refl)
 does_some e n (Casts lists) set (Cast tab b) is = (_, refl)
 does_some e n phase set (Cast tab b) is = (_, refl)
 does_some e n (Casts lists) set (CastInvalid tab) is = (_, refl)

@@ -17,7 +17,7 @@ pub empty_is_set : IsBallotSet example []
 empty_is_set = record { valid = All-from_recursion (IsValid example) [] tt; ascending = pairs (λ (a b : Ballot). a.number < b.number) [] tt }
 
 -- valid ballots, each with a greater number than the one before it
-rising_is_set : (b : Ballot) (ballots : List Ballot) → AllByRecursion (IsValid example) (b ∷ ballots) → Chain (λ (a b : Ballot). a.number < b.number) b ballots → IsBallotSet example (b ∷ ballots)
+pub rising_is_set : (b : Ballot) (ballots : List Ballot) → AllByRecursion (IsValid example) (b ∷ ballots) → Chain (λ (a b : Ballot). a.number < b.number) b ballots → IsBallotSet example (b ∷ ballots)
 rising_is_set b ballots valid rising = record {
   valid = All-from_recursion (IsValid example) (b ∷ ballots) valid;
   ascending = chain_pairs (λ (a b : Ballot). a.number < b.number) (λ a b c less more. omega arith) b ballots rising;

@@ -10,7 +10,7 @@ use Rattle.std.proofs.lemmas.List.Sums.{count_by-le-length, length-filter}
 use Rattle.store_spec.specs.Ballot.{Ballot, IsBallotSet, IsValid, IsWithinLimit}
 use Rattle.store_spec.specs.Election.{Election}
 use Rattle.store_spec.specs.ScriptLine.{Says, ScriptLine, Work}
-use Rattle.store_spec.specs.ScriptLine.ScriptLine.{Open, Cast, CastInvalid, Close, Checkpoint, Find, Withdraw}
+use Rattle.store_spec.specs.ScriptLine.ScriptLine.{Open, Cast, CastInvalid, Close, Checkpoint, Export, Find, Tally, Withdraw}
 use Rattle.store_spec.specs.ScriptLine.Work.{Casting, Withdrawing, Finding}
 use Rattle.store_spec.specs.Session.{Answers, Does, Effect, Phase, Plays, State, ballots_without, begun, in_phase, opened, queued, queues, refusal, replies, stays}
 use Rattle.store_spec.specs.Session.Phase.{Casts, Closed, Finds, Withdraws}
@@ -76,6 +76,8 @@ casts_valid e bytes (Withdraw tab number) says = tt
 casts_valid e bytes (Find tab number) says = tt
 casts_valid e bytes Close says = tt
 casts_valid e bytes Checkpoint says = tt
+casts_valid e bytes Tally says = tt
+casts_valid e bytes Export says = tt
 
 -- a line of each form keeps such a state, in each phase
 does_kept : (e : Election) (n : ℕ) (phase : Phase) (set : List Ballot) (line : ScriptLine) (effect : Effect) → IsSessionState e (in_phase phase set) → CastsValid e line → Does e n (in_phase phase set) line phase effect → IsSessionState e effect.next
@@ -83,6 +85,10 @@ does_kept e n Closed set (Open work tabs) effect is valid does = from_is e effec
 does_kept e n phase set (Open work tabs) effect is valid does = from_is e effect _ does is
 does_kept e n Closed set Checkpoint effect is valid does = from_is e effect _ does is
 does_kept e n phase set Checkpoint effect is valid does = from_is e effect _ does is
+does_kept e n Closed set Tally effect is valid does = from_is e effect _ does is
+does_kept e n phase set Tally effect is valid does = from_is e effect _ does is
+does_kept e n Closed set Export effect is valid does = from_is e effect _ does is
+does_kept e n phase set Export effect is valid does = from_is e effect _ does is
 does_kept e n (Casts lists) set (Cast tab b) effect is valid does = from_is e effect _ does (queues_kept e n (in_phase (Casts lists) set) Casts lists tab b is (queued_valid e lists tab b is.waiting valid))
 does_kept e n phase set (Cast tab b) effect is valid does = from_is e effect _ does is
 does_kept e n (Casts lists) set (CastInvalid tab) effect is valid does = from_is e effect _ does is

@@ -15,7 +15,7 @@ use Rattle.store_spec.specs.Ballot.{Ballot, IsValid}
 use Rattle.store_spec.specs.BallotLine.{IsLineOf, IsRecordLine, RecordLine, ballot_of_line}
 use Rattle.store_spec.specs.Election.{Election}
 use Rattle.store_spec.specs.ScriptLine.{IsMalformed, IsNumber, IsTab, Says, ScriptLine, Work, item_text, open_text, work_text}
-use Rattle.store_spec.specs.ScriptLine.ScriptLine.{Open, Cast, CastInvalid, Withdraw, Find, Close, Checkpoint}
+use Rattle.store_spec.specs.ScriptLine.ScriptLine.{Open, Cast, CastInvalid, Withdraw, Find, Close, Checkpoint, Tally, Export}
 use Rattle.store_spec.specs.ScriptLine.Work.{Casting, Withdrawing, Finding}
 
 -- ---- parts of a line
@@ -143,18 +143,43 @@ cast_or_not e bytes =
 
 -- ---- a line
 
+-- a line is none of the four words
+record SaysNoWord (bytes : List ℕ) : Type 0 where
+  close : bytes ≢ codes "close"
+  checkpoint : bytes ≢ codes "checkpoint"
+  tally : bytes ≢ codes "tally"
+  export : bytes ≢ codes "export"
+
+-- a line is one of the four words, or none
+word_or_not : (e : Election) (bytes : List ℕ) → ((line : ScriptLine) × Says e bytes line) ⊎ SaysNoWord bytes
+word_or_not e bytes =
+    elim (same_or_not bytes (codes "close")) [
+      | inl close ↦ inl (Close, close)
+      | inr no_close ↦ elim (same_or_not bytes (codes "checkpoint")) [
+        | inl checkpoint ↦ inl (Checkpoint, checkpoint)
+        | inr no_checkpoint ↦ elim (same_or_not bytes (codes "tally")) [
+          | inl tally ↦ inl (Tally, tally)
+          | inr no_tally ↦ elim (same_or_not bytes (codes "export")) [
+            | inl export ↦ inl (Export, export)
+            | inr no_export ↦ inr (record { close = no_close; checkpoint = no_checkpoint; tally = no_tally; export = no_export })
+          ]
+        ]
+      ]
+    ]
+
 -- what is left where the bytes are of no form
-malformed : (e : Election) (bytes : List ℕ) → bytes ≢ codes "close" → bytes ≢ codes "checkpoint"
-    → ((w : Work) (tabs : ℕ) → IsTab tabs → bytes ≢ open_text w tabs) → SaysNoCast e bytes
+malformed : (e : Election) (bytes : List ℕ) → SaysNoWord bytes → ((w : Work) (tabs : ℕ) → IsTab tabs → bytes ≢ open_text w tabs) → SaysNoCast e bytes
     → ((tab number : ℕ) → IsTab tab → IsNumber number → bytes ≢ item_text Withdrawing tab (decimal number))
     → ((tab number : ℕ) → IsTab tab → IsNumber number → bytes ≢ item_text Finding tab (decimal number)) → IsMalformed e bytes
-malformed e bytes close checkpoint opening cast withdraw find (Open w tabs) says = opening w tabs says.0 says.1
-malformed e bytes close checkpoint opening cast withdraw find (Cast tab b) says = cast.valid tab b says
-malformed e bytes close checkpoint opening cast withdraw find (CastInvalid tab) says = cast.invalid tab says
-malformed e bytes close checkpoint opening cast withdraw find (Withdraw tab number) says = withdraw tab number says.0 says.1 says.2
-malformed e bytes close checkpoint opening cast withdraw find (Find tab number) says = find tab number says.0 says.1 says.2
-malformed e bytes close checkpoint opening cast withdraw find Close says = close says
-malformed e bytes close checkpoint opening cast withdraw find Checkpoint says = checkpoint says
+malformed e bytes word opening cast withdraw find (Open w tabs) says = opening w tabs says.0 says.1
+malformed e bytes word opening cast withdraw find (Cast tab b) says = cast.valid tab b says
+malformed e bytes word opening cast withdraw find (CastInvalid tab) says = cast.invalid tab says
+malformed e bytes word opening cast withdraw find (Withdraw tab number) says = withdraw tab number says.0 says.1 says.2
+malformed e bytes word opening cast withdraw find (Find tab number) says = find tab number says.0 says.1 says.2
+malformed e bytes word opening cast withdraw find Close says = word.close says
+malformed e bytes word opening cast withdraw find Checkpoint says = word.checkpoint says
+malformed e bytes word opening cast withdraw find Tally says = word.tally says
+malformed e bytes word opening cast withdraw find Export says = word.export says
 
 -- an opening of one of the three phases, or none
 any_opening_or_not : (e : Election) (bytes : List ℕ) → ((line : ScriptLine) × Says e bytes line) ⊎ ((w : Work) (tabs : ℕ) → IsTab tabs → bytes ≢ open_text w tabs)
@@ -173,20 +198,17 @@ any_opening_or_not e bytes =
 -- bytes say something, or are malformed
 pub meant_or_malformed : (e : Election) (bytes : List ℕ) → ((line : ScriptLine) × Says e bytes line) ⊎ IsMalformed e bytes
 meant_or_malformed e bytes =
-    elim (same_or_not bytes (codes "close")) [
-      | inl close ↦ inl (Close, close)
-      | inr no_close ↦ elim (same_or_not bytes (codes "checkpoint")) [
-        | inl checkpoint ↦ inl (Checkpoint, checkpoint)
-        | inr no_checkpoint ↦ elim (any_opening_or_not e bytes) [
+    elim (word_or_not e bytes) [
+      | inl one ↦ inl one
+      | inr no_word ↦ elim (any_opening_or_not e bytes) [
+        | inl one ↦ inl one
+        | inr no_opening ↦ elim (cast_or_not e bytes) [
           | inl one ↦ inl one
-          | inr no_opening ↦ elim (cast_or_not e bytes) [
-            | inl one ↦ inl one
-            | inr no_cast ↦ elim (numbered_or_not Withdrawing bytes) [
-              | inl one ↦ inl (Withdraw one.0 one.1, (one.2, one.3, one.4))
-              | inr no_withdraw ↦ elim (numbered_or_not Finding bytes) [
-                | inl one ↦ inl (Find one.0 one.1, (one.2, one.3, one.4))
-                | inr no_find ↦ inr (malformed e bytes no_close no_checkpoint no_opening no_cast no_withdraw no_find)
-              ]
+          | inr no_cast ↦ elim (numbered_or_not Withdrawing bytes) [
+            | inl one ↦ inl (Withdraw one.0 one.1, (one.2, one.3, one.4))
+            | inr no_withdraw ↦ elim (numbered_or_not Finding bytes) [
+              | inl one ↦ inl (Find one.0 one.1, (one.2, one.3, one.4))
+              | inr no_find ↦ inr (malformed e bytes no_word no_opening no_cast no_withdraw no_find)
             ]
           ]
         ]

@@ -3,7 +3,7 @@ use Rattle.std.proofs.Common.{◌≡◌, ℕ, List, Option, Some, None, codes, i
 use Rattle.script_lines.proofs.Meanings.{one_meaning}
 use Rattle.store_spec.specs.Election.{Election}
 use Rattle.store_spec.specs.ScriptLine.{Says, ScriptLine}
-use Rattle.store_spec.specs.ScriptLine.ScriptLine.{Open, Cast, CastInvalid, Close, Checkpoint, Find, Withdraw}
+use Rattle.store_spec.specs.ScriptLine.ScriptLine.{Open, Cast, CastInvalid, Close, Checkpoint, Export, Find, Tally, Withdraw}
 use Rattle.store_spec.specs.Session.{Answers, Does, Effect, Phase, State}
 use Rattle.store_spec.specs.Session.Phase.{Casts, Closed, Finds, Withdraws}
 use Rattle.session_laws.specs.SessionStates.{LeavesChoice}
@@ -15,6 +15,10 @@ no_choice e n s (Open work tabs) Closed a b x y none = x ∙ sym y
 no_choice e n s (Open work tabs) phase a b x y none = x ∙ sym y
 no_choice e n s Checkpoint Closed a b x y none = x ∙ sym y
 no_choice e n s Checkpoint phase a b x y none = x ∙ sym y
+no_choice e n s Tally Closed a b x y none = x ∙ sym y
+no_choice e n s Tally phase a b x y none = x ∙ sym y
+no_choice e n s Export Closed a b x y none = x ∙ sym y
+no_choice e n s Export phase a b x y none = x ∙ sym y
 no_choice e n s (Cast tab ballot) (Casts lists) a b x y none = x ∙ sym y
 no_choice e n s (Cast tab ballot) phase a b x y none = x ∙ sym y
 no_choice e n s (CastInvalid tab) (Casts lists) a b x y none = x ∙ sym y

@@ -19,11 +19,11 @@ use Rattle.session_laws.proofs.Lists.{Contains-map, nothing_in}
 -- ---- the lines of all lists as one list
 
 -- the lines of all lists, list by list
-abbrev joined : List (List CastLine) → List CastLine
+abbrev pub joined : List (List CastLine) → List CastLine
 joined lists = flat_map (λ lines. lines) lists
 
 -- a line's ballot is accepted
-abbrev accepts : CastLine → Bool
+abbrev pub accepts : CastLine → Bool
 accepts l = is_accepted l.reply
 
 -- a line's ballot is not accepted
@@ -31,19 +31,19 @@ abbrev refuses : CastLine → Bool
 refuses l = not (is_accepted l.reply)
 
 -- their ballots
-ballots_in-joined : (lists : List (List CastLine)) → ballots_in lists ≡ map (λ l. l.ballot) (joined lists)
+pub ballots_in-joined : (lists : List (List CastLine)) → ballots_in lists ≡ map (λ l. l.ballot) (joined lists)
 ballots_in-joined [] = refl
 ballots_in-joined (lines ∷ lists) = ap (λ rest. map (λ l. l.ballot) lines ++ rest) (ballots_in-joined lists) ∙ sym (map-append (λ l. l.ballot) lines (joined lists))
 
 -- their ballots that are accepted
-accepted_in-joined : (lists : List (List CastLine)) → accepted_in lists ≡ map (λ l. l.ballot) (filter accepts (joined lists))
+pub accepted_in-joined : (lists : List (List CastLine)) → accepted_in lists ≡ map (λ l. l.ballot) (filter accepts (joined lists))
 accepted_in-joined [] = refl
 accepted_in-joined (lines ∷ lists) =
     ap (λ rest. map (λ l. l.ballot) (filter accepts lines) ++ rest) (accepted_in-joined lists)
     ∙ sym (ap (map (λ l. l.ballot)) (filter-append accepts lines (joined lists)) ∙ map-append (λ l. l.ballot) (filter accepts lines) (filter accepts (joined lists)))
 
 -- what holds of each line of each list
-all_joined : (P : CastLine → Type 0) (lists : List (List CastLine)) → All (All P) lists → All P (joined lists)
+pub all_joined : (P : CastLine → Type 0) (lists : List (List CastLine)) → All (All P) lists → All P (joined lists)
 all_joined P [] each = All-nil P
 all_joined P (lines ∷ lists) each = All-append P lines (joined lists) (All-head (All P) lines lists each) (all_joined P lists (All-tail (All P) lines lists each))
 

@@ -9,7 +9,7 @@ use Rattle.store_spec.specs.Ballot.{Ballot}
 use Rattle.store_spec.specs.BallotPhase.{CastLine, accepted_in}
 use Rattle.store_spec.specs.Election.{Election}
 use Rattle.store_spec.specs.ScriptLine.{ScriptLine}
-use Rattle.store_spec.specs.ScriptLine.ScriptLine.{Open, Cast, CastInvalid, Close, Checkpoint, Find, Withdraw}
+use Rattle.store_spec.specs.ScriptLine.ScriptLine.{Open, Cast, CastInvalid, Close, Checkpoint, Export, Find, Tally, Withdraw}
 use Rattle.store_spec.specs.Session.{Answers, ClosesCasting, ClosesWithdrawing, Does, Effect, Phase, Plays, State, ballots_without, begun}
 use Rattle.store_spec.specs.Session.Phase.{Casts, Closed, Finds, Withdraws}
 use Rattle.store_spec.specs.WithdrawPhase.{listed}
@@ -56,6 +56,8 @@ does_one e n s Close Closed a b x y same = no_choice e n s Close Closed a b x y 
 does_one e n s Close (Finds lists) a b x y same = no_choice e n s Close (Finds lists) a b x y (λ choice. choice.1)
 does_one e n s (Open work tabs) phase a b x y same = no_choice e n s (Open work tabs) phase a b x y (λ choice. absurd cc)
 does_one e n s Checkpoint phase a b x y same = no_choice e n s Checkpoint phase a b x y (λ choice. absurd cc)
+does_one e n s Tally phase a b x y same = no_choice e n s Tally phase a b x y (λ choice. absurd cc)
+does_one e n s Export phase a b x y same = no_choice e n s Export phase a b x y (λ choice. absurd cc)
 does_one e n s (Cast tab ballot) phase a b x y same = no_choice e n s (Cast tab ballot) phase a b x y (λ choice. absurd cc)
 does_one e n s (CastInvalid tab) phase a b x y same = no_choice e n s (CastInvalid tab) phase a b x y (λ choice. absurd cc)
 does_one e n s (Withdraw tab number) phase a b x y same = no_choice e n s (Withdraw tab number) phase a b x y (λ choice. absurd cc)

@@ -5,25 +5,26 @@ use Rattle.std.specs.Fmt.{decimal}
 use Rattle.script_lines.proofs.Meanings.{one_meaning}
 use Rattle.store_spec.specs.Ballot.{Ballot, numbers_of}
 use Rattle.store_spec.specs.BallotLine.{Spells}
-use Rattle.store_spec.specs.Election.{example}
+use Rattle.store_spec.specs.Election.{Election, example}
+use Rattle.store_spec.specs.Report.{export_text, tally_text}
 use Rattle.store_spec.specs.ScriptLine.{IsMalformed, IsNumber, IsTab, Says, ScriptLine, Work, item_text, open_text}
 use Rattle.store_spec.specs.ScriptLine.Work.{Casting, Withdrawing, Finding}
-use Rattle.store_spec.specs.ScriptLine.ScriptLine.{Open, Cast, Close, Checkpoint, Withdraw, Find}
+use Rattle.store_spec.specs.ScriptLine.ScriptLine.{Open, Cast, Close, Checkpoint, Export, Tally, Withdraw, Find}
 use Rattle.store_spec.specs.Session.{Answers, ClosesCasting, ClosesWithdrawing, Does, Effect, State, begun, counted, in_phase, opened, phase_text, queues, refusal, replies, stays, wrong_phase}
 use Rattle.store_spec.specs.Session.Phase.{Casts, Closed, Withdraws, Finds}
 use Rattle.session_laws.proofs.Steps.{MayDo, Step}
 use Rattle.session_laws.proofs.Findings.{finding_closes, finding_effect, finding_only, findings}
 
 -- a line does what the form does that it is of
-pub does_as_said : (n : ℕ) (s : State) (bytes : List ℕ) (line : ScriptLine) → Says example bytes line → (effect : Effect) → Answers example n s (Some bytes) effect → Does example n s line s.phase effect
-does_as_said n s bytes line says effect (inl malformed) = absurd (malformed.0 line says)
-does_as_said n s bytes line says effect (inr other) = subst (λ (line : ScriptLine). Does example n s line s.phase effect) (one_meaning example bytes other.0 line other.1 says) other.2
+pub does_as_said : (e : Election) (n : ℕ) (s : State) (bytes : List ℕ) (line : ScriptLine) → Says e bytes line → (effect : Effect) → Answers e n s (Some bytes) effect → Does e n s line s.phase effect
+does_as_said e n s bytes line says effect (inl malformed) = absurd (malformed.0 line says)
+does_as_said e n s bytes line says effect (inr other) = subst (λ (line : ScriptLine). Does e n s line s.phase effect) (one_meaning e bytes other.0 line other.1 says) other.2
 
 -- so it is a step where the form does one thing
 said : {n : ℕ} {s : State} {bytes : List ℕ} {effect : Effect} (line : ScriptLine) → Says example bytes line → Does example n s line s.phase effect → ((other : Effect) → Does example n s line s.phase other → other ≡ effect) → Step n s bytes effect
 said {n = n} {s = s} {bytes = bytes} line says does only = record {
   may = record { answers = inr (line, says, does) };
-  only = λ other answers. only other (does_as_said n s bytes line says other answers);
+  only = λ other answers. only other (does_as_said example n s bytes line says other answers);
 }
 
 -- a phase is opened
@@ -81,6 +82,14 @@ closes_withdrawing so = said Close refl so.closes so.only
 -- the set is acknowledged
 pub acknowledges : {n : ℕ} {set : List Ballot} → Step n (begun set) (codes "checkpoint") (record { reply = counted (codes "checkpoint") (length set); acknowledged = set ∷ []; next = begun set })
 acknowledges = said Checkpoint refl refl (λ other does. does)
+
+-- the set is counted
+pub tallies : {n : ℕ} {set : List Ballot} → Step n (begun set) (codes "tally") (stays (begun set) (tally_text example set))
+tallies = said Tally refl refl (λ other does. does)
+
+-- its ballots are written
+pub exports : {n : ℕ} {set : List Ballot} → Step n (begun set) (codes "export") (stays (begun set) (export_text example set))
+exports = said Export refl refl (λ other does. does)
 
 -- ---- refused lines
 

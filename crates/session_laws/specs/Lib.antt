@@ -1,3 +1,5 @@
+pub mod LargeFigures
+pub mod LargeRun
 pub mod NewBallots
 pub mod SessionFigures
 pub mod SessionStates

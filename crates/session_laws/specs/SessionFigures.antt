@@ -3,6 +3,7 @@ use Rattle.std.specs.Prelude.{◌≡◌, ◌⊎◌, ℕ, List, [], ◌∷◌, �
 use Rattle.store_spec.specs.Ballot.{Ballot}
 use Rattle.store_spec.specs.Election.{example}
 use Rattle.store_spec.specs.Figures.{example_ballot}
+use Rattle.store_spec.specs.ReportFigures.{example_set}
 use Rattle.store_spec.specs.Session.{Effect, Plays, State, acknowledged_in, begun, last_reply, line_of, written}
 
 -- A script plays from one set to another: what is replied to it, line by line, and the sets that it acknowledges.
@@ -150,3 +151,15 @@ pub record DroppedPhase : Type 0 where
   pub replied : written effects ++ last_reply end.phase
       ≡ flat_map line_of (codes "casting 1" ∷ codes "dropped casting" ∷ [])
   pub set : end.set ≡ three
+
+-- ballots 1 and 2, of which the second marks more choices of contest 2 than it allows, are counted, and written
+pub record TalliedAndExported : Type 0 where
+  pub is : PlaysOnlySo example_set
+      (codes "tally" ∷ codes "export" ∷ [])
+      (codes "tally 2"
+      ∷ codes "contest 1 under 1 over 0"
+      ∷ codes "choice 1 1 0" ∷ codes "choice 1 2 1" ∷ codes "choice 1 3 0" ∷ codes "choice 1 4 0"
+      ∷ codes "contest 2 under 0 over 1"
+      ∷ codes "choice 2 1 1" ∷ codes "choice 2 2 0" ∷ codes "choice 2 3 1"
+      ∷ codes "export 2" ∷ codes "1 1 2/1,3" ∷ codes "2 1 -/1,2,3" ∷ [])
+      [] example_set

@@ -1,5 +1,7 @@
 //! Laws of the session machine. Each function here states a law and does nothing.
 
+pub mod large;
+
 ghost use Rattle.session_laws.specs.NewBallots.{AreNew, ballots_in};
 ghost use Rattle.session_laws.specs.SessionStates.{IsSessionState, LeavesChoice};
 ghost use Rattle.std.specs.Prelude.{◌≡◌, ℕ, List, [], ◌∷◌, ◌++◌, Option, map, All, IsPermutation, codes};

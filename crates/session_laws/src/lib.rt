@@ -3,7 +3,8 @@
 
 pub mod laws;
 
-ghost use Rattle.session_laws.specs.SessionFigures.{CastAndWithdrawn, DroppedPhase, FullStore, GoneAndAbsent, OneAfterAnother, OneNumberTwice, RefusedLines, ThreeBallots, TwoScripts};
+ghost use Rattle.session_laws.specs.LargeFigures.{LargeSets, LargeSummaries};
+ghost use Rattle.session_laws.specs.SessionFigures.{CastAndWithdrawn, DroppedPhase, FullStore, GoneAndAbsent, OneAfterAnother, OneNumberTwice, RefusedLines, TalliedAndExported, ThreeBallots, TwoScripts};
 
 /// Two tabulators cast three ballots, and the set is acknowledged.
 pub fn three_ballots()
@@ -44,4 +45,15 @@ pub fn full_store()
 /// A script that ends while ballots wait for the close of their phase.
 pub fn dropped_phase()
     ensures { DroppedPhase }
+{}
+
+/// Two ballots that are held, counted, and written.
+pub fn tallied_and_exported()
+    ensures { TalliedAndExported }
+{}
+
+/// What large runs make of a set with room, and of a full one, and what is written of them.
+pub fn large_runs()
+    ensures sets { LargeSets }
+    ensures summaries { LargeSummaries }
 {}

@@ -39,7 +39,9 @@ always None = tt
 always (Some x) = tt
 
 -- the answer of a recovery that failed for this reason
-pub counts_of : {T : Type 0} {was now : ℕ} (why : RecoverFault) → CountsFaultIf (IsErrOf {T = T} (Err why) recover.DiskFault) was now → CountsFaultIf (why ≡ recover.DiskFault) was now
+pub counts_of : {T : Type 0} {was now : ℕ} (why : RecoverFault)
+    → CountsFaultIf (IsErrOf {T = T} (Err why) recover.DiskFault) was now
+    → CountsFaultIf (why ≡ recover.DiskFault) was now
 counts_of why fault = record {
   never_falls = fault.never_falls;
   steady = λ other. fault.steady (λ is. other (cc));
@@ -54,14 +56,18 @@ module _ {D : Type 0} (model : DiskModel D) (e : Election) where
       first_of (HoldsSet e image) set [] (one.images image (subst (λ t. model.may_leave disk t image) is left))
 
   -- a recovery loses nothing
-  pub recovered : (set : List Ballot) (before after : D) → ((bytes : List ℕ) → model.seen before ≡ Some bytes → SyncsFirst model.calls model.may_leave before after (HoldsTheSame e bytes)) → LosesNothing model e set before after [] [] []
+  pub recovered : (set : List Ballot) (before after : D)
+      → ((bytes : List ℕ) → model.seen before ≡ Some bytes → SyncsFirst model.calls model.may_leave before after
+      (HoldsTheSame e bytes)) → LosesNothing model e set before after [] [] []
   recovered set before after any_moment = λ one below m low high image left.
-      let run = syncs_first model.calls model.may_leave before after (λ c. HoldsSet e c set) (HoldsTheSame e one.bytes) one.images (λ c same. same (Some set) one.held) (any_moment one.bytes one.seen) in
+      let run = syncs_first model.calls model.may_leave before after (λ c. HoldsSet e c set)
+      (HoldsTheSame e one.bytes) one.images (λ c same. same (Some set) one.held) (any_moment one.bytes one.seen) in
       first_of (HoldsSet e image) set [] (run.each below m low high image left)
 
-  module _ {S K : Type 0} (script : Input S) (before : Around K D) (none_marked : before.marks ≡ []) (none_held : before.held ≡ 0) where
+  module _ {S K : Type 0} (tell : List ℕ → List ℕ) (script : Input S) (before : Around K D)
+      (none_marked : before.marks ≡ []) (none_held : before.held ≡ 0) where
     -- there was no memory before anything was done
-    pub no_memory : SessionEnds model e (Err (recover_fault recover.Memory)) script script before before
+    pub no_memory : SessionEnds model tell e (Err (recover_fault recover.Memory)) script script before before
     no_memory = inl (
       recover.Memory,
       refl,
@@ -83,9 +89,15 @@ module _ {D : Type 0} (model : DiskModel D) (e : Election) where
     )
 
     -- the medium was refused
-    pub refused : (why : RecoverFault) (after : D) → IfSome (model.seen before.disk) (λ bytes. IsRefusedMedium e bytes why) → IsUnchangedAt why (model.seen before.disk) (model.seen after) → is_some (model.seen after) ≡ is_some (model.seen before.disk)
-        → ((bytes : List ℕ) → model.seen before.disk ≡ Some bytes → SyncsFirst model.calls model.may_leave before.disk after (HoldsTheSame e bytes)) → CountsFaultIf (why ≡ recover.DiskFault) (model.faults before.disk) (model.faults after)
-        → SessionEnds model e (Err (recover_fault why)) script script before (record { sink = before.sink; disk = after; marks = before.marks; held = before.held })
+    pub refused : (why : RecoverFault) (after : D)
+        → IfSome (model.seen before.disk) (λ bytes. IsRefusedMedium e bytes why)
+        → IsUnchangedAt why (model.seen before.disk) (model.seen after)
+        → is_some (model.seen after) ≡ is_some (model.seen before.disk)
+        → ((bytes : List ℕ) → model.seen before.disk ≡ Some bytes → SyncsFirst model.calls model.may_leave before.disk
+        after (HoldsTheSame e bytes)) → CountsFaultIf (why ≡ recover.DiskFault) (model.faults before.disk)
+        (model.faults after)
+        → SessionEnds model tell e (Err (recover_fault why)) script script before
+        (record { sink = before.sink; disk = after; marks = before.marks; held = before.held })
     refused why after reason same told any_moment fault = inl (
       why,
       refl,
@@ -108,11 +120,16 @@ takes_none None = refl
 takes_none (Some x) = ap Some (sym (append-nil x))
 
 -- no line was handled yet
-pub begins : {K D : Type 0} (model : DiskModel D) (e : Election) (set : List Ballot) (state : State) (before : Around K D) (after : D) (held : ℕ)
-    → state ≡ begun set → before.marks ≡ [] → held ≡ length set → is_some (model.seen after) ≡ is_some (model.seen before.disk) → IsMediumNow model e set after → model.calls before.disk ≤ model.calls after → model.faults after ≡ model.faults before.disk
-    → ((bytes : List ℕ) → model.seen before.disk ≡ Some bytes → SyncsFirst model.calls model.may_leave before.disk after (HoldsTheSame e bytes))
-    → SoFar model e set [] state 0 before (record { sink = before.sink; disk = after; marks = before.marks; held = held })
-begins model e set state before after held is none count told medium later steady any_moment = record {
+pub begins : {K D : Type 0} (model : DiskModel D) (tell : List ℕ → List ℕ) (e : Election) (set : List Ballot)
+    (state : State) (before : Around K D) (after : D) (held : ℕ)
+    → state ≡ begun set → before.marks ≡ [] → held ≡ length set
+    → is_some (model.seen after) ≡ is_some (model.seen before.disk) → IsMediumNow model e set after
+    → model.calls before.disk ≤ model.calls after → model.faults after ≡ model.faults before.disk
+    → ((bytes : List ℕ) → model.seen before.disk ≡ Some bytes → SyncsFirst model.calls model.may_leave before.disk
+    after (HoldsTheSame e bytes))
+    → SoFar model tell e set [] state 0 before (record
+    { sink = before.sink; disk = after; marks = before.marks; held = held })
+begins model tell e set state before after held is none count told medium later steady any_moment = record {
   effects = [];
   plays = is;
   counted = refl;

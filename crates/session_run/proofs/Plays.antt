@@ -3,13 +3,20 @@ use Rattle.std.proofs.Common.{◌≡◌, ℕ, ◌+◌, List, [], ◌∷◌, ◌+
 use Rattle.store_spec.specs.Election.{Election}
 use Rattle.store_spec.specs.Session.{Answers, Effect, Plays, State}
 
-pub one_more : (e : Election) (n : ℕ) (s : State) (lines : List (Option (List ℕ))) (effects : List Effect) (state : State) (line : Option (List ℕ)) (effect : Effect)
-    → Plays e n s lines effects state → Answers e (n + length lines) state line effect → Plays e n s (lines ++ line ∷ []) (effects ++ effect ∷ []) effect.next
+pub one_more : (e : Election) (n : ℕ) (s : State) (lines : List (Option (List ℕ))) (effects : List Effect)
+    (state : State) (line : Option (List ℕ)) (effect : Effect)
+    → Plays e n s lines effects state → Answers e (n + length lines) state line effect
+    → Plays e n s (lines ++ line ∷ []) (effects ++ effect ∷ []) effect.next
 one_more e n s [] [] state line effect plays answers =
-    let is : n + 0 ≡ n = omega arith in
-    (subst (λ (t : State). Answers e n t line effect) plays (subst (λ m. Answers e m state line effect) is answers), refl)
+    let is : n + 0 ≡ n = omega arith in (
+      subst (λ (t : State). Answers e n t line effect) plays (subst (λ m. Answers e m state line effect) is answers),
+      refl,
+    )
 one_more e n s [] (x ∷ effects) state line effect plays answers = absurd plays
 one_more e n s (l ∷ lines) [] state line effect plays answers = absurd plays
 one_more e n s (l ∷ lines) (x ∷ effects) state line effect plays answers =
-    let is : n + length (l ∷ lines) ≡ n + 1 + length lines = omega arith in
-    (plays.0, one_more e (n + 1) x.next lines effects state line effect plays.1 (subst (λ m. Answers e m state line effect) is answers))
+    let is : n + length (l ∷ lines) ≡ n + 1 + length lines = omega arith in (
+      plays.0,
+      one_more e (n + 1) x.next lines effects state line effect plays.1
+          (subst (λ m. Answers e m state line effect) is answers),
+    )

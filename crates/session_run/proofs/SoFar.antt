@@ -8,29 +8,32 @@ use Rattle.phase_gate.specs.Around.{Around}
 use Rattle.phase_gate.specs.LineEnds.{IsHandled}
 use Rattle.session_run.proofs.Acknowledging.{acknowledged_then}
 use Rattle.session_run.proofs.Plays.{one_more}
-use Rattle.session_run.specs.History.{Acknowledged}
+use Rattle.session_run.specs.History.{Acknowledged, written_by}
 use Rattle.store_spec.specs.Ballot.{Ballot}
 use Rattle.store_spec.specs.Disk.{DiskModel}
 use Rattle.store_spec.specs.Election.{Election, IsElection}
 use Rattle.store_spec.specs.ScriptLine.{Says, ScriptLine}
-use Rattle.store_spec.specs.ScriptLine.ScriptLine.{Open, Cast, CastInvalid, Withdraw, Find, Close, Checkpoint}
+use Rattle.store_spec.specs.ScriptLine.ScriptLine.{Open, Cast, CastInvalid, Withdraw, Find, Close, Checkpoint, Tally, Export}
 use Rattle.store_spec.specs.ScriptLine.Work.{Casting, Withdrawing, Finding}
-use Rattle.store_spec.specs.Session.{Answers, Effect, Plays, State, acknowledged_in, begun, written}
+use Rattle.store_spec.specs.Session.{Answers, Effect, Plays, State, acknowledged_in, begun}
 
 -- these lines were handled, one after another, and their replies written
-pub record SoFar {K D : Type 0} (model : DiskModel D) (e : Election) (set : List Ballot) (lines : List (Option (List ℕ))) (state : State) (index : ℕ) (before now : Around K D) : Type 0 where
+pub record SoFar {K D : Type 0} (model : DiskModel D) (tell : List ℕ → List ℕ) (e : Election) (set : List Ballot)
+    (lines : List (Option (List ℕ))) (state : State) (index : ℕ) (before now : Around K D) : Type 0 where
   pub effects : List Effect
   pub plays : Plays e 1 (begun set) lines effects state
   pub counted : index ≡ length lines
-  pub taken : TakesAll before.sink.taken (written effects) now.sink.taken
+  pub taken : TakesAll before.sink.taken (written_by tell effects) now.sink.taken
   pub acknowledged : Acknowledged model e set (acknowledged_in effects) before.disk now.disk now.marks
   pub held : now.held ≡ length state.set
   pub no_fault : now.sink.faults ≡ before.sink.faults
 
 -- a sink that took some bytes and then others
-pub taken_then : (was mid now : Option (List ℕ)) (first second : List ℕ) → TakesAll was first mid → TakesAll mid second now → TakesAll was (first ++ second) now
+pub taken_then : (was mid now : Option (List ℕ)) (first second : List ℕ) → TakesAll was first mid
+    → TakesAll mid second now → TakesAll was (first ++ second) now
 taken_then None mid now first second a b = b ∙ ap (option_map (λ front. front ++ second)) a
-taken_then (Some x) mid now first second a b = b ∙ ap (option_map (λ front. front ++ second)) a ∙ ap Some (append_assoc x first second)
+taken_then (Some x) mid now first second a b =
+    b ∙ ap (option_map (λ front. front ++ second)) a ∙ ap Some (append_assoc x first second)
 
 -- no line is said by no bytes
 pub nothing_says : (e : Election) (line : ScriptLine) → Says e [] line → ⊥
@@ -43,39 +46,59 @@ nothing_says e (Withdraw tab number) says = cc
 nothing_says e (Find tab number) says = cc
 nothing_says e Close says = cc
 nothing_says e Checkpoint says = cc
+nothing_says e Tally says = cc
+nothing_says e Export says = cc
 
 -- a line that is too wide is answered as an empty one
-pub answers_wide : (e : Election) (n : ℕ) (s : State) (effect : Effect) → Answers e n s (Some []) effect → Answers e n s None effect
-answers_wide e n s effect answers = ⊎_elim (λ malformed. malformed.1) (λ says. absurd (nothing_says e says.0 says.1)) answers
+pub answers_wide : (e : Election) (n : ℕ) (s : State) (effect : Effect) → Answers e n s (Some []) effect
+    → Answers e n s None effect
+answers_wide e n s effect answers =
+    ⊎_elim (λ malformed. malformed.1) (λ says. absurd (nothing_says e says.0 says.1)) answers
 
 -- the line that was taken, and what was handed to the session for it
 pub data IsHanded : Option (List ℕ) → List ℕ → Type 0 where
   whole : (bytes : List ℕ) → IsHanded (Some bytes) bytes
   wide : IsHanded None []
 
-pub answers_handed : (e : Election) (n : ℕ) (s : State) (line : Option (List ℕ)) (bytes : List ℕ) (effect : Effect) → IsHanded line bytes → Answers e n s (Some bytes) effect → Answers e n s line effect
+pub answers_handed : (e : Election) (n : ℕ) (s : State) (line : Option (List ℕ)) (bytes : List ℕ) (effect : Effect)
+    → IsHanded line bytes → Answers e n s (Some bytes) effect → Answers e n s line effect
 answers_handed e n s _ _ effect (whole bytes) answers = answers
 answers_handed e n s _ _ effect wide answers = answers_wide e n s effect answers
 
 -- one line more
-pub handled_more : {K D : Type 0} (model : DiskModel D) (e : Election) (set : List Ballot) (lines : List (Option (List ℕ))) (state next : State) (index : ℕ) (before mid now : Around K D) (line : Option (List ℕ)) (bytes : List ℕ)
-    → IsElection e → IsHanded line bytes → SoFar model e set lines state index before mid → IsHandled model e (index + 1) state bytes next mid now → SoFar model e set (lines ++ line ∷ []) next (index + 1) before now
-handled_more model e set lines state next index before mid now line bytes election handed so_far did =
+pub handled_more : {K D : Type 0} (model : DiskModel D) (tell : List ℕ → List ℕ) (e : Election) (set : List Ballot)
+    (lines : List (Option (List ℕ))) (state next : State) (index : ℕ) (before mid now : Around K D)
+    (line : Option (List ℕ)) (bytes : List ℕ)
+    → IsElection e → IsHanded line bytes → SoFar model tell e set lines state index before mid
+    → IsHandled model tell e (index + 1) state bytes next mid now
+    → SoFar model tell e set (lines ++ line ∷ []) next (index + 1) before now
+handled_more model tell e set lines state next index before mid now line bytes election handed so_far did =
     let effect = did.effect in
     let is : index + 1 ≡ 1 + length lines = omega (arith, so_far.counted) in
-    let answers = subst (λ n. Answers e n state line effect) is (answers_handed e (index + 1) state line bytes effect handed did.answers) in
+    let answers = subst (λ n. Answers e n state line effect) is
+    (answers_handed e (index + 1) state line bytes effect handed did.answers) in
     record {
       effects = so_far.effects ++ effect ∷ [];
-      plays = subst (λ (s : State). Plays e 1 (begun set) (lines ++ line ∷ []) (so_far.effects ++ effect ∷ []) s) (sym did.next_state) (one_more e 1 (begun set) lines so_far.effects state line effect so_far.plays answers);
+      plays = subst (λ (s : State). Plays e 1 (begun set) (lines ++ line ∷ []) (so_far.effects ++ effect ∷ []) s)
+          (sym did.next_state) (one_more e 1 (begun set) lines so_far.effects state line effect so_far.plays answers);
       counted = omega (arith, so_far.counted, length-append lines (line ∷ []));
-      taken = subst (λ bytes. TakesAll before.sink.taken bytes now.sink.taken) (sym (written_more so_far.effects effect)) (taken_then before.sink.taken mid.sink.taken now.sink.taken (written so_far.effects) effect.reply so_far.taken did.taken);
-      acknowledged = subst (λ sets. Acknowledged model e set sets before.disk now.disk now.marks) (sym (acknowledged_more so_far.effects effect)) (acknowledged_then model e election set (acknowledged_in so_far.effects) effect.acknowledged before.disk mid.disk now.disk mid.marks now.marks so_far.acknowledged did.done.acknowledged);
+      taken = subst (λ bytes. TakesAll before.sink.taken bytes now.sink.taken)
+          (sym (written_more so_far.effects effect)) (taken_then before.sink.taken mid.sink.taken now.sink.taken
+          (written_by tell so_far.effects) (tell effect.reply) so_far.taken did.taken);
+      acknowledged = subst (λ sets. Acknowledged model e set sets before.disk now.disk now.marks)
+          (sym (acknowledged_more so_far.effects effect))
+          (acknowledged_then model e election set (acknowledged_in so_far.effects) effect.acknowledged before.disk
+          mid.disk now.disk mid.marks now.marks so_far.acknowledged did.done.acknowledged);
       held = did.done.held ∙ ap (λ (s : State). length s.set) (sym did.next_state);
       no_fault = did.no_fault ∙ so_far.no_fault;
     }
   where
-    written_more : (effects : List Effect) (effect : Effect) → written (effects ++ effect ∷ []) ≡ written effects ++ effect.reply
-    written_more effects effect = flat_map-append (λ (x : Effect). x.reply) effects (effect ∷ []) ∙ ap (λ l. written effects ++ l) (append-nil effect.reply)
+    written_more : (effects : List Effect) (effect : Effect)
+        → written_by tell (effects ++ effect ∷ []) ≡ written_by tell effects ++ tell effect.reply
+    written_more effects effect = flat_map-append (λ (x : Effect). tell x.reply) effects (effect ∷ []) ∙ ap
+        (λ l. written_by tell effects ++ l) (append-nil (tell effect.reply))
 
-    acknowledged_more : (effects : List Effect) (effect : Effect) → acknowledged_in (effects ++ effect ∷ []) ≡ acknowledged_in effects ++ effect.acknowledged
-    acknowledged_more effects effect = flat_map-append (λ (x : Effect). x.acknowledged) effects (effect ∷ []) ∙ ap (λ l. acknowledged_in effects ++ l) (append-nil effect.acknowledged)
+    acknowledged_more : (effects : List Effect) (effect : Effect)
+        → acknowledged_in (effects ++ effect ∷ []) ≡ acknowledged_in effects ++ effect.acknowledged
+    acknowledged_more effects effect = flat_map-append (λ (x : Effect). x.acknowledged) effects (effect ∷ []) ∙ ap
+        (λ l. acknowledged_in effects ++ l) (append-nil effect.acknowledged)

@@ -3,31 +3,33 @@ use Rattle.std.specs.Prelude.{◌≡◌, ◌⊎◌, ℕ, ◌+◌, List, [], ◌�
 use Rattle.outside_io.specs.Outside.{Input}
 use Rattle.outside_io.specs.Reading.{ReadFirst, ReadLines, ReadToFault}
 use Rattle.outside_io.specs.Reading.Ending.{ReadOut, TooMuch}
-use Rattle.outside_io.specs.Stream.{TakesAll}
+use Rattle.outside_io.specs.Stream.{GivesAtMost, TakesAll}
 use Rattle.outside_io.specs.Told.{IfTold}
 use Rattle.phase_gate.specs.Around.{Around}
 use Rattle.recovery.specs.Refused.{IsRefusedMedium, IsUnchangedAt}
 use Rattle.recovery.specs.declared.fault.RecoverFault.{RecoverFault}
 use Rattle.recovery.specs.declared.fault.RecoverFault.TheVariants as recover
 use Rattle.session_run.specs.Faults.{recover_fault}
-use Rattle.session_run.specs.History.{AreMarks, LosesNothing, Wrote}
+use Rattle.session_run.specs.History.{AreMarks, LosesNothing, Wrote, written_by}
 use Rattle.session_run.specs.declared.fault.RunFault.{RunFault}
 use Rattle.session_run.specs.declared.fault.RunFault.TheVariants.{TooLong, ReadFault, DiskFault, WriteFault, Memory}
 use Rattle.store_spec.specs.Ballot.{Ballot, IsBallotSet, IsWithinLimit}
 use Rattle.store_spec.specs.Disk.{DiskModel}
 use Rattle.store_spec.specs.Election.{Election}
 use Rattle.store_spec.specs.Fault.{CountsFaultIf, Rose}
+use Rattle.store_spec.specs.Input.{script_limit}
 use Rattle.store_spec.specs.Medium.{HoldsSet}
 use Rattle.store_spec.specs.ScriptLine.{Says}
 use Rattle.store_spec.specs.ScriptLine.ScriptLine.{Checkpoint}
-use Rattle.store_spec.specs.Session.{Answers, Effect, Plays, State, acknowledged_in, begun, last_reply, written}
+use Rattle.store_spec.specs.Session.{Answers, Effect, Plays, State, acknowledged_in, begun, last_reply}
 use Rattle.store_spec.specs.Session.Phase.{Closed}
 
 -- ---- no session began
 
 -- Nothing was read of the script, nothing was written, and nothing is reported: the medium was refused for this reason.
 -- Its bytes stay, unless the disk failed.
-pub record NotBegun {S K D : Type 0} (model : DiskModel D) (e : Election) (why : RecoverFault) (old new : Input S) (before after : Around K D) : Type 0 where
+pub record NotBegun {S K D : Type 0} (model : DiskModel D) (e : Election) (why : RecoverFault) (old new : Input S)
+    (before after : Around K D) : Type 0 where
   pub script : new ≡ old
   pub sink : after.sink ≡ before.sink
   pub marks : after.marks ≡ []
@@ -44,11 +46,16 @@ pub record NotBegun {S K D : Type 0} (model : DiskModel D) (e : Election) (why :
 abbrev pub OfScript : {S : Type 0} → Input S → Input S → (List ℕ → List ℕ → Type 0) → Type 0
 OfScript old new Taken = IfTold old.left new.left Taken
 
+-- The reading stopped of itself: these are the first lines, and no more was read than the limit and one byte.
+abbrev pub StopsBehind : List (Option (List ℕ)) → List ℕ → List ℕ → Type 0
+StopsBehind lines text left = ReadFirst text left lines × GivesAtMost (script_limit + 1) text left
+
 -- This is the reply that comes next, to one more line of the script or to its end, the sets that are acknowledged before
 -- it is written, and how many ballots are held then.
-pub data ComesNext {S : Type 0} (e : Election) (lines : List (Option (List ℕ))) (state : State) (old new : Input S) (reply : List ℕ) (more : List (List Ballot)) (held : ℕ) : Type 0 where
+pub data ComesNext {S : Type 0} (e : Election) (lines : List (Option (List ℕ))) (state : State) (old new : Input S)
+    (reply : List ℕ) (more : List (List Ballot)) (held : ℕ) : Type 0 where
   to_line : (line : Option (List ℕ)) (effect : Effect)
-      → OfScript old new (λ text left. ReadFirst text left (lines ++ line ∷ []))
+      → OfScript old new (StopsBehind (lines ++ line ∷ []))
       → Answers e (length lines + 1) state line effect
       → reply ≡ effect.reply → more ≡ effect.acknowledged → held ≡ length effect.next.set
       → ComesNext e lines state old new reply more held
@@ -56,55 +63,63 @@ pub data ComesNext {S : Type 0} (e : Election) (lines : List (Option (List ℕ))
       → reply ≡ last_reply state.phase → more ≡ [] → held ≡ length state.set
       → ComesNext e lines state old new reply more held
 
--- of the reply that comes next a part was written
-pub record IsInterrupted {S K D : Type 0} (model : DiskModel D) (e : Election) (set : List Ballot) (lines : List (Option (List ℕ))) (effects : List Effect) (state : State) (old new : Input S) (before after : Around K D) : Type 0 where
+-- of what is told of the reply that comes next a part was written
+pub record IsInterrupted {S K D : Type 0} (model : DiskModel D) (tell : List ℕ → List ℕ) (e : Election)
+    (set : List Ballot) (lines : List (Option (List ℕ))) (effects : List Effect) (state : State) (old new : Input S)
+    (before after : Around K D) : Type 0 where
   pub reply : List ℕ
   pub more : List (List Ballot)
   pub next : ComesNext e lines state old new reply more after.held
   pub count : ℕ
-  pub wrote : Wrote model e set effects (take count reply) more before after
+  pub wrote : Wrote model tell e set effects (take count (tell reply)) more before after
 
 -- the next line is a checkpoint, and the disk failed at it
-pub record IsDiskFailed {S K D : Type 0} (model : DiskModel D) (e : Election) (set : List Ballot) (lines : List (Option (List ℕ))) (effects : List Effect) (state : State) (old new : Input S) (before after : Around K D) : Type 0 where
+pub record IsDiskFailed {S K D : Type 0} (model : DiskModel D) (tell : List ℕ → List ℕ) (e : Election)
+    (set : List Ballot) (lines : List (Option (List ℕ))) (effects : List Effect) (state : State) (old new : Input S)
+    (before after : Around K D) : Type 0 where
   pub line : List ℕ
-  pub read : OfScript old new (λ text left. ReadFirst text left (lines ++ Some line ∷ []))
+  pub read : OfScript old new (StopsBehind (lines ++ Some line ∷ []))
   pub says : Says e line Checkpoint
   pub closed : state.phase ≡ Closed
-  pub taken : TakesAll before.sink.taken (written effects) after.sink.taken
+  pub taken : TakesAll before.sink.taken (written_by tell effects) after.sink.taken
   pub held : after.held ≡ length state.set
   pub told : is_some (model.seen after.disk) ≡ is_some (model.seen before.disk)
   pub marks : AreMarks (model.calls before.disk) after.marks (acknowledged_in effects) (model.calls after.disk)
   pub crashes : LosesNothing model e set before.disk after.disk after.marks (acknowledged_in effects) (state.set ∷ [])
   pub rose : Rose (model.faults before.disk) (model.faults after.disk)
 
--- how the handling of lines ended, once these were handled
-abbrev pub HandlingEnds : {S K D : Type 0} → DiskModel D → Election → List Ballot → List (Option (List ℕ)) → List Effect → State → Result (Unit {0}) RunFault → Input S → Input S → Around K D → Around K D → Type 0
-HandlingEnds model e set lines effects state (Ok done) old new before after =
+-- how the handling of lines ended, once these were handled, where `tell` says what is told of a reply
+abbrev pub HandlingEnds : {S K D : Type 0} → DiskModel D → (List ℕ → List ℕ) → Election → List Ballot
+    → List (Option (List ℕ)) → List Effect → State → Result (Unit {0}) RunFault → Input S → Input S → Around K D
+    → Around K D → Type 0
+HandlingEnds model tell e set lines effects state (Ok done) old new before after =
     OfScript old new (λ text left. ReadLines ReadOut text left lines)
-    × Wrote model e set effects (last_reply state.phase) [] before after
+    × Wrote model tell e set effects (tell (last_reply state.phase)) [] before after
     × (after.held ≡ length state.set) × (new.faults ≡ old.faults) × (after.sink.faults ≡ before.sink.faults)
-HandlingEnds model e set lines effects state (Err TooLong) old new before after =
+HandlingEnds model tell e set lines effects state (Err TooLong) old new before after =
     OfScript old new (λ text left. ReadLines TooMuch text left lines)
-    × Wrote model e set effects [] [] before after
+    × Wrote model tell e set effects [] [] before after
     × (after.held ≡ length state.set) × (new.faults ≡ old.faults) × (after.sink.faults ≡ before.sink.faults)
-HandlingEnds model e set lines effects state (Err ReadFault) old new before after =
+HandlingEnds model tell e set lines effects state (Err ReadFault) old new before after =
     OfScript old new (λ text left. ReadToFault text left lines)
-    × Wrote model e set effects [] [] before after
+    × Wrote model tell e set effects [] [] before after
     × (after.held ≡ length state.set) × Rose old.faults new.faults × (after.sink.faults ≡ before.sink.faults)
-HandlingEnds model e set lines effects state (Err DiskFault) old new before after =
-    IsDiskFailed model e set lines effects state old new before after
+HandlingEnds model tell e set lines effects state (Err DiskFault) old new before after =
+    IsDiskFailed model tell e set lines effects state old new before after
     × (new.faults ≡ old.faults) × (after.sink.faults ≡ before.sink.faults)
-HandlingEnds model e set lines effects state (Err WriteFault) old new before after =
-    IsInterrupted model e set lines effects state old new before after
+HandlingEnds model tell e set lines effects state (Err WriteFault) old new before after =
+    IsInterrupted model tell e set lines effects state old new before after
     × (new.faults ≡ old.faults) × Rose before.sink.faults after.sink.faults
-HandlingEnds model e set lines effects state (Err Memory) old new before after =
-    ((OfScript old new (λ text left. ReadFirst text left lines) × Wrote model e set effects [] [] before after × (after.held ≡ length state.set))
-    ⊎ IsInterrupted model e set lines effects state old new before after)
+HandlingEnds model tell e set lines effects state (Err Memory) old new before after =
+    ((OfScript old new (StopsBehind lines) × Wrote model tell e set effects [] [] before after
+    × (after.held ≡ length state.set))
+    ⊎ IsInterrupted model tell e set lines effects state old new before after)
     × (new.faults ≡ old.faults) × (after.sink.faults ≡ before.sink.faults)
-HandlingEnds model e set lines effects state (Err other) old new before after = ⊥
+HandlingEnds model tell e set lines effects state (Err other) old new before after = ⊥
 
 -- A session began with the set that the medium held, and handled lines one after another.
-pub record Begun {S K D : Type 0} (model : DiskModel D) (e : Election) (answer : Result (Unit {0}) RunFault) (old new : Input S) (before after : Around K D) : Type 0 where
+pub record Begun {S K D : Type 0} (model : DiskModel D) (tell : List ℕ → List ℕ) (e : Election)
+    (answer : Result (Unit {0}) RunFault) (old new : Input S) (before after : Around K D) : Type 0 where
   pub set : List Ballot
   pub held : IfSome (model.seen before.disk) (λ bytes. HoldsSet e bytes set)
   pub legal : IsBallotSet e set
@@ -113,13 +128,15 @@ pub record Begun {S K D : Type 0} (model : DiskModel D) (e : Election) (answer :
   pub effects : List Effect
   pub state : State
   pub plays : Plays e 1 (begun set) lines effects state
-  pub ends : HandlingEnds model e set lines effects state answer old new before after
+  pub ends : HandlingEnds model tell e set lines effects state answer old new before after
 
 -- ---- both
 
--- All that a run of a session promises under an election: the medium was refused, or a session began.
-abbrev pub SessionEnds : {S K D : Type 0} → DiskModel D → Election → Result (Unit {0}) RunFault → Input S → Input S → Around K D → Around K D → Type 0
-SessionEnds model e (Ok done) old new before after = Begun model e (Ok done) old new before after
-SessionEnds model e (Err fault) old new before after =
+-- All that a run of a session promises under an election, where `tell` says what it tells of a reply: the medium was
+-- refused, or a session began.
+abbrev pub SessionEnds : {S K D : Type 0} → DiskModel D → (List ℕ → List ℕ) → Election → Result (Unit {0}) RunFault
+    → Input S → Input S → Around K D → Around K D → Type 0
+SessionEnds model tell e (Ok done) old new before after = Begun model tell e (Ok done) old new before after
+SessionEnds model tell e (Err fault) old new before after =
     ((why : RecoverFault) × (fault ≡ recover_fault why) × NotBegun model e why old new before after)
-    ⊎ Begun model e (Err fault) old new before after
+    ⊎ Begun model tell e (Err fault) old new before after

@@ -1,5 +1,5 @@
 -- What a session has done so far.
-use Rattle.std.specs.Prelude.{◌≡◌, ◌<◌, ◌≤◌, ℕ, List, [], ◌∷◌, ◌++◌, Some, is_some}
+use Rattle.std.specs.Prelude.{◌≡◌, ◌<◌, ◌≤◌, ℕ, List, [], ◌∷◌, ◌++◌, flat_map, Some, is_some}
 use Rattle.outside_io.specs.Stream.{TakesAll}
 use Rattle.phase_gate.specs.Around.{Around}
 use Rattle.phase_gate.specs.Checkpointed.{IsMediumNow}
@@ -8,7 +8,7 @@ use Rattle.store_spec.specs.Disk.{DiskModel, leaves_now}
 use Rattle.store_spec.specs.Election.{Election}
 use Rattle.store_spec.specs.Fault.{last_count}
 use Rattle.store_spec.specs.Medium.{HoldsSet}
-use Rattle.store_spec.specs.Session.{Effect, acknowledged_in, written}
+use Rattle.store_spec.specs.Session.{Effect, acknowledged_in}
 use Rattle.store_spec.specs.Stop.{HoldsAcknowledged}
 
 -- the set that was acknowledged last, or the first one
@@ -31,21 +31,29 @@ pub record HoldsOne {D : Type 0} (model : DiskModel D) (e : Election) (set : Lis
 
 -- What a crash may leave at each moment of a run, where the disk held one set at its start: up to each mark the set that
 -- was acknowledged before it or the next one. `tried` is the set of a checkpoint that failed, if one did.
-abbrev pub LosesNothing : {D : Type 0} → DiskModel D → Election → List Ballot → D → D → List ℕ → List (List Ballot) → List (List Ballot) → Type 0
+abbrev pub LosesNothing : {D : Type 0} → DiskModel D → Election → List Ballot → D → D → List ℕ → List (List Ballot)
+    → List (List Ballot) → Type 0
 LosesNothing model e set before after marks acknowledged tried =
     HoldsOne model e set before → model.calls after < last_count
     → HoldsAcknowledged e (model.may_leave after) (model.calls before) set marks acknowledged tried (model.calls after)
 
 -- From one state of a disk to another these sets were acknowledged, one after another, at these marks, and the last one
 -- stands on the disk.
-pub record Acknowledged {D : Type 0} (model : DiskModel D) (e : Election) (set : List Ballot) (acknowledged : List (List Ballot)) (before after : D) (marks : List ℕ) : Type 0 where
+pub record Acknowledged {D : Type 0} (model : DiskModel D) (e : Election) (set : List Ballot)
+    (acknowledged : List (List Ballot)) (before after : D) (marks : List ℕ) : Type 0 where
   pub told : is_some (model.seen after) ≡ is_some (model.seen before)
   pub medium : IsMediumNow model e (latest set acknowledged) after
   pub marked : AreMarks (model.calls before) marks acknowledged (model.calls after)
   pub crashes : LosesNothing model e set before after marks acknowledged []
   pub no_fault : model.faults after ≡ model.faults before
 
--- The replies to lines were written, and then this, and with what the lines acknowledged these sets were acknowledged too.
-pub record Wrote {K D : Type 0} (model : DiskModel D) (e : Election) (set : List Ballot) (effects : List Effect) (rest : List ℕ) (more : List (List Ballot)) (before after : Around K D) : Type 0 where
-  pub taken : TakesAll before.sink.taken (written effects ++ rest) after.sink.taken
+-- what is written for lines, where `tell` says what is told of a reply
+abbrev pub written_by : (List ℕ → List ℕ) → List Effect → List ℕ
+written_by tell effects = flat_map (λ effect. tell effect.reply) effects
+
+-- What is told of the replies to lines was written, and then this, and with what the lines acknowledged these sets were
+-- acknowledged too.
+pub record Wrote {K D : Type 0} (model : DiskModel D) (tell : List ℕ → List ℕ) (e : Election) (set : List Ballot)
+    (effects : List Effect) (rest : List ℕ) (more : List (List Ballot)) (before after : Around K D) : Type 0 where
+  pub taken : TakesAll before.sink.taken (written_by tell effects ++ rest) after.sink.taken
   pub acknowledged : Acknowledged model e set (acknowledged_in effects ++ more) before.disk after.disk after.marks

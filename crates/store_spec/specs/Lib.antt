@@ -24,6 +24,7 @@ pub mod ScriptLine
 pub mod Session
 pub mod StepFigures
 pub mod Stop
+pub mod Summary
 pub mod WithdrawFigures
 pub mod WithdrawInvariant
 pub mod WithdrawPhase

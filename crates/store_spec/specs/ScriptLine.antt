@@ -6,6 +6,8 @@
 --                 / "find" SP tab SP number
 --                 / "close"
 --                 / "checkpoint"
+--                 / "tally"
+--                 / "export"
 --     tab         = decimal, 1 to 64
 --     number      = decimal, 1 to 18446744073709551615
 --
@@ -31,6 +33,8 @@ pub data ScriptLine : Type 0 where
   Find : ℕ → ℕ → ScriptLine
   Close : ScriptLine
   Checkpoint : ScriptLine
+  Tally : ScriptLine
+  Export : ScriptLine
 
 -- the most tabulators of a phase
 abbrev pub most_tabs : ℕ
@@ -67,6 +71,8 @@ Says e bytes (Withdraw tab number) =
 Says e bytes (Find tab number) = IsTab tab × IsNumber number × (bytes ≡ item_text Finding tab (decimal number))
 Says e bytes Close = bytes ≡ codes "close"
 Says e bytes Checkpoint = bytes ≡ codes "checkpoint"
+Says e bytes Tally = bytes ≡ codes "tally"
+Says e bytes Export = bytes ≡ codes "export"
 
 -- the bytes are not in the grammar
 abbrev pub IsMalformed : Election → List ℕ → Type 0

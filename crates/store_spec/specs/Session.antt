@@ -8,9 +8,10 @@ use Rattle.store_spec.specs.BallotPhase.{BallotOutcome, CastLine, CastReply}
 use Rattle.store_spec.specs.BallotPhase as cast
 use Rattle.store_spec.specs.Election.{Election}
 use Rattle.store_spec.specs.Input.{line_end}
+use Rattle.store_spec.specs.Report.{export_text, tally_text}
 use Rattle.store_spec.specs.ScriptLine.{IsMalformed, Says, ScriptLine, Work}
 use Rattle.store_spec.specs.ScriptLine.Work.{Casting, Withdrawing, Finding}
-use Rattle.store_spec.specs.ScriptLine.ScriptLine.{Open, Cast, CastInvalid, Withdraw, Find, Close, Checkpoint}
+use Rattle.store_spec.specs.ScriptLine.ScriptLine.{Open, Cast, CastInvalid, Withdraw, Find, Close, Checkpoint, Tally, Export}
 use Rattle.store_spec.specs.WithdrawPhase.{Finding as FoundNumber, FindOutcome, Withdrawal, WithdrawOutcome, WithdrawReply, listed}
 use Rattle.store_spec.specs.WithdrawPhase as withdraw
 
@@ -155,6 +156,8 @@ Does e n s (Open work tabs) Closed effect =
     effect ≡ replies (counted (phase_text (opened work tabs)) tabs) (in_phase (opened work tabs) s.set)
 Does e n s Checkpoint Closed effect =
     effect ≡ record { reply = counted (codes "checkpoint") (length s.set); acknowledged = s.set ∷ []; next = s }
+Does e n s Tally Closed effect = effect ≡ stays s (tally_text e s.set)
+Does e n s Export Closed effect = effect ≡ stays s (export_text e s.set)
 Does e n s (Cast tab b) (Casts lists) effect = effect ≡ queues n s Casts lists tab b
 Does e n s (CastInvalid tab) (Casts lists) effect = effect ≡ stays s (refusal n (codes "invalid"))
 Does e n s (Withdraw tab number) (Withdraws lists) effect = effect ≡ queues n s Withdraws lists tab number

@@ -7,7 +7,7 @@ mod withdraw_figures;
 
 ghost use Rattle.store_spec.specs.Figures.{ExampleHomes, ExampleSizes, ExamplePlaces, ExampleLayout, ExampleImage, ExampleLines};
 
-pub use report_figures::example_reports;
+pub use report_figures::{example_reports, example_summary};
 pub use step_figures::{example_claims, example_outcome, example_race};
 pub use withdraw_figures::{example_finding, example_stale_candidate, example_withdrawal};
 

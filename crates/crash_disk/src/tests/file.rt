@@ -2,7 +2,7 @@
 
 use crate::{Disk, FileDisk};
 use fake_system::Call::{
-    Make, OpenFolder, OpenToWrite, ReadAt, Size, SyncAll, SyncData, SyncFolder, WriteAt,
+    Make, Open, OpenFolder, OpenToWrite, ReadAt, Size, SyncAll, SyncData, SyncFolder, WriteAt,
 };
 use fake_system::{Call, FAULT_KINDS, FakeFiles, Stage};
 use outside_io::Failed;
@@ -197,14 +197,29 @@ fn each_error_is_a_fault(rt: HostRuntime) -> Result<(), Fail> {
         (1, Act::Settle, false, &[SyncAll]),
     ];
     for kind in FAULT_KINDS {
-        // A file that is not found is none.
-        let skipped = if kind == ErrorKind::NotFound {
-            3usize
-        } else {
-            0
-        };
+        // A file that is not found is none, and one that may not be written is opened to be read.
+        let opens = [
+            ErrorKind::NotFound,
+            ErrorKind::PermissionDenied,
+            ErrorKind::ReadOnlyFilesystem,
+        ];
+        let skipped = if opens.contains(&kind) { 3usize } else { 0 };
         let stage = assert_rows(&rt, rt.alloc(), Some(b"abcd"), kind, &rows[skipped..])?;
         assert_eq!(rt; stage.bytes()?, Some(b"abcd".to_vec(rt.alloc())?));
+    }
+    Ok(())
+}
+
+#[test]
+fn a_file_that_may_not_be_written_is_read(rt: HostRuntime) -> Result<(), Fail> {
+    let rows = [
+        (1, Act::AskSize, true, [OpenToWrite, Open, Size].as_slice()),
+        (0, Act::Get(1, 2), true, &[ReadAt(1, 2)]),
+        (0, Act::Settle, true, &[SyncAll, OpenFolder, SyncFolder]),
+        (1, Act::Put(0, 2), false, &[WriteAt(0, 2)]),
+    ];
+    for kind in [ErrorKind::PermissionDenied, ErrorKind::ReadOnlyFilesystem] {
+        assert_rows(&rt, rt.alloc(), Some(b"abcd"), kind, &rows)?;
     }
     Ok(())
 }

@@ -213,7 +213,7 @@ record LastLine (effects : List Effect) (end : State) : Type 0 where
 -- the last line is the close
 last_line : (effects : List Effect) (end : State) → Plays example 4 both_wait (Some (codes "close") ∷ []) effects end → LastLine effects end
 last_line [] end plays = absurd plays
-last_line (effect ∷ []) end plays = record { effect = effect; is = refl; ends = plays.1; either = no_other effect (does_as_said 4 both_wait (codes "close") Close refl effect plays.0) }
+last_line (effect ∷ []) end plays = record { effect = effect; is = refl; ends = plays.1; either = no_other effect (does_as_said example 4 both_wait (codes "close") Close refl effect plays.0) }
 last_line (effect ∷ other ∷ more) end plays = absurd plays.1
 
 -- what the close is, behind the three lines before it

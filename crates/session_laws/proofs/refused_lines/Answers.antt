@@ -6,7 +6,7 @@ use Rattle.std.proofs.lemmas.List.Sorted.{IsPermutation-refl}
 use Rattle.store_spec.specs.Election.{example}
 use Rattle.store_spec.specs.ScriptLine.{IsMalformed}
 use Rattle.store_spec.specs.ScriptLine.Work.{Casting, Withdrawing, Finding}
-use Rattle.store_spec.specs.ScriptLine.ScriptLine.{Open, Cast, CastInvalid, Withdraw, Find, Close, Checkpoint}
+use Rattle.store_spec.specs.ScriptLine.ScriptLine.{Open, Cast, CastInvalid, Withdraw, Find, Close, Checkpoint, Tally, Export}
 use Rattle.session_laws.proofs.Closing.{all_accepted_close}
 use Rattle.session_laws.proofs.ExampleBallots.{spells_9}
 use Rattle.session_laws.proofs.ExampleSets.{empty_is_set}
@@ -34,6 +34,8 @@ too_many (Withdraw tab number) (is, some, text) = differ 0 text refl
 too_many (Find tab number) (is, some, text) = differ 0 text refl
 too_many Close text = differ 0 text refl
 too_many Checkpoint text = differ 0 text refl
+too_many Tally text = differ 0 text refl
+too_many Export text = differ 0 text refl
 
 pub returns : goal.returns
 unfolding digits

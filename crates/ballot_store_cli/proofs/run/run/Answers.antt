@@ -1,5 +1,7 @@
 use Rattle.std.proofs.Common.{map, string_bytes, inr, refl}
-use Rattle.ballot_store_cli.proofs.Carrying.{carried_out}
+use Rattle.ballot_store_cli.proofs.Carrying.{carried_out, unread}
+use Rattle.ballot_store_cli.proofs.Naming.{some_at}
+use Rattle.ballot_store_cli.specs.Command.{Forms}
 use Rattle.ballot_store_cli.specs.World.{reported, world}
 use Rattle.store_spec.specs.Disk.{disk_model}
 use Rattle.outside_io.specs.Outside.{input, output}
@@ -13,8 +15,8 @@ returns-in-Err-carry_out g c =
     let before = world (input g.S.Source.left g.S.Source.faults c.args.script.now) (output g.K.Sink.taken g.K.Sink.faults c.args.out.now) c.args.disk.now in
     let after = world (input g.S.Source.left g.S.Source.faults c.carry_out.new.script) (output g.K.Sink.taken g.K.Sink.faults c.carry_out.new.out) c.carry_out.new.disk in
     record {
-      ends = carried_out model (map string_bytes c.args.words.now) c.in-Err-carry_out.status c.in-Some.command c.in-Ok.election (reported c.carry_out.new.report) old new before after
-          c.in-Some.ensures.formed c.in-Err-carry_out.ensures
+      ends = carried_out model (map string_bytes c.args.words.now) c.in-Err-carry_out.status c.in-Ok-Some.command c.in-Ok.election (reported c.carry_out.new.report) old new before after
+          (some_at (Forms (map string_bytes c.args.words.now)) c.in-Ok-Some.field-0 c.in-Ok-Some.command c.in-Ok-Some.field-0-is c.in-Ok-Some.ensures.formed) c.in-Err-carry_out.ensures
           (inr (record {
             election = c.in-Ok.election;
             valid = c.in-Ok.ensures.valid;

@@ -6,5 +6,8 @@ use Rattle.step_core.specs.WithdrawCore.{reply_of}
 pub returns-clause-closes : goal.returns-clause-closes
 returns-clause-closes g c =
     let played = c.in_ok-after in
-    closes_withdrawing c.args.closed.ballots played.after.ballots (map (λ list. list.items) c.args.lists.now) reply_of (λ list. list.items) c.deref.result.now played.answers.items
-    (string_bytes c.args.reply.now) (string_bytes c.push_all_replies.new.text) (string_bytes c.push_count.new.text) c.len.result played.ensures.plays c.deref.ensures.value c.requires.nothing c.in_ok-push_all_replies.ensures c.in_ok-push_count.ensures c.len.ensures.count
+    closes_withdrawing c.args.telling c.args.closed.ballots played.after.ballots
+    (map (λ list. list.items) c.args.lists.now) reply_of (λ list. list.items) c.deref.result.now
+    played.answers.items
+    (string_bytes c.args.reply.now) (string_bytes c.tell_closing.new.text) c.len.result played.ensures.plays
+    c.deref.ensures.value c.requires.nothing c.in_ok-tell_closing.ensures c.len.ensures.count

@@ -16,10 +16,14 @@ returns-clause-acknowledged g c =
     let passed = sym c.if-is_err-2.ensures.value in (
       record {
         told = c.checkpoint.ensures.told;
-        now = medium_now (disk_model g.D.Disk.seen g.D.Disk.calls g.D.Disk.may_leave g.D.Disk.faults) c.args.gate.now.election c.args.gate.now.closed.ballots c.args.disk.now c.checkpoint.new.disk (on_ok c.checkpoint.result passed c.checkpoint.ensures.settled) (on_ok c.checkpoint.result passed c.checkpoint.ensures.medium);
+        now = medium_now (disk_model g.D.Disk.seen g.D.Disk.calls g.D.Disk.may_leave g.D.Disk.faults)
+            c.args.gate.now.election c.args.gate.now.closed.ballots c.args.disk.now c.checkpoint.new.disk
+            (on_ok c.checkpoint.result passed c.checkpoint.ensures.settled)
+            (on_ok c.checkpoint.result passed c.checkpoint.ensures.medium);
         crashes = c.checkpoint.ensures.any_moment;
         later = c.checkpoint.ensures.later;
         no_fault = on_ok c.checkpoint.result passed c.checkpoint.ensures.fault.steady;
       },
-      c.push_reserved.ensures.items ∙ ap (λ marks. marks ++ c.calls.result ∷ []) c.reserve.ensures.items ∙ ap (λ calls. c.args.report.now.marks.items ++ calls ∷ []) c.calls.ensures,
+      c.push_reserved.ensures.items ∙ ap (λ marks. marks ++ c.calls.result ∷ []) c.reserve.ensures.items ∙ ap
+          (λ calls. c.args.report.now.marks.items ++ calls ∷ []) c.calls.ensures,
     )

@@ -10,5 +10,6 @@ returns-in_ok-queued-in-Casting c =
     let old = c.in-Casting.lists.items in
     let new = c.queue.new.lists.items in
     let place = c.in_ok-queued-in-Casting.queued in
-    casts_into (phase_of c.args.self) (map (λ list. ballots_of list.items) old) (map (λ list. ballots_of list.items) new) c.args.tab (ballot c.args.ballot) place (ap phase_of c.in-Casting.is)
+    casts_into (phase_of c.args.self) (map (λ list. ballots_of list.items) old)
+    (map (λ list. ballots_of list.items) new) c.args.tab (ballot c.args.ballot) place (ap phase_of c.in-Casting.is)
     (waits_as ballot (λ list. list.items) old new c.args.tab c.args.ballot place c.in_ok-queued-in-Casting.ensures)

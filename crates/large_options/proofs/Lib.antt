@@ -1,0 +1,5 @@
+mod Given
+mod Numbers
+pub mod Orders
+mod Parses
+mod Words

@@ -1,0 +1,97 @@
+-- The ballots of the generated script: what they mark.
+use Rattle.std.proofs.Common.{◌≡◌, ◌≢◌, ℕ, ◌+◌, ◌-◌, ◌%◌, ◌^◌, ◌<◌, ◌≤◌, Bool, true, false, cond, eqb, List, [], ◌∷◌, ◌++◌, length, map, zero, suc, append_assoc, Some, refl, sym, ap, ◌∙◌, arith, mod-lt}
+use Rattle.std.specs.Fmt.{decimal}
+use Rattle.std.specs.Prelude.{codes}
+use Rattle.std.specs.List.{join_with_byte, range_with_len, slice_get}
+use Rattle.std.proofs.lemmas.Bool.{eq-eqb, ne_eqb}
+use Rattle.std.proofs.lemmas.List.Elements.{All-cons}
+use Rattle.std.proofs.lemmas.List.FromFn.{map-range_with_len_more, take-map-range_with_len}
+use Rattle.ballot_record.proofs.MarkSets.{choices_in-mark_set, mark_set-cons}
+use Rattle.ballot_record.specs.Contest.{contest_of}
+use Rattle.ballot_record.specs.declared.contest.Contest.{Contest}
+use Rattle.script_lines.specs.Generated.{ballot_at, cast_line, marks_at, number_at, style_at}
+use Rattle.script_lines.specs.Parts.{group_at}
+use Rattle.store_spec.specs.BallotLine.{IsGroup, choices_in, group_text, line_of_ballot, mark_set, slash, space}
+use Rattle.store_spec.specs.Election.{Election, IsElection, choices_of, is_on_style}
+
+-- ---- the marks of one contest
+
+no_choice : (e : Election) → choices_in e 0 ≡ []
+no_choice e = choices_in-mark_set e [] (record { within = λ k d lt. absurd (omega arith); ascending = λ i within. absurd (omega arith) })
+
+one_choice : (e : Election) (c : ℕ) → c < 32 → choices_in e (2 ^ c) ≡ (1 + c) ∷ []
+one_choice e c few =
+    let set : mark_set ((1 + c) ∷ []) ≡ 2 ^ c = mark_set-cons (1 + c) [] ∙ let same : 1 + c - 1 ≡ c = omega arith in ap (λ n. 2 ^ n + 0) same ∙ omega arith in
+    let group : IsGroup e ((1 + c) ∷ []) = record {
+      within = All-cons (λ n. (1 ≤ n) × (n ≤ 32)) (1 + c) [] (omega arith, omega arith) (λ k d lt. absurd (omega arith));
+      ascending = λ i within. absurd (omega arith);
+    } in
+    ap (choices_in e) (sym set) ∙ choices_in-mark_set e ((1 + c) ∷ []) group
+
+-- every seventh ballot marks nothing, and no ballot marks where the contest is not on its style
+pub unmarked : (e : Election) (i k : ℕ) → i % 7 ≡ 0 → choices_in e (marks_at e i k) ≡ []
+unmarked e i k seventh =
+    let none : (b : Bool) → cond b (cond (eqb (i % 7) 0) 0 (2 ^ ((i + k) % choices_of e k))) 0 ≡ 0 = elim [
+      | true ↦ rw (eq-eqb (i % 7) 0 seventh) refl
+      | false ↦ refl
+    ] in
+    ap (choices_in e) (none (is_on_style e (style_at e i) k)) ∙ no_choice e
+
+pub off_style : (e : Election) (i k : ℕ) → is_on_style e (style_at e i) k ≡ false → choices_in e (marks_at e i k) ≡ []
+off_style e i k off = ap (λ (b : Bool). choices_in e (cond b (cond (eqb (i % 7) 0) 0 (2 ^ ((i + k) % choices_of e k))) 0)) off ∙ no_choice e
+
+-- how many choices a contest offers
+pub choices_offered : (e : Election) (k : ℕ) (contest : Contest) → 1 ≤ k → slice_get e.contests (k - 1) ≡ Some (contest_of contest) → choices_of e k ≡ contest.choices
+choices_offered e k contest some found = rw (ne_eqb k 0 (λ zero. omega arith), found) refl
+
+-- any other marks one choice
+pub marked : (e : Election) (i k choices : ℕ) → i % 7 ≢ 0 → is_on_style e (style_at e i) k ≡ true → choices_of e k ≡ choices → 1 ≤ choices → choices ≤ 32
+    → choices_in e (marks_at e i k) ≡ (1 + (i + k) % choices) ∷ []
+marked e i k choices other on offered some few =
+    ap (λ (b : Bool). choices_in e (cond b (cond (eqb (i % 7) 0) 0 (2 ^ ((i + k) % choices_of e k))) 0)) on
+    ∙ ap (λ (b : Bool). choices_in e (cond b 0 (2 ^ ((i + k) % choices_of e k)))) (ne_eqb (i % 7) 0 other)
+    ∙ ap (λ n. choices_in e (2 ^ ((i + k) % n))) offered
+    ∙ one_choice e ((i + k) % choices) (omega (arith, mod-lt (i + k) some))
+
+-- ---- the groups of one ballot
+
+-- groups behind others
+pub joined_more : (between : ℕ) (x y : List ℕ) (xs : List (List ℕ)) → join_with_byte between ((x ∷ xs) ++ y ∷ []) ≡ join_with_byte between (x ∷ xs) ++ between ∷ y
+joined_more between x y [] = refl
+joined_more between x y (next ∷ xs) =
+    ap (λ rest. x ++ between ∷ rest) (joined_more between next y xs) ∙ sym (append_assoc x (between ∷ join_with_byte between (next ∷ xs)) (between ∷ y))
+
+-- the groups of so many contests, and one more
+abbrev pub groups_to : Election → ℕ → ℕ → List ℕ
+groups_to e i n = join_with_byte slash (map (group_at e i) (range_with_len 1 n))
+
+pub group_more : (e : Election) (i n : ℕ) (start before apart now : List ℕ) → 1 ≤ n → before ≡ start ++ groups_to e i n → apart ≡ before ++ slash ∷ [] → now ≡ apart ++ group_at e i (n + 1)
+    → now ≡ start ++ groups_to e i (n + 1)
+group_more e i zero start before apart now some so_far put_slash put = absurd (omega arith)
+group_more e i (suc m) start before apart now some so_far put_slash put =
+    let n = suc m in
+    let more : groups_to e i (n + 1) ≡ groups_to e i n ++ slash ∷ group_at e i (n + 1) =
+    ap (join_with_byte slash) (map-range_with_len_more (group_at e i) 1 n (n + 1) (omega arith)) ∙ joined_more slash (group_at e i 1) (group_at e i (n + 1)) (map (group_at e i) (range_with_len (1 + 1) m)) in
+    put ∙ ap (λ text. text ++ group_at e i (n + 1)) (put_slash ∙ ap (λ text. text ++ slash ∷ []) so_far)
+    ∙ append_assoc (start ++ groups_to e i n) (slash ∷ []) (group_at e i (n + 1)) ∙ append_assoc start (groups_to e i n) (slash ∷ group_at e i (n + 1))
+    ∙ ap (λ text. start ++ text) (sym more)
+
+mapped : (e : Election) (i : ℕ) (ks : List ℕ) → map group_text (map (choices_in e) (map (marks_at e i) ks)) ≡ map (group_at e i) ks
+mapped e i [] = refl
+mapped e i (k ∷ ks) = ap (λ rest. group_at e i k ∷ rest) (mapped e i ks)
+
+-- the line of a ballot has a group for each contest
+groups_of_ballot : (e : Election) (seed i : ℕ) → IsElection e → map group_text (line_of_ballot e (ballot_at e seed i)).groups ≡ map (group_at e i) (range_with_len 1 (length e.contests))
+groups_of_ballot e seed i election =
+    ap (λ sets. map group_text (map (choices_in e) sets)) (take-map-range_with_len (marks_at e i) 1 16 (length e.contests) election.few_contests)
+    ∙ mapped e i (range_with_len 1 (length e.contests))
+
+-- the parts of a line that casts, one behind the other
+pub cast_put : (e : Election) (seed tabs i : ℕ) (start word tab number style now : List ℕ) → IsElection e
+    → word ≡ start ++ codes "cast " → tab ≡ word ++ (decimal (1 + i % tabs) ++ space ∷ []) → number ≡ tab ++ (decimal (number_at seed i) ++ space ∷ [])
+    → style ≡ number ++ (decimal (style_at e i) ++ space ∷ []) → now ≡ style ++ groups_to e i (length e.contests)
+    → now ≡ start ++ cast_line e seed tabs i
+cast_put e seed tabs i start word tab number style now election is_word is_tab is_number is_style is_now =
+    let groups : groups_to e i (length e.contests) ≡ join_with_byte slash (map group_text (line_of_ballot e (ballot_at e seed i)).groups) =
+    ap (join_with_byte slash) (sym (groups_of_ballot e seed i election)) in
+    rw (is_now, is_style, is_number, is_tab, is_word, groups) (simp append_assoc refl)

@@ -1,0 +1,194 @@
+#!/usr/bin/env python3
+"""check_medium.py MEDIUM ELECTION
+
+A second opinion on the medium of a ballot store, written from docs/FORMATS.md alone. It writes one of
+these lines, and ends with the status in front of it (and needs Python 3.10 or later):
+
+     0  canonical N         the medium is to the byte that of the N ballots it holds
+    14  differs P           byte P, counted from 0, is the first that differs from that medium
+     9  no store            its size is not a medium's (a missing one has size 0), or neither gate is open
+    11  other election      the header of the bank that is read is not this election's
+    10  damaged cell C      no image begins with the cells 0 to C, and C is the least such
+     2  usage   3  bad election   4  election too long   5  disk fault   6  election read fault
+"""
+
+import bisect
+import json
+import re
+import struct
+import sys
+from typing import NamedTuple
+
+LONGEST_ELECTION = 1_048_576
+DEEPEST = 127
+OPEN_GATE = 0xA7
+
+
+class Finding(Exception):
+    """A status and its line."""
+
+
+class Election(NamedTuple):
+    choices: list  # of each contest, how many choices it has
+    styles: list  # of each style, the numbers of its contests, from 1
+    limit: int
+    bits: int
+    salt: int
+
+    def header(self):
+        return struct.pack(">8sHBBIQ8x", b"HIBSTORE", 1, self.bits, len(self.choices), self.limit, self.salt)
+
+    def cell_format(self):
+        return struct.Struct(f">QB{len(self.choices)}I")  # number, style, mark sets
+
+    def cell_count(self):
+        return 2**self.bits + self.limit
+
+    def image_size(self):
+        return len(self.header()) + self.cell_count() * self.cell_format().size
+
+    def home(self, number):
+        return ((number ^ self.salt) * 0x9E3779B97F4A7C15 % 2**64) >> (64 - self.bits)
+
+
+def require(condition, what):
+    if not condition:
+        raise ValueError(what)
+
+
+# Of a key that stands twice the last value counts, so that a number which no election has is wrong only where it
+# counts: with a sign or too many digits it becomes None. NaN and Infinity are no JSON, and int refuses them.
+JSON = json.JSONDecoder(parse_int=lambda s: int(s) if re.fullmatch("[0-9]{1,9}", s) else None, parse_constant=int)
+
+
+def depth(text):
+    """How deep the arrays and objects of a JSON text are nested."""
+    deepest = level = 0
+    for mark in re.sub(r'"(?:[^"\\]|\\.)*"', "", text, flags=re.DOTALL):
+        level += (mark in "[{") - (mark in "]}")
+        deepest = max(deepest, level)
+    return deepest
+
+
+def members(value, *keys):
+    require(type(value) is dict and value.keys() == set(keys), f"no object of {keys}")
+    return [value[key] for key in keys]
+
+
+def array(value, most):
+    require(type(value) is list and 1 <= len(value) <= most, f"no array of 1 to {most}")
+    return value
+
+
+def whole(value, least, most):  # type() and not isinstance(), because True is an instance of int
+    require(type(value) is int and least <= value <= most, f"no number from {least} to {most}")
+    return value
+
+
+def parse_election(text):
+    """The election that these bytes describe; ValueError where they describe none."""
+    text = text.decode("utf-8")
+    require(depth(text) <= DEEPEST, "nested too deep")
+    document = JSON.decode(text)
+    contests, styles, limit, bits, salt = members(document, "contests", "styles", "limit", "bits", "salt")
+    choices = []
+    for contest in array(contests, 16):
+        choice_count, allowed = members(contest, "choices", "allowed")
+        choices.append(whole(choice_count, 1, 32))
+        whole(allowed, 1, choice_count)
+    for style in array(styles, 255):
+        previous = 0
+        for contest in array(style, len(choices)):
+            previous = whole(contest, previous + 1, len(choices))
+    require(type(salt) is str and re.fullmatch("[0-9a-f]{16}", salt), "no salt")
+    return Election(choices, styles, whole(limit, 1, 32768), whole(bits, 0, 16), int(salt, 16))
+
+
+def is_valid(election, ballot):
+    number, style, *mark_sets = ballot
+    if number == 0 or not 1 <= style <= len(election.styles):
+        return False
+    on_style = election.styles[style - 1]
+    return all(marks < 2**choices if contest in on_style else marks == 0
+               for contest, (choices, marks) in enumerate(zip(election.choices, mark_sets), 1))
+
+
+def place(election, ballots):
+    """The cells of the image of these ballots: the greatest number is placed first."""
+    cells = [(0, 0) + (0,) * len(election.choices)] * election.cell_count()
+    # Where to look next for an empty cell: an empty cell names itself, a full one a later
+    # cell, with no empty one between. (To try cell by cell takes minutes in a big store.)
+    look_at = list(range(len(cells)))
+    for ballot in sorted(ballots, reverse=True):
+        cell = election.home(ballot[0])
+        while look_at[cell] != cell:
+            look_at[cell] = look_at[look_at[cell]]
+            cell = look_at[cell]
+        cells[cell] = ballot
+        look_at[cell] = cell + 1
+    return cells
+
+
+def begin_an_image(election, cells):
+    """Whether an image begins with these cells: if any does, then that of just the ballots in them."""
+    # For without the ballots behind them, each of theirs still finds the cells from its home up to its own filled.
+    ballots = [cell for cell in cells if any(cell)]
+    return (len(ballots) <= election.limit
+            and len({number for number, *_ in ballots}) == len(ballots)
+            and all(is_valid(election, ballot) for ballot in ballots)
+            and place(election, ballots)[:len(cells)] == cells)
+
+
+def judge(election, medium):
+    """How many ballots the medium holds; a Finding where it is not just their medium."""
+    size, header = election.image_size(), election.header()
+    if len(medium) != 2 * size + 2 or OPEN_GATE not in medium[-2:]:
+        raise Finding(9, "no store")
+    bank = medium[:size] if medium[-2] == OPEN_GATE else medium[size:-2]
+    if bank[:len(header)] != header:
+        raise Finding(11, "other election")
+    cells = list(election.cell_format().iter_unpack(bank[len(header):]))
+    if not begin_an_image(election, cells):  # then from some cell on no beginning does
+        wrong = bisect.bisect_left(range(len(cells)), True, key=lambda c: not begin_an_image(election, cells[:c + 1]))
+        raise Finding(10, f"damaged cell {wrong}")
+    canonical = bank + bank + bytes([OPEN_GATE, OPEN_GATE])  # the bank being the image of its ballots
+    for position, (found, expected) in enumerate(zip(medium, canonical)):
+        if found != expected:
+            raise Finding(14, f"differs {position}")
+    return sum(map(any, cells))
+
+
+def read(path, size):
+    """The bytes of the file; where it has more than `size`, the first size + 1 of them."""
+    with open(path, "rb") as file:
+        return file.read(size + 1)
+
+
+def check(words):
+    if len(words) != 2 or any(word == "" or word.startswith("-") for word in words):
+        raise Finding(2, "usage")
+    medium_path, election_path = words
+    try:
+        text = read(election_path, LONGEST_ELECTION)
+    except OSError:
+        raise Finding(6, "election read fault")
+    if len(text) > LONGEST_ELECTION:
+        raise Finding(4, "election too long")
+    try:
+        election = parse_election(text)
+    except ValueError:
+        raise Finding(3, "bad election")
+    try:
+        return judge(election, read(medium_path, 2 * election.image_size() + 2))
+    except FileNotFoundError:
+        raise Finding(9, "no store")
+    except OSError:
+        raise Finding(5, "disk fault")
+
+
+if __name__ == "__main__":
+    try:
+        print("canonical", check(sys.argv[1:]))
+    except Finding as finding:
+        print(finding.args[1])
+        sys.exit(finding.args[0])
