@@ -1,9 +1,7 @@
 -- Records under their numbers.
 use Rattle.std.proofs.Common.{◌≡◌, ◌≢◌, ℕ, zero, suc, ◌<◌, Bool, true, false, cond, eqb, List, [], ◌∷◌, ◌++◌, length, get_or, map, Option, Some, None, refl, ap, sym, ◌∙◌, inl, inr, arith}
-use Rattle.std.proofs.lemmas.Bool.{cases_eq, cases_lt}
-use Rattle.std.proofs.lemmas.List.Folds.{find-append}
+use Rattle.std.proofs.lemmas.Bool.{cases_lt}
 use Rattle.std.specs.Cmp.{nat_cmp_is}
-use Rattle.std.specs.Option.{option_or}
 use Rattle.std.specs.declared.cmp.Ordering.TheVariants.{Less, Equal, Greater}
 use Rattle.std.proofs.lemmas.Bool.Decides.{nat_tests}
 use Rattle.std.proofs.lemmas.List.{get_or-map, length-map}
@@ -59,35 +57,14 @@ pub ballot_found : (records : List Record) (number : ℕ) (r : Record) → IsFou
 ballot_found records number r found d same =
     (found.place, omega (arith, length-map records ballot, found.within), get_or-map ballot records found.place r d found.within ∙ ap ballot (found.is r))
 
-same_number : (a b : ℕ) → a ≡ b → is_eq (nat_cmp a b) ≡ true
+pub same_number : (a b : ℕ) → a ≡ b → is_eq (nat_cmp a b) ≡ true
 same_number a b same = ap is_eq (sym (nat_cmp_is a b Equal same))
 
-other_number : (a b : ℕ) → a ≢ b → is_eq (nat_cmp a b) ≡ false
+pub other_number : (a b : ℕ) → a ≢ b → is_eq (nat_cmp a b) ≡ false
 other_number a b other = elim (cases_lt a b) [
   | inl less ↦ ap is_eq (sym (nat_cmp_is a b Less less))
   | inr more ↦ ap is_eq (sym (nat_cmp_is a b Greater (omega arith)))
 ]
-
-or_none : (found : Option Record) → option_or found None ≡ found
-or_none None = refl
-or_none (Some r) = refl
-
--- an index with one record more
-pub index_grown : (old new : ℕ → Option Record) (records : List Record) (cast : Record) → ((number : ℕ) → old number ≡ found_in records number) → old cast.number ≡ None → ((number : ℕ) → new number ≡ cond (is_eq (nat_cmp cast.number number)) (Some cast) (old number)) → (number : ℕ) → new number ≡ found_in (records ++ cast ∷ []) number
-index_grown old new records cast indexed none updated number =
-    let last = λ (test : Bool). option_or (found_in records number) (cond test (Some cast) None) in
-    let all : found_in (records ++ cast ∷ []) number ≡ last (eqb cast.number number) = find-append (λ (r : Record). r.number == number) records (cast ∷ []) in
-    elim (cases_eq cast.number number) [
-      | inl same ↦
-          let test : eqb cast.number number ≡ true = grind (arith, nat_tests) in
-          let nothing : found_in records number ≡ None = sym (indexed number) ∙ ap old (sym same) ∙ none in
-          updated number ∙ ap (λ t. cond t (Some cast) (old number)) (same_number cast.number number same)
-          ∙ sym (all ∙ ap last test ∙ ap (λ (r : Option Record). option_or r (Some cast)) nothing)
-      | inr other ↦
-          let test : eqb cast.number number ≡ false = grind (arith, nat_tests) in
-          updated number ∙ ap (λ t. cond t (Some cast) (old number)) (other_number cast.number number other) ∙ indexed number
-          ∙ sym (all ∙ ap last test ∙ or_none (found_in records number))
-    ]
 
 -- a listing with one ballot more
 pub listing_grown : (e : Election) (ballots : List Ballot) (b : Ballot) → IsListing e ballots → IsValid e b → ((k : ℕ) (d : Ballot) → k < length ballots → (get_or ballots k d).number ≢ b.number) → IsListing e (ballots ++ b ∷ [])

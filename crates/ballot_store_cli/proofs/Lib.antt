@@ -13,4 +13,5 @@ mod OneElection
 mod OneInit
 mod OneSession
 mod Reading
+mod Slots
 mod Texts

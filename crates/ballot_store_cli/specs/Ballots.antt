@@ -1,11 +1,10 @@
 -- The ballots of the lines so far, and what the next line does to them.
-use Rattle.std.specs.Prelude.{◌≡◌, ◌≢◌, ℕ, ◌==◌, List, ◌++◌, [], ◌∷◌, length, find, map, Contains, Any, Result, Ok, Err}
-use Rattle.std.specs.Ordering.{nat_cmp}
-use Rattle.std.specs.BTreeMap.{get}
+use Rattle.std.specs.Prelude.{◌≡◌, ◌≢◌, ℕ, List, ◌++◌, [], ◌∷◌, length, map, Contains, Any, Result, Ok, Err}
 use Rattle.ballot_record.specs.Record.{ballot}
 use Rattle.ballot_record.specs.LineWhy.{reason}
 use Rattle.ballot_record.specs.declared.record.Record.{Record}
 use Rattle.ballot_record.specs.declared.fault.LineWhy.TheVariants.{Malformed, Invalid, Duplicate, Conflict, Full}
+use Rattle.ballot_store_cli.specs.Index.{IsIndexOf}
 use Rattle.ballot_store_cli.specs.declared.build.ballots.Ballots.{Ballots}
 use Rattle.ballot_store_cli.specs.declared.build.ballots.Refusal.{Refusal}
 use Rattle.ballot_store_cli.specs.declared.build.ballots.Refusal.TheVariants.{Bad, Memory}
@@ -20,7 +19,7 @@ ballots_so_far ballots = map ballot ballots.records.items
 
 -- each record is found by its number
 abbrev pub IsIndexed : Ballots → Type 0
-IsIndexed ballots = (number : ℕ) → get nat_cmp ballots.index number ≡ find (λ (r : Record). r.number == number) ballots.records.items
+IsIndexed ballots = IsIndexOf ballots.index ballots.records.items
 
 -- the ballots so far are the listing of a set that the election's store may hold, and are found by their numbers
 pub record IsSound (e : Election) (ballots : Ballots) : Type 0 where

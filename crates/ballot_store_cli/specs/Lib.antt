@@ -3,6 +3,7 @@ pub mod Ballots
 pub mod Build
 pub mod Command
 pub mod ElectionText
+pub mod Index
 pub mod Init
 pub mod Large
 pub mod Outcome

@@ -5,6 +5,7 @@ ghost use Rattle.outside_io.specs.Outside.{input, output, outside};
 ghost use Rattle.ballot_store_cli.specs.Status.{build_fault_status, ended_as};
 
 mod ballots;
+mod index;
 mod script;
 
 use ballot_record::{Election, LineWhy};

@@ -20,10 +20,11 @@ use outside_io::Memory;
 use std::alloc::Global;
 use std::marker::Model;
 
-/// A store between two phases: its election, the records that it holds, and the cells in which their numbers stand.
+/// A store between two phases: its election, the records that it holds, and the cells in which their numbers stand. An
+/// election has some thousand bytes, and a store is moved at each line of a session, so the election stands beside it.
 #[derive(Drop)]
 pub struct Closed {
-    election: Election,
+    election: Box<Election>,
     records: Vec<Record>,
     cells: Vec<u64>,
 }
@@ -47,8 +48,9 @@ impl Closed {
     {
         let records = Vec::new(alloc);
         let cells = records::layout(alloc, election, &records)?;
+        let own = Box::new(alloc, *election)?;
         Ok(Closed {
-            election: *election,
+            election: own,
             records,
             cells,
         })
@@ -69,8 +71,9 @@ impl Closed {
     {
         ballots.sort_unstable_by_key(|ballot| ballot.number);
         let cells = records::layout(alloc, election, &ballots)?;
+        let own = Box::new(alloc, *election)?;
         Ok(Closed {
-            election: *election,
+            election: own,
             records: ballots,
             cells,
         })
@@ -137,9 +140,10 @@ impl Closed {
         ensures stored { IfOk result IsStored }
     {
         let mut records = records::joined(alloc, &self.records, ballots)?;
-        records.sort_unstable_by_key(|record| record.number);
+        records.sort_by_key(|record| record.number)?;
+        let own = Box::new(alloc, *election)?;
         Ok(Closed {
-            election: *election,
+            election: own,
             records,
             cells,
         })
@@ -163,8 +167,9 @@ impl Closed {
             }) }
     {
         let records = records::without(alloc, &self.records, numbers)?;
+        let own = Box::new(alloc, *election)?;
         Ok(Closed {
-            election: *election,
+            election: own,
             records,
             cells,
         })

@@ -1,6 +1,6 @@
 -- The bytes of an image, piece by piece.
 use Rattle.std.proofs.Common.{◌≡◌, ℕ, zero, suc, ◌+◌, ◌*◌, ◌<◌, ◌≤◌, ⊎_elim, List, [], ◌∷◌, ◌++◌, length, get_or, take, drop, replicate, Some, None, refl, sym, ap, ◌∙◌, arith}
-use Rattle.std.proofs.Math.Seq.{take-add}
+use Rattle.std.proofs.Math.Seq.{take-add, drop-cons}
 use Rattle.std.proofs.lemmas.List.{length-append, length-take, length-drop, length-replicate, length-take-le, take_at, take-append-le, drop-append-le, drop_at, drop-drop}
 use Rattle.std.proofs.lemmas.List.Concat.{flat_map-cons}
 use Rattle.std.proofs.lemmas.List.Elements.{All-contains}
@@ -46,6 +46,16 @@ cell_of_found e ballots number b found = ap (λ o. option_map_or (ballot_bytes e
 
 pub cell_of_none : (e : Election) (ballots : List Ballot) (number : ℕ) → ballot_of ballots number ≡ None → cell_bytes e ballots number ≡ replicate (cell_size e) 0
 cell_of_none e ballots number none = ap (λ o. option_map_or (ballot_bytes e) o (replicate (cell_size e) 0)) none
+
+-- no ballot has number 0, so a cell with that number is empty
+pub cell_of_zero : (e own : Election) (ballots : List Ballot) → All (IsValid own) ballots → cell_bytes e ballots 0 ≡ replicate (cell_size e) 0
+cell_of_zero e own ballots valid = ⊎_elim
+    (λ (none : ballot_of ballots 0 ≡ None). cell_of_none e ballots 0 none)
+    (λ some.
+    let found = found_in ballots 0 some.0 some.1 in
+    let b_valid = All-contains (IsValid own) ballots some.0 valid found.0 in
+    absurd (omega (arith, b_valid.some_number, found.1)))
+    (option_cases (ballot_of ballots 0))
 
 pub length-cell_bytes : (e : Election) (ballots : List Ballot) (number : ℕ) → IsElection e → All (IsValid e) ballots → length (cell_bytes e ballots number) ≡ cell_size e
 length-cell_bytes e ballots number election valid = ⊎_elim
@@ -96,6 +106,17 @@ from_cell e ballots place within election valid there short =
     ∙ sym (drop-drop within (place * size) bytes)
     ∙ ap (drop within) (drop_pieces (cell_bytes e ballots) size cells place each there)
     ∙ drop-append-le within cell _ (omega (arith, each (get_or cells place 0)))
+
+-- from the first byte of a cell on
+pub from_whole_cells : (e : Election) (ballots : List Ballot) (place : ℕ) → IsElection e → All (IsValid e) ballots → place < length (cells_of e ballots)
+    → drop (32 + place * cell_size e) (image_of e ballots) ≡ flat_map (cell_bytes e ballots) (drop place (cells_of e ballots))
+from_whole_cells e ballots place election valid there =
+    let cells = cells_of e ballots in
+    let f = cell_bytes e ballots in
+    ap (λ n. drop n (image_of e ballots)) (let n : 32 + place * cell_size e ≡ 32 + (place * cell_size e + 0) = omega arith in n)
+    ∙ from_cell e ballots place 0 election valid there (omega arith)
+    ∙ sym (flat_map-cons f (get_or cells place 0) (drop (suc place) cells))
+    ∙ ap (flat_map f) (sym (drop-cons cells place 0 there))
 
 -- and so are the bytes up to its end
 pub part_of_cell : (e : Election) (ballots : List Ballot) (place within count : ℕ) → IsElection e → All (IsValid e) ballots → place < length (cells_of e ballots) → within + count ≤ cell_size e

@@ -1,6 +1,6 @@
 //! The image of a store, as a whole or a part of it.
 
-ghost use Rattle.std.specs.Prelude.{◌≡◌, ℕ, ◌+◌, ◌-◌, ◌≤◌, ◌<◌, List, take, drop, length, IfOk, IsPermutation};
+ghost use Rattle.std.specs.Prelude.{◌≡◌, ℕ, ◌+◌, ◌-◌, ◌*◌, ◌≤◌, ◌<◌, List, take, drop, length, flat_map, replicate, IfOk, IsPermutation};
 ghost use Rattle.body_store.specs.Contents.{IsStored};
 ghost use Rattle.store_spec.specs.Ballot.{Ballot};
 ghost use Rattle.store_spec.specs.Election.{IsElection, bank_size, cell_size};
@@ -17,6 +17,9 @@ pub const HEADER_BYTES: usize = 32;
 
 /// The most bytes of a cell: a number, a style and the mark sets of sixteen contests.
 const MAX_CELL_BYTES: usize = 73;
+
+/// How many bytes are cleared at once, so that they are still near when the ballots are written over them.
+const BLOCK_BYTES: usize = 1024;
 
 const MARK: [u8; 8] = *b"HIBSTORE";
 
@@ -76,7 +79,43 @@ fn put_piece(
     }
     let size = election.cell_bytes();
     let (place, within) = ((at - HEADER_BYTES) / size, (at - HEADER_BYTES) % size);
+    if within == 0 && size <= out.len() {
+        return put_cells(closed, election, &cells[place..], out);
+    }
     put_cell_from(closed, election, cells[place], within, out)
+}
+
+/// Writes the first of some cells, as many as a block has and there is room for. It answers how many bytes they have.
+fn put_cells(closed: &Closed, election: &Election, cells: &[u64], out: &mut [u8]) -> usize
+    requires own { election.now ≡ closed.now.election }
+    requires stored { IsStored closed.now }
+    requires some { 0 < length cells.now }
+    requires some_room { cell_size election.now ≤ length out.old }
+    ensures progress { 0 < result }
+    ensures within_room { result ≤ length out.old }
+    ensures bytes { take result out.new
+        ≡ take result (flat_map (cell_bytes election.now closed.now.ballots) cells.now) }
+{
+    let size = election.cell_bytes();
+    let count = cells.len().min(out.len().min(BLOCK_BYTES) / size);
+    put_block(closed, election, &cells[..count], &mut out[..count * size]);
+    count * size
+}
+
+/// Writes these cells of a store. All are empty at first, and those with a number are then written over.
+fn put_block(closed: &Closed, election: &Election, cells: &[u64], out: &mut [u8])
+    requires own { election.now ≡ closed.now.election }
+    requires stored { IsStored closed.now }
+    requires room { length out.old ≡ length cells.now * cell_size election.now }
+    ensures { out.new
+        ≡ flat_map (cell_bytes election.now closed.now.ballots) cells.now }
+{
+    let size = election.cell_bytes();
+    out.fill(0);
+    for place in 0..cells.len() {
+        let at = place * size;
+        put_cell(closed, election, cells[place], &mut out[at..at + size]);
+    }
 }
 
 /// Writes the cell of the ballot with this number from one of its bytes on. It answers how many bytes it wrote.
@@ -103,8 +142,20 @@ fn put_cell_from(
     put_from(&cell[..size], from, out)
 }
 
-/// Writes the cell of the ballot with this number, or zeros where none has it.
+/// Writes the cell of the ballot with this number over the zeros of an empty one. 0 is no ballot's number.
 fn put_cell(closed: &Closed, election: &Election, number: u64, out: &mut [u8])
+    requires own { election.now ≡ closed.now.election }
+    requires stored { IsStored closed.now }
+    requires blank { out.old ≡ replicate (cell_size election.now) 0 }
+    ensures { out.new ≡ cell_bytes election.now closed.now.ballots number }
+{
+    if number != 0 {
+        put_ballot(closed, election, number, out);
+    }
+}
+
+/// Writes the cell of the ballot with this number, or zeros where none has it.
+fn put_ballot(closed: &Closed, election: &Election, number: u64, out: &mut [u8])
     requires own { election.now ≡ closed.now.election }
     requires stored { IsStored closed.now }
     requires room { length out.old ≡ cell_size election.now }

@@ -5,6 +5,8 @@ ghost use Rattle.std.specs.Prelude.{◌≡◌, ◌∷◌, [], IfOk, map, replica
 ghost use Rattle.store_spec.specs.Ballot.{IsListing, IsWithinLimit, MARK_SETS};
 ghost use Rattle.store_spec.specs.Election.{example};
 
+mod running;
+
 use crate::find;
 use ballot_record::{Election, MAX_MARK_SETS, Record};
 use body_store::Closed;

@@ -35,13 +35,13 @@ acknowledged_at task set = []
 -- what a line did, with what is told of its reply, where this text was put
 abbrev pub effect_of : Answer → List ℕ → Effect
 effect_of answer text = record {
-  reply = told_at answer.task answer.gate.election answer.gate.closed.ballots text;
+  reply = told_at answer.task answer.gate.closed.election answer.gate.closed.ballots text;
   acknowledged = acknowledged_at answer.task answer.gate.closed.ballots;
   next = state_of answer.gate;
 }
 
 abbrev pub standing_of : Inside → Standing
-standing_of s = record { election = s.gate.election; state = state_of s.gate; telling = s.telling }
+standing_of s = record { election = s.gate.closed.election; state = state_of s.gate; telling = s.telling }
 
 -- this is the name of the phase
 abbrev pub IsNamed : Phase → session.Phase → Type 0

@@ -1,11 +1,10 @@
 //! A session without its surroundings: its phase, what waits for the close of it, and the closed store.
 
-ghost use Rattle.std.specs.Prelude.{◌≡◌, false};
+ghost use Rattle.std.specs.Prelude.{◌≡◌};
 ghost use Rattle.phase_gate.specs.Standing.{MayWait};
 ghost use Rattle.phase_gate.specs.Work.{phase_of};
 
 use crate::work::Work;
-use ballot_record::Election;
 use body_store::Closed;
 
 /// What a session is about.
@@ -24,11 +23,9 @@ pub enum Phase {
 /// A closed store, and the phase that will change it.
 #[derive(Drop)]
 pub struct Gate {
-    pub election: Election,
     pub closed: Closed,
     pub work: Work,
-    ghost own: { closed.election ≡ election },
-    ghost waiting: { MayWait election (phase_of work) },
+    ghost waiting: { MayWait closed.election (phase_of work) },
 }
 
 /// What is left to do for a line.

@@ -14,7 +14,6 @@ use crate::gate::{Answer, Gate, Phase, Task};
 use crate::telling::Telling;
 use crate::text::{push_count, tell_opening, tell_refusal};
 use crate::work::{Item, Kind, Queued, Work};
-use ballot_record::Election;
 use outside_io::{Memory, Turns};
 use script_lines::{Line, read_script_line};
 use std::alloc::Global;
@@ -46,11 +45,11 @@ impl Gate {
     ) -> Result<Answer, Memory>
         requires nothing { string_bytes reply.old ≡ [] }
         ensures answers { IfOk result (λ answer. Tells telling
-            (Answers self.election index (state_of self) (Some line.now))
+            (Answers self.closed.election index (state_of self) (Some line.now))
             (effect_of answer (string_bytes reply.new))) }
-        ensures election { IfOk result (λ answer. answer.gate.election ≡ self.election) }
+        ensures election { IfOk result (λ answer. answer.gate.closed.election ≡ self.closed.election) }
     {
-        match read_script_line(line, &self.election) {
+        match read_script_line(line, self.closed.election()) {
             Some(said) => self.perform(rt, alloc, said, index, turns, telling, reply),
             None => self.refuse(index, "malformed", telling, reply),
         }
@@ -67,12 +66,12 @@ impl Gate {
         telling: Telling,
         reply: &mut String,
     ) -> Result<Answer, Memory>
-        requires said { (bytes : List ℕ) × Says self.election bytes (script_line line) }
+        requires said { (bytes : List ℕ) × Says self.closed.election bytes (script_line line) }
         requires nothing { string_bytes reply.old ≡ [] }
         ensures does { IfOk result (λ answer. Tells telling
-            (Does self.election index (state_of self) (script_line line) (phase_of self.work))
+            (Does self.closed.election index (state_of self) (script_line line) (phase_of self.work))
             (effect_of answer (string_bytes reply.new))) }
-        ensures election { IfOk result (λ answer. answer.gate.election ≡ self.election) }
+        ensures election { IfOk result (λ answer. answer.gate.closed.election ≡ self.closed.election) }
     {
         match line {
             Line::OpenCast { tabs } => self.open(alloc, Kind::Casting, tabs, index, telling, reply),
@@ -114,7 +113,7 @@ impl Gate {
         requires nothing { string_bytes reply.old ≡ [] }
         ensures stays { IfOk result (λ answer. effect_of answer (string_bytes reply.new)
             ≡ as_told telling (stays (state_of self) (refusal index why.now))) }
-        ensures election { IfOk result (λ answer. answer.gate.election ≡ self.election) }
+        ensures election { IfOk result (λ answer. answer.gate.closed.election ≡ self.closed.election) }
     {
         tell_refusal(reply, telling, index, why)?;
         Ok(Answer::of(self))
@@ -130,7 +129,7 @@ impl Gate {
         requires nothing { string_bytes reply.old ≡ [] }
         ensures stays { IfOk result (λ answer. effect_of answer (string_bytes reply.new)
             ≡ as_told telling (stays (state_of self) (wrong_phase index (phase_of self.work)))) }
-        ensures election { IfOk result (λ answer. answer.gate.election ≡ self.election) }
+        ensures election { IfOk result (λ answer. answer.gate.closed.election ≡ self.closed.election) }
     {
         let why = self.work.refusal();
         self.refuse(index, why, telling, reply)
@@ -148,32 +147,19 @@ impl Gate {
     ) -> Result<Answer, Memory>
         requires tabs { IsTab tabs }
         requires nothing { string_bytes reply.old ≡ [] }
-        ensures does { IfOk result (λ answer. Tells telling (Does self.election index
+        ensures does { IfOk result (λ answer. Tells telling (Does self.closed.election index
             (state_of self) (said.Open (kind_of kind) tabs) (phase_of self.work))
             (effect_of answer (string_bytes reply.new))) }
-        ensures election { IfOk result (λ answer. answer.gate.election ≡ self.election) }
+        ensures election { IfOk result (λ answer. answer.gate.closed.election ≡ self.closed.election) }
     {
-        let Gate {
-            election,
-            closed,
-            work,
-        } = self;
+        let Gate { closed, work } = self;
         match work {
             Work::Closed => {
                 let work = Work::opened(alloc, kind, tabs)?;
                 tell_opening(reply, telling, kind, tabs)?;
-                Ok(Answer::of(Gate {
-                    election,
-                    closed,
-                    work,
-                }))
+                Ok(Answer::of(Gate { closed, work }))
             }
-            work => Gate {
-                election,
-                closed,
-                work,
-            }
-            .refuse_phase(index, telling, reply),
+            work => Gate { closed, work }.refuse_phase(index, telling, reply),
         }
     }
 
@@ -185,10 +171,10 @@ impl Gate {
         reply: &mut String,
     ) -> Result<Answer, Memory>
         requires nothing { string_bytes reply.old ≡ [] }
-        ensures does { (tab : ℕ) → IfOk result (λ answer. Tells telling (Does self.election index
+        ensures does { (tab : ℕ) → IfOk result (λ answer. Tells telling (Does self.closed.election index
             (state_of self) (said.CastInvalid tab) (phase_of self.work))
             (effect_of answer (string_bytes reply.new))) }
-        ensures election { IfOk result (λ answer. answer.gate.election ≡ self.election) }
+        ensures election { IfOk result (λ answer. answer.gate.closed.election ≡ self.closed.election) }
     {
         match self.phase() {
             Phase::Casting => self.refuse(index, "invalid", telling, reply),
@@ -206,25 +192,16 @@ impl Gate {
         reply: &mut String,
     ) -> Result<Answer, Memory>
         requires tab { IsTab tab }
-        requires item { CanWait self.election item }
+        requires item { CanWait self.closed.election item }
         requires nothing { string_bytes reply.old ≡ [] }
-        ensures does { IfOk result (λ answer. Tells telling (Does self.election index
+        ensures does { IfOk result (λ answer. Tells telling (Does self.closed.election index
             (state_of self) (item_line tab item) (phase_of self.work))
             (effect_of answer (string_bytes reply.new))) }
-        ensures election { IfOk result (λ answer. answer.gate.election ≡ self.election) }
+        ensures election { IfOk result (λ answer. answer.gate.closed.election ≡ self.closed.election) }
     {
-        let Gate {
-            election,
-            closed,
-            work,
-        } = self;
+        let Gate { closed, work } = self;
         let (work, queued) = work.wait(tab, item)?;
-        Gate {
-            election,
-            closed,
-            work,
-        }
-        .queued(queued, index, telling, reply)
+        Gate { closed, work }.queued(queued, index, telling, reply)
     }
 
     /// Answers for an item: it waits, or there is no such list, or the phase is another.
@@ -238,7 +215,7 @@ impl Gate {
         requires nothing { string_bytes reply.old ≡ [] }
         ensures effect { IfOk result (λ answer. effect_of answer (string_bytes reply.new)
             ≡ as_told telling (queued_effect index (state_of self) queued)) }
-        ensures election { IfOk result (λ answer. answer.gate.election ≡ self.election) }
+        ensures election { IfOk result (λ answer. answer.gate.closed.election ≡ self.closed.election) }
     {
         match queued {
             Queued::Waits => Ok(Answer::of(self)),
@@ -258,16 +235,13 @@ impl Gate {
         reply: &mut String,
     ) -> Result<Answer, Memory>
         requires nothing { string_bytes reply.old ≡ [] }
-        ensures does { IfOk result (λ answer. Tells telling (Does self.election index
+        ensures does { IfOk result (λ answer. Tells telling (Does self.closed.election index
             (state_of self) said.Close (phase_of self.work))
             (effect_of answer (string_bytes reply.new))) }
-        ensures election { IfOk result (λ answer. answer.gate.election ≡ self.election) }
+        ensures election { IfOk result (λ answer. answer.gate.closed.election ≡ self.closed.election) }
     {
-        let Gate {
-            election,
-            closed,
-            work,
-        } = self;
+        let Gate { closed, work } = self;
+        let election = *closed.election();
         let closed = match work {
             Work::Casting(lists) => {
                 close_casting(rt, alloc, closed, &election, &lists, turns, telling, reply)?
@@ -280,16 +254,10 @@ impl Gate {
                 closed
             }
             Work::Closed => {
-                return Gate {
-                    election,
-                    closed,
-                    work,
-                }
-                .refuse_phase(index, telling, reply);
+                return Gate { closed, work }.refuse_phase(index, telling, reply);
             }
         };
         Ok(Answer::of(Gate {
-            election,
             closed,
             work: Work::Closed,
         }))
@@ -298,10 +266,10 @@ impl Gate {
     /// The set is to be acknowledged.
     fn checkpoint(self, index: u64, telling: Telling, reply: &mut String) -> Result<Answer, Memory>
         requires nothing { string_bytes reply.old ≡ [] }
-        ensures does { IfOk result (λ answer. Tells telling (Does self.election index
+        ensures does { IfOk result (λ answer. Tells telling (Does self.closed.election index
             (state_of self) said.Checkpoint (phase_of self.work))
             (effect_of answer (string_bytes reply.new))) }
-        ensures election { IfOk result (λ answer. answer.gate.election ≡ self.election) }
+        ensures election { IfOk result (λ answer. answer.gate.closed.election ≡ self.closed.election) }
     {
         match self.phase() {
             Phase::Closed => {
@@ -318,10 +286,10 @@ impl Gate {
     /// The tally of the set is to be told.
     fn tally(self, index: u64, telling: Telling, reply: &mut String) -> Result<Answer, Memory>
         requires nothing { string_bytes reply.old ≡ [] }
-        ensures does { IfOk result (λ answer. Tells telling (Does self.election index
+        ensures does { IfOk result (λ answer. Tells telling (Does self.closed.election index
             (state_of self) said.Tally (phase_of self.work))
             (effect_of answer (string_bytes reply.new))) }
-        ensures election { IfOk result (λ answer. answer.gate.election ≡ self.election) }
+        ensures election { IfOk result (λ answer. answer.gate.closed.election ≡ self.closed.election) }
     {
         match self.phase() {
             Phase::Closed => Ok(Answer {
@@ -335,10 +303,10 @@ impl Gate {
     /// The export of the set is to be told. A summary has none of its lines.
     fn export(self, index: u64, telling: Telling, reply: &mut String) -> Result<Answer, Memory>
         requires nothing { string_bytes reply.old ≡ [] }
-        ensures does { IfOk result (λ answer. Tells telling (Does self.election index
+        ensures does { IfOk result (λ answer. Tells telling (Does self.closed.election index
             (state_of self) said.Export (phase_of self.work))
             (effect_of answer (string_bytes reply.new))) }
-        ensures election { IfOk result (λ answer. answer.gate.election ≡ self.election) }
+        ensures election { IfOk result (λ answer. answer.gate.closed.election ≡ self.closed.election) }
     {
         match self.phase() {
             Phase::Closed => Ok(Answer {

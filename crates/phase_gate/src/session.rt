@@ -63,9 +63,9 @@ impl Session {
         ensures begun { result.state ≡ begun closed.ballots }
         ensures telling { result.telling ≡ telling }
     {
+        let _ = election;
         Session {
             gate: Gate {
-                election,
                 closed,
                 work: Work::Closed,
             },
@@ -117,7 +117,7 @@ impl Session {
         )?;
         prepare(task, &gate, disk, scratch, report)?;
         report.held = gate.closed.len() as u32;
-        tell_task(alloc, task, &gate, &reply, out)?;
+        tell_task(rt, alloc, task, &gate, &reply, out)?;
         Ok(Session {
             gate,
             telling,
@@ -146,14 +146,14 @@ fn prepare<D: Disk>(
     report: &mut Report,
 ) -> Result<(), SessionFault>
     requires medium { (set : List Ballot) × IsMediumNow
-        (disk_model D.seen D.calls D.may_leave D.faults) gate.now.election set disk.old }
+        (disk_model D.seen D.calls D.may_leave D.faults) gate.now.closed.election set disk.old }
     ensures acknowledged { OnOk result (Acknowledges
         (disk_model D.seen D.calls D.may_leave D.faults)
-        gate.now.election (acknowledged_at task gate.now.closed.ballots) disk.old disk.new
+        gate.now.closed.election (acknowledged_at task gate.now.closed.ballots) disk.old disk.new
         report.old.marks.items report.new.marks.items) }
     ensures refused { IfErr result (λ fault. (task ≡ Task.Acknowledge) × NotAcknowledged
         (disk_model D.seen D.calls D.may_leave D.faults)
-        gate.now.election gate.now.closed.ballots disk.old disk.new fault) }
+        gate.now.closed.election gate.now.closed.ballots disk.old disk.new fault) }
     ensures marks { OnErr result (report.new.marks.items ≡ report.old.marks.items) }
     ensures held { report.new.held ≡ report.old.held }
 {
@@ -171,21 +171,21 @@ fn acknowledge<D: Disk>(
     report: &mut Report,
 ) -> Result<(), SessionFault>
     requires medium { (set : List Ballot) × IsMediumNow
-        (disk_model D.seen D.calls D.may_leave D.faults) gate.now.election set disk.old }
+        (disk_model D.seen D.calls D.may_leave D.faults) gate.now.closed.election set disk.old }
     ensures acknowledged { OnOk result (Acknowledges
         (disk_model D.seen D.calls D.may_leave D.faults)
-        gate.now.election (gate.now.closed.ballots ∷ []) disk.old disk.new
+        gate.now.closed.election (gate.now.closed.ballots ∷ []) disk.old disk.new
         report.old.marks.items report.new.marks.items) }
     ensures refused { IfErr result (NotAcknowledged
         (disk_model D.seen D.calls D.may_leave D.faults)
-        gate.now.election gate.now.closed.ballots disk.old disk.new) }
+        gate.now.closed.election gate.now.closed.ballots disk.old disk.new) }
     ensures marks { OnErr result (report.new.marks.items ≡ report.old.marks.items) }
     ensures held { report.new.held ≡ report.old.held }
 {
     if report.marks.reserve(1).is_err() {
         return Err(SessionFault::Memory);
     }
-    if checkpoint(disk, &gate.closed, &gate.election, scratch).is_err() {
+    if checkpoint(disk, &gate.closed, gate.closed.election(), scratch).is_err() {
         return Err(SessionFault::DiskFault);
     }
     report.marks.push_reserved(disk.calls());

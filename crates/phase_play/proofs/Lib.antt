@@ -1,11 +1,5 @@
-pub mod CastEnds
 pub mod Closing
-pub mod Cores
-pub mod Outcomes
 pub mod Playing
 pub mod Rows
 pub mod Sequence
-pub mod Starts
-pub mod Told
-pub mod WithdrawEnds
 pub mod Withdrawals

@@ -1,170 +1,171 @@
 -- What a phase that was played leads to.
-use Rattle.std.proofs.Common.{◌≡◌, ◌≢◌, ℕ, ◌+◌, ◌<◌, ⊎_elim, Option, None, Bool, false, not, ◌==◌, List, [], ◌∷◌, ◌++◌, length, map, take, refl, sym, ap, ◌∙◌, subst, arith}
-use Rattle.std.proofs.lemmas.List.{length-map, map-append, map-id}
-use Rattle.std.proofs.lemmas.List.Elements.{All-append, All-filter, All-head, All-map, All-nil, All-tail}
-use Rattle.std.proofs.lemmas.List.Folds.{flat_map-map}
-use Rattle.std.proofs.lemmas.Option.{slice_get-get_or}
+use Rattle.std.proofs.Common.{◌≡◌, ℕ, ◌≤◌, ⊎_elim, None, Bool, false, List, [], ◌∷◌, length, map, refl, sym, ap, ◌∙◌, subst, arith}
+use Rattle.std.proofs.lemmas.List.{length-map, map-id}
+use Rattle.std.proofs.lemmas.List.Elements.{All-cons, All-head, All-map, All-nil, All-tail}
 use Rattle.std.proofs.lemmas.Simd.{map-map}
-use Rattle.std.specs.List.{All, AllPairs, Contains, filter, flat_map, list_any}
-use Rattle.std.specs.List.Sorted.{IsPermutation}
-use Rattle.std.specs.Option.{option_map_or}
+use Rattle.std.specs.List.{All, Contains, zip}
 use Rattle.std.specs.Prelude.{IsTrue, is_some, ◌↔◌}
-use Rattle.ballot_record.proofs.BallotNumbers.{ballot_with, contains_number, length-numbers_of, pairs_of_ballots}
+use Rattle.ballot_record.proofs.BallotNumbers.{ballot_with, contains_number}
 use Rattle.ballot_record.proofs.Lookups.{found_in, missing_from, option_cases}
-use Rattle.body_store.specs.Contents.{Contents, IsStored}
-use Rattle.phase_play.proofs.Outcomes.{outcome}
-use Rattle.phase_play.proofs.Rows.{all_rows, filter_of_map, map_twice, rows_more}
-use Rattle.phase_play.proofs.Told.{all_answers_met, all_ballots_met, answer, answer_of, line, numbers_accepted, told_part}
-use Rattle.phase_play.specs.Ended.{CastingEnded, WithdrawingEnded, numbers_after}
-use Rattle.phase_play.specs.Plays.{PlaysCasting, PlaysFinding, PlaysWithdrawing, is_present}
-use Rattle.phase_play.specs.Told.{TellsAll, Told, accepted_of, all_accepted, meeting, met_in, mets_in}
-use Rattle.step_core.proofs.Sets.{All-from_map}
-use Rattle.step_core.specs.Casting as casting
-use Rattle.step_core.specs.Casting.{Casting}
-use Rattle.step_core.specs.Withdrawing as withdrawing
-use Rattle.step_core.specs.Withdrawing.{Withdrawing}
-use Rattle.store_spec.specs.Ballot.{Ballot, IsBallotSet, IsListing, IsValid, IsWithinLimit, ballot_of, numbers_of}
-use Rattle.store_spec.specs.BallotPhase.{CastLine, CastReply}
-use Rattle.store_spec.specs.Election.{Election, cell_count}
-use Rattle.store_spec.specs.Home.{home_in}
-use Rattle.store_spec.specs.Image.{cells_of}
-use Rattle.store_spec.specs.Layout.{layout_of}
-use Rattle.store_spec.specs.Phase.{Answer, CastOutcome, Met, accepted_in, is_accepted}
+use Rattle.ballot_record.specs.Record.{ballot}
+use Rattle.ballot_record.specs.declared.record.Record.{Record}
+use Rattle.body_store.specs.Contents.{Contents, ballots_of}
+use Rattle.phase_delete.proofs.Whole.{listed_is}
+use Rattle.phase_delete.proofs.WithdrawnLists.{trays_are_lists as trays_of_withdrawers}
+use Rattle.phase_delete.specs.Closing as withdrawn
+use Rattle.phase_delete.specs.Running.{HasWithdrawn}
+use Rattle.phase_delete.specs.WithdrawPhase as deleting
+use Rattle.phase_delete.specs.Withdrawer as workers
+use Rattle.phase_delete.specs.Withdrawer.{WithdrawerView, new_withdrawer}
+use Rattle.phase_delete.specs.Tray as tray
+use Rattle.phase_delete.specs.declared.reply.Withdrawal.{Withdrawal as Told}
+use Rattle.phase_find.specs.Present.{is_present}
+use Rattle.phase_insert.proofs.CastLists.{trays_are_lists}
+use Rattle.phase_insert.specs.CastPhase.{Phase}
+use Rattle.phase_insert.specs.Running.{HasCast}
+use Rattle.phase_insert.specs.Tabulator.{AreAll, TabulatorView, new_tabulator}
+use Rattle.phase_insert.specs.Closing.{ClosesAs, beside, line, reply_of}
+use Rattle.phase_insert.specs.declared.reply.Cast.{Cast}
+use Rattle.phase_insert.specs.declared.reply.Final.{Final}
+use Rattle.phase_play.proofs.Rows.{map_twice}
+use Rattle.phase_play.specs.Plays.{PlaysCasting, PlaysFinding, PlaysWithdrawing}
+use Rattle.step_core.specs.WithdrawCore as core
+use Rattle.step_core.specs.declared.withdrawer.WithdrawReply.{WithdrawReply}
+use Rattle.store_spec.specs.Ballot.{Ballot, ballot_of, numbers_of}
+use Rattle.store_spec.specs.BallotPhase.{BallotOutcome, CastLine}
+use Rattle.store_spec.specs.Election.{Election}
 use Rattle.store_spec.specs.Session.{ballots_without}
-use Rattle.store_spec.specs.WithdrawStep.WithdrawState.{Rest}
-use Rattle.store_spec.specs.WithdrawPhase.{Finding, Withdrawal, WithdrawOutcome, WithdrawReply, listed, without}
+use Rattle.word_rule.proofs.AtPlaces.{planned_room}
+use Rattle.store_spec.specs.WithdrawPhase.{Finding, Withdrawal}
 
 -- ---- casting
 
--- what holds of the ballots of lists holds of those that are accepted
-one_accepted_of : (P : Ballot → Type 0) (list : List (Ballot × Met)) → All P (map (λ m. m.0) list) → All P (accepted_of list)
-one_accepted_of P list each =
-    All-map P (λ (m : Ballot × Met). m.0) (filter (λ (m : Ballot × Met). is_accepted m.1) list)
-    (All-filter (λ (m : Ballot × Met). is_accepted m.1) (λ (m : Ballot × Met). P m.0) list (All-from_map P (λ (m : Ballot × Met). m.0) list each))
+-- two lists side by side, one of them
+left_of : {X Y : Type 0} (xs : List X) (ys : List Y) → length ys ≡ length xs → map (λ p. p.0) (zip xs ys) ≡ xs
+left_of [] ys same = refl
+left_of (x ∷ xs) [] same = absurd (omega arith)
+left_of (x ∷ xs) (y ∷ ys) same = ap (λ l. x ∷ l) (left_of xs ys (omega arith))
 
-all_accepted_of : (P : Ballot → Type 0) (met : List (List (Ballot × Met))) → All (All P) (map (map (λ m. m.0)) met) → All P (all_accepted met)
-all_accepted_of P [] each = All-nil P
-all_accepted_of P (list ∷ met) each =
-    let rest = map (map (λ (m : Ballot × Met). m.0)) met in
-    All-append P (accepted_of list) (all_accepted met)
-    (one_accepted_of P list (All-head (All P) (map (λ (m : Ballot × Met). m.0) list) rest each))
-    (all_accepted_of P met (All-tail (All P) (map (λ (m : Ballot × Met). m.0) list) rest each))
+right_of : {X Y : Type 0} (xs : List X) (ys : List Y) → length ys ≡ length xs → map (λ p. p.1) (zip xs ys) ≡ ys
+right_of [] [] same = refl
+right_of [] (y ∷ ys) same = absurd (omega arith)
+right_of (x ∷ xs) [] same = absurd (omega arith)
+right_of (x ∷ xs) (y ∷ ys) same = ap (λ l. y ∷ l) (right_of xs ys (omega arith))
 
--- what a core of casting asks and tells at its end, of the base and of what is accepted
-pub record MayMerge (e : Election) (base accepted : List Ballot) (cells : List ℕ) : Type 0 where
-  pub listing : IsListing e (base ++ accepted)
-  pub within_limit : IsWithinLimit e (base ++ accepted)
-  pub layout : cells ≡ cells_of e (base ++ accepted)
+-- trays beside final replies, one of them
+trays_of : (trays : List (List Cast)) (finals : List (List Final)) → map length finals ≡ map length trays → map (map (λ told. told.0)) (beside trays finals) ≡ trays
+trays_of [] finals same = refl
+trays_of (tray ∷ trays) [] same = absurd cc
+trays_of (tray ∷ trays) (list ∷ finals) same =
+    let first : length list ≡ length tray = cc in
+    let rest : map length finals ≡ map length trays = cc in
+    ap (λ l. l ∷ map (map (λ (told : Cast × Final). told.0)) (beside trays finals)) (left_of tray list first)
+    ∙ ap (λ l. tray ∷ l) (trays_of trays finals rest)
 
-module _ (e : Election) (base : List Ballot) (work : List (List Ballot)) (c : Casting) (over : CastingEnded e base work c) where
-  abbrev met : List (List (Ballot × Met))
-  met = met_in work (mets_in c)
+finals_of : (trays : List (List Cast)) (finals : List (List Final)) → map length finals ≡ map length trays → map (map (λ told. told.1)) (beside trays finals) ≡ finals
+finals_of [] [] same = refl
+finals_of [] (list ∷ finals) same = absurd cc
+finals_of (tray ∷ trays) [] same = absurd cc
+finals_of (tray ∷ trays) (list ∷ finals) same =
+    let first : length list ≡ length tray = cc in
+    let rest : map length finals ≡ map length trays = cc in
+    ap (λ l. l ∷ map (map (λ (told : Cast × Final). told.1)) (beside trays finals)) (right_of tray list first)
+    ∙ ap (λ l. list ∷ l) (finals_of trays finals rest)
 
-  mets_are : mets_in c ≡ map (map (λ a. a.met)) (casting.answers_in c)
-  mets_are = sym (map-map (map (λ (a : Answer). a.met)) (λ (tab : casting.Tabulator). tab.answers) c.tabs)
+-- the ballots of trays, and the final replies beside them
+pub plays_casting : (e : Election) (base : Contents) (trays : List (List Cast)) (finals : List (List Final)) (work : List (List Ballot)) (after : List Ballot) → base.election ≡ e → ClosesAs base trays finals after → map (map (λ c. ballot c.ballot)) trays ≡ work → PlaysCasting e base.ballots work (map (map reply_of) finals) after
+plays_casting e base trays finals work after own closes are =
+    let rows = beside trays finals in
+    record {
+      lines = map (map line) rows;
+      of_work =
+          map_twice (λ (l : CastLine). l.ballot) line rows
+          ∙ sym (map_twice (λ (c : Cast). ballot c.ballot) (λ (told : Cast × Final). told.0) rows)
+          ∙ ap (map (map (λ (c : Cast). ballot c.ballot))) (trays_of trays finals closes.as_many)
+          ∙ are;
+      of_replies =
+          map_twice (λ (l : CastLine). l.reply) line rows
+          ∙ sym (map_twice reply_of (λ (told : Cast × Final). told.1) rows)
+          ∙ ap (map (map reply_of)) (finals_of trays finals closes.as_many);
+      outcome = subst (λ (f : Election). BallotOutcome f base.ballots (map (map line) rows) after) own closes.outcome;
+    }
 
-  listed_are : map (map (λ a. a.number)) (casting.answers_in c) ≡ map numbers_of work
-  listed_are = map-map (map (λ (a : Answer). a.number)) (λ (tab : casting.Tabulator). tab.answers) c.tabs ∙ over.lists
+-- the ballots of the trays of tabulators, by their records
+rows_of_records : (tabs : List TabulatorView) → map (λ tab. map (λ c. ballot c.ballot) tab.tray) tabs ≡ map ballots_of (map (λ tab. map (λ c. c.ballot) tab.tray) tabs)
+rows_of_records [] = refl
+rows_of_records (tab ∷ tabs) = ap (λ l. l ∷ map (λ (t : TabulatorView). map (λ (c : Cast). ballot c.ballot) t.tray) tabs) (sym (map-map ballot (λ (c : Cast). c.ballot) tab.tray)) ∙ ap (λ l. ballots_of (map (λ (c : Cast). c.ballot) tab.tray) ∷ l) (rows_of_records tabs)
 
-  of_ballots : map (map (λ m. m.0)) met ≡ work
-  of_ballots = ap (λ mets. map (map (λ (m : Ballot × Met). m.0)) (met_in work mets)) mets_are ∙ all_ballots_met work (casting.answers_in c) listed_are
+-- tabulators that began with room for their lists, and have cast them
+module _ {V : Type 0} (items : V → List Record) (phase : Phase) where
+  abbrev pub began : List V → List TabulatorView
+  began work = map (new_tabulator phase) (map (λ list. length (items list)) work)
 
-  of_answers : map (map answer_of) met ≡ casting.answers_in c
-  of_answers = ap (λ mets. map (map answer_of) (met_in work mets)) mets_are ∙ all_answers_met work (casting.answers_in c) listed_are
+  module _ (work : List V) (before : List TabulatorView) (are : before ≡ began work) where
+    as_many : length before ≡ length work
+    as_many = omega (arith, ap length are, length-map (map (λ list. length (items list)) work) (new_tabulator phase), length-map work (λ list. length (items list)))
 
-  numbers_are : numbers_of (base ++ all_accepted met) ≡ numbers_after base c
-  numbers_are =
-      map-append (λ (b : Ballot). b.number) base (all_accepted met)
-      ∙ ap (λ ns. numbers_of base ++ ns) (sym (numbers_accepted met) ∙ ap accepted_in of_answers)
+    pub cast_belong : All (λ tab. tab.phase ≡ phase) before
+    cast_belong = subst (λ (tabs : List TabulatorView). All (λ tab. tab.phase ≡ phase) tabs) (sym are) (All-map (λ (tab : TabulatorView). tab.phase ≡ phase) (new_tabulator phase) (map (λ list. length (items list)) work) (λ k d within. refl))
 
-  -- the accepted ballots may be merged with the base, whose cells are those of the core
-  pub may_merge : (accepted : List Ballot) (cells : List ℕ) → All (All (IsValid e)) work → accepted ≡ all_accepted met → cells ≡ casting.cells_in c → MayMerge e base accepted cells
-  may_merge accepted cells valid is own =
-      let listed = subst (λ (lists : List (List Ballot)). All (All (IsValid e)) lists) (sym of_ballots) valid in
-      let same : numbers_of (base ++ accepted) ≡ numbers_after base c = ap (λ bs. numbers_of (base ++ bs)) is ∙ numbers_are in
-      record {
-        listing = record {
-          valid = All-append (IsValid e) base accepted over.set.valid (subst (λ (bs : List Ballot). All (IsValid e) bs) (sym is) (all_accepted_of (IsValid e) met listed));
-          distinct = pairs_of_ballots (λ a b. a ≢ b) (base ++ accepted) (subst (λ (ns : List ℕ). AllPairs (λ a b. a ≢ b) ns) (sym same) over.outcome.distinct);
-        };
-        within_limit = let few = over.within_limit in omega (arith, length-numbers_of (base ++ accepted), ap length same);
-        layout = own ∙ over.layout ∙ ap (layout_of (home_in e) (cell_count e)) (sym same);
-      }
+    pub cast_may : All (λ at. length (items at.1) ≤ at.0.room) (zip before work)
+    cast_may = subst (λ (tabs : List TabulatorView). All (λ at. length (items at.1) ≤ at.0.room) (zip tabs work)) (sym are) (planned_room (λ (tab : TabulatorView). tab.room) (new_tabulator phase) (λ list. length (items list)) (λ n. omega arith) work)
 
-  pub plays_casting : (after : Contents) (accepted : List Ballot) (replies : List (List CastReply)) → after.election ≡ e → IsStored after → accepted ≡ all_accepted met → IsPermutation (base ++ accepted) after.ballots → TellsAll after.ballots met replies → PlaysCasting e base work replies after.ballots
-  plays_casting after accepted replies own stored is gains tells =
-      let told = tells.told in
-      let ballots : map (map (λ (t : Told). t.ballot)) told ≡ work =
-      told_part (λ (t : Told). t.ballot) (λ (m : Ballot × Met). m.0) (λ t. refl) told ∙ ap (map (map (λ (m : Ballot × Met). m.0))) tells.of_met ∙ of_ballots in
-      let answers : map (map answer) told ≡ casting.answers_in c =
-      told_part answer answer_of (λ t. refl) told ∙ ap (map (map answer_of)) tells.of_met ∙ of_answers in
-      let same : accepted ≡ all_accepted (map (map meeting) told) = is ∙ ap all_accepted (sym tells.of_met) in
-      let numbers : numbers_after base c ≡ numbers_of (base ++ all_accepted (map (map meeting) told)) = sym numbers_are ∙ ap (λ m. numbers_of (base ++ all_accepted m)) (sym tells.of_met) in
-      record {
-        lines = map (map line) told;
-        of_work = map_twice (λ (l : CastLine). l.ballot) line told ∙ ballots;
-        of_replies = map_twice (λ (l : CastLine). l.reply) line told ∙ tells.of_replies;
-        outcome = outcome e base after.ballots told
-            (subst (λ (f : Election). IsBallotSet f after.ballots) own stored.set)
-            (subst (λ (f : Election). IsWithinLimit f after.ballots) own stored.within_limit)
-            (subst (λ (bs : List Ballot). IsPermutation (base ++ bs) after.ballots) same gains)
-            tells.each
-            (subst (λ (ls : List (List Answer)). CastOutcome e.limit (numbers_of base) ls (numbers_of (base ++ all_accepted (map (map meeting) told)))) (sym answers)
-            (subst (λ (ns : List ℕ). CastOutcome e.limit (numbers_of base) (casting.answers_in c) ns) numbers over.outcome));
-      }
+    -- all of them are there at the close, and their trays have the ballots of the lists
+    pub cast_all : (after whole : List TabulatorView) → length after ≡ length before → whole ≡ after → phase.words.seats ≡ length work → All (λ tab. tab.phase ≡ phase) after → AreAll phase whole
+    cast_all after whole same is seats belong = subst (AreAll phase) (sym is) (record { all = same ∙ as_many ∙ sym seats; belong = belong })
+
+    pub cast_trays : (after whole : List TabulatorView) → length after ≡ length before → whole ≡ after → All (λ at. HasCast at.0 (items at.1.0) at.1.1) (zip before (zip work after)) → map (map (λ c. ballot c.ballot)) (map (λ tab. tab.tray) whole) ≡ map (λ list. ballots_of (items list)) work
+    cast_trays after whole same is each =
+        let plan = map (λ list. length (items list)) work in
+        let cast = subst (λ (tabs : List TabulatorView). All (λ at. HasCast at.0 (items at.1.0) at.1.1) (zip tabs (zip work after))) are each in
+        let records = trays_are_lists items phase plan after work (length-map work (λ list. length (items list))) (same ∙ ap length are) cast in
+        ap (λ (tabs : List TabulatorView). map (map (λ (c : Cast). ballot c.ballot)) (map (λ (tab : TabulatorView). tab.tray) tabs)) is
+        ∙ map-map (map (λ (c : Cast). ballot c.ballot)) (λ (tab : TabulatorView). tab.tray) after
+        ∙ rows_of_records after
+        ∙ ap (map ballots_of) records
+        ∙ map-map ballots_of items work
 
 -- ---- withdrawing
 
--- the numbers of what is left are what is left of the numbers
-pub numbers_left : (base : List Ballot) (numbers : List ℕ) → numbers_of (ballots_without base numbers) ≡ without (numbers_of base) numbers
-numbers_left base numbers = sym (filter_of_map (λ x. not (list_any (λ other. other == x) numbers)) (λ (b : Ballot). b.number) base)
+-- the numbers of trays, and their replies
+pub plays_withdrawing : (base : Contents) (trays : List (List Told)) (replies : List (List WithdrawReply)) (work : List (List ℕ)) (after : List Ballot) → withdrawn.ClosesAs base trays replies after → map (map (λ w. w.number)) trays ≡ work → PlaysWithdrawing base.ballots work (map (map core.reply_of) replies) after
+plays_withdrawing base trays replies work after closes are = record {
+  lines = withdrawn.lines_of trays;
+  of_work = map_twice (λ (a : Withdrawal). a.number) tray.line trays ∙ are;
+  of_replies =
+      map_twice (λ (a : Withdrawal). a.reply) tray.line trays
+      ∙ sym (map_twice core.reply_of (λ (w : Told). w.reply) trays)
+      ∙ ap (map (map core.reply_of)) (sym closes.of_trays);
+  rest = closes.rest ∙ ap (ballots_without base.ballots) (sym (listed_is trays));
+  outcome = closes.outcome;
+}
 
-abbrev no_withdrawer : withdrawing.Withdrawer
-no_withdrawer = record { state = Rest; answers = []; left = [] }
+-- withdrawers that began with room for their lists, and have withdrawn them
+module _ {V : Type 0} (items : V → List ℕ) (phase : deleting.Phase) where
+  abbrev pub began_to_withdraw : List V → List WithdrawerView
+  began_to_withdraw work = map (new_withdrawer phase) (map (λ list. length (items list)) work)
 
-abbrev pub replies_of : withdrawing.Withdrawer → List WithdrawReply
-replies_of tab = map (λ a. a.reply) tab.answers
+  module _ (work : List V) (before : List WithdrawerView) (are : before ≡ began_to_withdraw work) where
+    as_many_withdrawers : length before ≡ length work
+    as_many_withdrawers = omega (arith, ap length are, length-map (map (λ list. length (items list)) work) (new_withdrawer phase), length-map work (λ list. length (items list)))
 
--- one list of replies more
-pub one_list_more : {V : Type 0} (replies : V → List WithdrawReply) (w : Withdrawing) (i : ℕ) (lists lists_now : List V) (list : V) → i < length w.tabs → lists_now ≡ lists ++ list ∷ [] → map replies lists ≡ map replies_of (take i w.tabs) → replies list ≡ withdrawing.replies_at w i → map replies lists_now ≡ map replies_of (take (i + 1) w.tabs)
-one_list_more replies w i lists lists_now list within more so_far is =
-    rows_more replies replies_of lists lists_now w.tabs i list no_withdrawer within more so_far
-    (is ∙ ap (λ (o : Option withdrawing.Withdrawer). option_map_or replies_of o []) (slice_get-get_or w.tabs i no_withdrawer within))
+    pub withdrawing_belong : All (λ tab. tab.phase ≡ phase) before
+    withdrawing_belong = subst (λ (tabs : List WithdrawerView). All (λ tab. tab.phase ≡ phase) tabs) (sym are) (All-map (λ (tab : WithdrawerView). tab.phase ≡ phase) (new_withdrawer phase) (map (λ list. length (items list)) work) (λ k d within. refl))
 
-pub all_lists : {V : Type 0} (replies : V → List WithdrawReply) (w : Withdrawing) (i : ℕ) (lists : List V) → i ≡ length w.tabs → map replies lists ≡ map replies_of (take i w.tabs) → map replies lists ≡ map (map (λ a. a.reply)) (withdrawing.answers_in w)
-all_lists replies w i lists all so_far =
-    all_rows replies_of w.tabs (map replies lists) i all so_far
-    ∙ sym (map-map (map (λ (a : Withdrawal). a.reply)) (λ (tab : withdrawing.Withdrawer). tab.answers) w.tabs)
+    pub withdrawing_may : All (λ at. length (items at.1) ≤ at.0.room) (zip before work)
+    withdrawing_may = subst (λ (tabs : List WithdrawerView). All (λ at. length (items at.1) ≤ at.0.room) (zip tabs work)) (sym are) (planned_room (λ (tab : WithdrawerView). tab.room) (new_withdrawer phase) (λ list. length (items list)) (λ n. omega arith) work)
 
-module _ {V : Type 0} (items : V → List ℕ) (e : Election) (base : List Ballot) (work : List V) (w : Withdrawing) (over : WithdrawingEnded e base (map items work) w) where
-  pub as_many_tabs : length w.tabs ≡ length work
-  as_many_tabs = omega (arith, ap length over.lists, length-map w.tabs (λ tab. map (λ a. a.number) tab.answers), length-map work items)
+    -- all of them are there at the close, and their trays have the numbers of the lists
+    pub withdrawing_all : (after whole : List WithdrawerView) → length after ≡ length before → whole ≡ after → phase.words.seats ≡ length work → All (λ tab. tab.phase ≡ phase) after → workers.AreAll phase whole
+    withdrawing_all after whole same is seats belong = subst (workers.AreAll phase) (sym is) (record { all = same ∙ as_many_withdrawers ∙ sym seats; belong = belong })
 
-  all_listed : listed (withdrawing.answers_in w) ≡ flat_map items work
-  all_listed =
-      flat_map-map (map (λ (a : Withdrawal). a.number)) (λ (tab : withdrawing.Withdrawer). tab.answers) w.tabs
-      ∙ sym (flat_map-map (λ (l : List ℕ). l) (λ (tab : withdrawing.Withdrawer). map (λ a. a.number) tab.answers) w.tabs)
-      ∙ ap (flat_map (λ (l : List ℕ). l)) over.lists
-      ∙ flat_map-map (λ (l : List ℕ). l) items work
-
-  -- the cells of the core are those of what is left
-  pub cells_left : (numbers cells : List ℕ) → numbers ≡ flat_map items work → cells ≡ withdrawing.cells_in w → cells ≡ cells_of e (ballots_without base numbers)
-  cells_left numbers cells all own =
-      own ∙ over.layout
-      ∙ ap (λ ns. layout_of (home_in e) (cell_count e) (without (numbers_of base) ns)) (all_listed ∙ sym all)
-      ∙ ap (layout_of (home_in e) (cell_count e)) (sym (numbers_left base numbers))
-
-  pub plays_withdrawing : (after : List Ballot) (numbers : List ℕ) (replies : List (List WithdrawReply)) → numbers ≡ flat_map items work → after ≡ ballots_without base numbers → replies ≡ map (map (λ a. a.reply)) (withdrawing.answers_in w) → PlaysWithdrawing base (map items work) replies after
-  plays_withdrawing after numbers replies all left told =
-      let lines = withdrawing.answers_in w in
-      let rest : after ≡ ballots_without base (listed lines) = left ∙ ap (ballots_without base) (all ∙ sym all_listed) in
-      record {
-        lines = lines;
-        of_work = map-map (map (λ (a : Withdrawal). a.number)) (λ (tab : withdrawing.Withdrawer). tab.answers) w.tabs ∙ over.lists;
-        of_replies = sym told;
-        rest = rest;
-        outcome = subst (λ (ns : List ℕ). WithdrawOutcome (numbers_of base) lines ns) (sym (ap numbers_of rest ∙ numbers_left base (listed lines))) over.outcome;
-      }
+    pub withdrawing_trays : (after whole : List WithdrawerView) → length after ≡ length before → whole ≡ after → All (λ at. HasWithdrawn at.0 (items at.1.0) at.1.1) (zip before (zip work after)) → map (map (λ w. w.number)) (map (λ tab. tab.tray) whole) ≡ map (λ list. items list) work
+    withdrawing_trays after whole same is each =
+        let plan = map (λ list. length (items list)) work in
+        let withdrawn = subst (λ (tabs : List WithdrawerView). All (λ at. HasWithdrawn at.0 (items at.1.0) at.1.1) (zip tabs (zip work after))) are each in
+        ap (λ (tabs : List WithdrawerView). map (map (λ (w : Told). w.number)) (map (λ (tab : WithdrawerView). tab.tray) tabs)) is
+        ∙ map-map (map (λ (w : Told). w.number)) (λ (tab : WithdrawerView). tab.tray) after
+        ∙ trays_of_withdrawers items phase plan after work (length-map work (λ list. length (items list))) (same ∙ ap length are) withdrawn
 
 -- ---- finding
 

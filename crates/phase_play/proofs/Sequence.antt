@@ -13,7 +13,7 @@ use Rattle.ballot_record.proofs.BallotNumbers.{ballot_with, contains_number}
 use Rattle.ballot_record.proofs.BallotSets.{in_order, in_order-IsPermutation, same_in_order, set_of_listing}
 use Rattle.ballot_record.proofs.Lookups.{found_in, missing_from, option_cases}
 use Rattle.body_store.proofs.BallotSets.{MayHold, limit-IsPermutation, may_hold_set}
-use Rattle.phase_play.proofs.Outcomes.{number_of_ballots}
+use Rattle.phase_insert.proofs.Outcome.{number_there}
 use Rattle.phase_play.specs.Plays.{PlaysCasting}
 use Rattle.store_spec.specs.Ballot.{Ballot, IsBallotSet, IsValid, IsWithinLimit, ballot_of, numbers_of}
 use Rattle.store_spec.specs.BallotPhase.{BallotOutcome, CastLine, CastReply, HasNumber, IsRight, MayPrecede, accepted_in, is_accepted}
@@ -133,7 +133,7 @@ joins e base start items b a valid from new room =
       right = All-push (RightFrom e base set) a.lines l
           (All-weaker (RightFrom e base a.end) (RightFrom e base set) (λ x h later on. h later (grows_on e a.end set later grows on)) a.lines a.right)
           (λ later on. (
-            λ held. new (still_numbered e base a.end b.number (grows_on e base start a.end from a.grows) (number_of_ballots base b.number held)),
+            λ held. new (still_numbered e base a.end b.number (grows_on e base start a.end from a.grows) (number_there base b.number held)),
             still_there e set later b on first_in,
           ));
       met = All-push (IsMet e set) a.lines l (All-weaker (IsMet e a.end) (IsMet e set) (λ x. met_later e a.end set x grows room) a.lines a.met)
@@ -169,7 +169,7 @@ one_more e base start items b from a valid = ⊎_elim
     not_accepted e base start items b Full a refl
     (λ later on.
     let same : later ≡ a.end = on.is ∙ ap (λ l. a.end ++ l) (on.stops full) ∙ append-nil a.end in
-    ((λ held. new (subst (λ (l : List Ballot). Contains (numbers_of l) b.number) same (number_of_ballots later b.number held))), ap length same ∙ full))
+    ((λ held. new (subst (λ (l : List Ballot). Contains (numbers_of l) b.number) same (number_there later b.number held))), ap length same ∙ full))
     (inl (refl, full)))
     (cases_lt (length a.end) e.limit))
     (λ some.

@@ -5,16 +5,19 @@ use Rattle.std.proofs.lemmas.List.{append-nil, append_assoc, map-append, map_pus
 use Rattle.std.proofs.lemmas.List.Elements.{All-cons, All-contains, All-map, All-nil, All-push, All-weaker, Contains-append_left, Contains-get_or, Contains-push, filter-append}
 use Rattle.std.proofs.lemmas.List.Quantifiers.{all_pairs_push}
 use Rattle.std.specs.List.{All, AllPairs, Contains, filter}
-use Rattle.phase_play.proofs.Playing.{numbers_left}
-use Rattle.phase_play.proofs.Starts.{valid_some}
+use Rattle.phase_delete.proofs.Left.{numbers_left}
 use Rattle.phase_play.specs.Plays.{PlaysWithdrawing}
 use Rattle.step_core.proofs.Sets.{All-flat_map, counted, once_distinct, stands_counted}
-use Rattle.store_spec.specs.Ballot.{Ballot, IsBallotSet, numbers_of}
+use Rattle.store_spec.specs.Ballot.{Ballot, IsBallotSet, IsValid, numbers_of}
 use Rattle.store_spec.specs.CastInvariant.{count_of}
 use Rattle.store_spec.specs.Election.{Election}
 use Rattle.store_spec.specs.Session.{ballots_without}
 use Rattle.store_spec.specs.WithdrawPhase.{IsRight, MayPrecede, Withdrawal, WithdrawReply, is_withdrawn, listed, withdrawn_in}
 use Rattle.store_spec.specs.WithdrawPhase.WithdrawReply.{Withdrawn, Gone, Absent}
+
+-- numbers of valid ballots are not 0
+valid_some : (e : Election) (ballots : List Ballot) → All (IsValid e) ballots → All (λ v. v ≢ 0) (numbers_of ballots)
+valid_some e ballots valid = All-map (λ v. v ≢ 0) (λ (b : Ballot). b.number) ballots (λ k d within zero. let some = (valid k d within).some_number in omega arith)
 
 abbrev withdrawn_of : List Withdrawal → List ℕ
 withdrawn_of lines = map (λ a. a.number) (filter (λ a. is_withdrawn a.reply) lines)

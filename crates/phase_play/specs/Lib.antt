@@ -1,3 +1,1 @@
-pub mod Ended
 pub mod Plays
-pub mod Told

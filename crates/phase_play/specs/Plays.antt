@@ -1,19 +1,10 @@
 -- What a phase that is played to its end leads to: a reply to each item of its lists, and the ballots after it.
-use Rattle.std.specs.Prelude.{◌≡◌, ℕ, Bool, List, map, is_some}
-use Rattle.phase_play.specs.declared.casting.Final.{Final}
-use Rattle.phase_play.specs.declared.casting.Final.TheVariants as finals
-use Rattle.store_spec.specs.Ballot.{Ballot, ballot_of, numbers_of}
+use Rattle.std.specs.Prelude.{◌≡◌, ℕ, Bool, List, map}
+use Rattle.store_spec.specs.Ballot.{Ballot, numbers_of}
 use Rattle.store_spec.specs.BallotPhase.{BallotOutcome, CastLine, CastReply}
-use Rattle.store_spec.specs.BallotPhase.CastReply.{Accepted, Duplicate, Conflict, Full}
 use Rattle.store_spec.specs.Election.{Election}
 use Rattle.store_spec.specs.Session.{ballots_without}
 use Rattle.store_spec.specs.WithdrawPhase.{Finding, FindOutcome, Withdrawal, WithdrawOutcome, WithdrawReply, listed}
-
-abbrev pub reply_of : Final → CastReply
-reply_of finals.Accepted = Accepted
-reply_of finals.Duplicate = Duplicate
-reply_of finals.Conflict = Conflict
-reply_of finals.Full = Full
 
 -- these ballots, with these replies, have the outcome of a casting phase
 pub record PlaysCasting (e : Election) (base : List Ballot) (work : List (List Ballot)) (replies : List (List CastReply)) (after : List Ballot) : Type 0 where
@@ -29,10 +20,6 @@ pub record PlaysWithdrawing (base : List Ballot) (work : List (List ℕ)) (repli
   pub of_replies : map (map (λ a. a.reply)) lines ≡ replies
   pub rest : after ≡ ballots_without base (listed lines)
   pub outcome : WithdrawOutcome (numbers_of base) lines (numbers_of after)
-
--- whether a ballot has this number
-abbrev pub is_present : List Ballot → ℕ → Bool
-is_present held number = is_some (ballot_of held number)
 
 -- these numbers, each present or not, have the outcome of a finding phase
 pub record PlaysFinding (held : List Ballot) (work : List (List ℕ)) (present : List (List Bool)) : Type 0 where

@@ -1,39 +1,33 @@
-//! A whole phase, from one closed store to the next: what waits in the lists is played to its end, and each item is
-//! answered.
+//! A whole phase, from one closed store to the next: what waits in the lists is played to its end by threads, one for each
+//! list, and each item is answered.
 #![tactic(auto)]
 
 mod casting;
 mod finding;
 pub mod laws;
-mod reply;
 #[cfg(test)]
 mod tests;
 mod withdrawing;
 
-ghost use Rattle.body_store.specs.Contents.{ballots_of};
-ghost use Rattle.std.specs.Prelude.{◌≡◌, IfOk};
-ghost use Rattle.store_spec.specs.Ballot.{numbers_of};
+ghost use Rattle.std.specs.Prelude.{◌≡◌, IfOk, length, map};
 
-use ballot_record::{Election, Record};
-pub use casting::{Final, play_casting};
+pub use casting::play_casting;
 pub use finding::play_finding;
 use outside_io::Memory;
-use probe_order::Salted;
+pub use phase_insert::Final;
 use std::alloc::Global;
 pub use withdrawing::play_withdrawing;
 
-fn order_of(election: &Election) -> Salted
-    ensures bits { result.bits ≡ election.now.bits }
-    ensures salt { result.salt ≡ election.now.salt }
+/// The plan of a phase: as much room for each list as it has items. A tray for 2^32 items and more is not to be had.
+fn plan_of<T>(alloc: Global, work: &[Vec<T>]) -> Result<Vec<u32>, Memory>
+    ensures { IfOk result (λ plan. plan.items ≡ map (λ list. length list.items) work.now) }
 {
-    Salted {
-        bits: election.bits(),
-        salt: election.salt(),
+    let mut plan = Vec::with_capacity(alloc, work.len())?;
+    for list in work {
+        let Ok(room) = u32::try_from(list.len()) else {
+            return Err(Memory);
+        };
+        plan.push(room)?;
     }
-}
-
-fn numbers(alloc: Global, records: &[Record]) -> Result<Vec<u64>, Memory>
-    ensures { IfOk result (λ numbers. numbers.items ≡ numbers_of (ballots_of records.now)) }
-{
-    Ok(records.iter().map(|record| record.number).collect(alloc)?)
+    Ok(plan)
 }

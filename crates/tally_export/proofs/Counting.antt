@@ -1,9 +1,10 @@
 -- The counts of a contest, ballot by ballot.
-use Rattle.std.proofs.Common.{◌≡◌, ℕ, ◌+◌, ◌-◌, ◌*◌, ◌<◌, ◌≤◌, Bool, true, false, cond, eqb, ltb, List, [], ◌∷◌, ◌++◌, get_or, take, length, replicate, refl, sym, ap, subst, ◌∙◌, arith, append-nil}
+use Rattle.std.proofs.Common.{◌≡◌, ℕ, ◌+◌, ◌-◌, ◌*◌, ◌<◌, ◌≤◌, Bool, true, false, cond, eqb, inl, inr, ltb, List, [], ◌∷◌, ◌++◌, get_or, take, length, replicate, refl, sym, ap, subst, ◌∙◌, arith, append-nil}
 use Rattle.std.proofs.lemmas.Bool.{ne_eqb}
 use Rattle.std.proofs.lemmas.List.{take_more, map-append, get_or-replicate}
 use Rattle.std.proofs.lemmas.List.Elements.{filter-append}
 use Rattle.std.proofs.lemmas.List.Sums.{sum_by-append, sum_by-cons}
+use Rattle.std.proofs.lemmas.Option.{slice_get_cases}
 use Rattle.std.specs.Int.{bit_at}
 use Rattle.std.specs.List.{filter, sum_by}
 use Rattle.std.specs.Option.{option_map_or}
@@ -12,7 +13,7 @@ use Rattle.ballot_record.specs.Record.{ballot}
 use Rattle.ballot_record.specs.declared.record.Record.{Record}
 use Rattle.body_store.specs.Contents.{ballots_of}
 use Rattle.store_spec.specs.Ballot.{Ballot}
-use Rattle.store_spec.specs.Election.{Contest, Election, choices_of, is_on_style}
+use Rattle.store_spec.specs.Election.{Contest, Election, IsContest, IsElection, choices_of, is_on_style}
 use Rattle.store_spec.specs.Report.{allowed_of, is_overvote, marked_in, votes}
 use Rattle.tally_export.specs.Counted.{AreAtMost, AreCountsOf, CountsSet}
 use Rattle.tally_export.specs.declared.counts.Counts.{Counts}
@@ -67,11 +68,11 @@ counts_same e bs b k counts off so_far =
     }
 
 -- one bit or none
-bit_few : (b : Bool) (set c : ℕ) → cond b 0 (bit_at set c) ≤ 1
+pub bit_few : (b : Bool) (set c : ℕ) → cond b 0 (bit_at set c) ≤ 1
 bit_few true set c = omega arith
 bit_few false set c = omega arith
 
-one_few : (b : Bool) → cond b 1 0 ≤ 1
+pub one_few : (b : Bool) → cond b 1 0 ≤ 1
 one_few true = omega arith
 one_few false = omega arith
 
@@ -157,3 +158,24 @@ allowed_is e k contest first is = contest_says (λ contest. contest.allowed) e k
 pub choices_is : (e : Election) (k : ℕ) (contest : Contest) → 1 ≤ k → slice_get e.contests (k - 1) ≡ Some contest
     → choices_of e k ≡ contest.choices
 choices_is e k contest first is = contest_says (λ contest. contest.choices) e k contest first is
+
+-- a number that is none or few is few
+none_or_few : (b : Bool) (n : ℕ) → n ≤ 32 → cond b 0 n ≤ 32
+none_or_few true n few = omega arith
+none_or_few false n few = few
+
+-- no contest allows more marks than there may be choices
+pub allowed_few : (e : Election) (k : ℕ) → IsElection e → allowed_of e k ≤ 32
+allowed_few e k election =
+    let allowed : Contest → ℕ = λ contest. contest.allowed in
+    let found = slice_get e.contests (k - 1) in
+    none_or_few (eqb k 0) (option_map_or allowed found 0)
+    (elim (slice_get_cases e.contests (k - 1)).1 [
+      | inl known ↦
+          let is : option_map_or allowed found 0 ≡ known.0.allowed = ap (λ o. option_map_or allowed o 0) known.2 in
+          let valid = subst (IsContest e) known.3 (election.each_contest (k - 1) known.0 known.1) in
+          omega (arith, is, valid.few_marks, valid.few_choices)
+      | inr past ↦
+          let is : option_map_or allowed found 0 ≡ 0 = ap (λ o. option_map_or allowed o 0) past.1 in
+          omega (arith, is)
+    ])

@@ -7,6 +7,7 @@ use Rattle.store_spec.specs.Election.{Election, most_choices, most_contests}
 use Rattle.store_spec.specs.Report.{overvotes, undervotes, votes}
 use Rattle.tally_export.specs.declared.counts.Counts.{Counts}
 use Rattle.tally_export.specs.declared.counts.Tally.{Tally}
+use Rattle.ballot_record.specs.declared.election.TheConstants.{MAX_CONTESTS}
 use Rattle.tally_export.specs.declared.counts.TheConstants.{CHOICES}
 
 -- the counts of every choice and contest that there may be
@@ -15,6 +16,25 @@ pub record IsTallyOf (e : Election) (ballots : List Ballot) (tally : Tally) : Ty
       → slice_index (slice_index_or tally.choices k []) c ≡ votes e ballots (k + 1) (c + 1)
   pub under : (k : ℕ) → k < most_contests e → slice_index tally.under k ≡ undervotes e ballots (k + 1)
   pub over : (k : ℕ) → k < most_contests e → slice_index tally.over k ≡ overvotes e ballots (k + 1)
+
+-- the count of choice c + 1 of contest k + 1
+abbrev pub choice_count : Tally → ℕ → ℕ → ℕ
+choice_count tally k c = slice_index (slice_index_or tally.choices k []) c
+
+-- no count is above this number
+pub record IsUpTo (most : ℕ) (tally : Tally) : Type 0 where
+  pub choices : (k c : ℕ) → k < MAX_CONTESTS → c < CHOICES → choice_count tally k c ≤ most
+  pub under : (k : ℕ) → k < MAX_CONTESTS → slice_index tally.under k ≤ most
+  pub over : (k : ℕ) → k < MAX_CONTESTS → slice_index tally.over k ≤ most
+
+-- each count is the sum of two
+pub record AddsUp (one other both : Tally) : Type 0 where
+  pub choices : (k c : ℕ) → k < MAX_CONTESTS → c < CHOICES
+      → choice_count both k c ≡ choice_count one k c + choice_count other k c
+  pub under : (k : ℕ) → k < MAX_CONTESTS
+      → slice_index both.under k ≡ slice_index one.under k + slice_index other.under k
+  pub over : (k : ℕ) → k < MAX_CONTESTS
+      → slice_index both.over k ≡ slice_index one.over k + slice_index other.over k
 
 -- the counts of contest k
 pub record AreCountsOf (e : Election) (ballots : List Ballot) (k : ℕ) (counts : Counts) : Type 0 where

@@ -1,5 +1,6 @@
-ghost use Rattle.std.specs.Prelude.{◌≡◌, ◌≤◌, length};
+ghost use Rattle.std.specs.Prelude.{◌≡◌, ◌≤◌, All, length};
 ghost use Rattle.body_store.specs.Contents.{ballots_of};
+ghost use Rattle.store_spec.specs.Ballot.{IsValid};
 ghost use Rattle.store_spec.specs.Election.{IsElection, most_ballots};
 ghost use Rattle.tally_export.specs.Counted.{AreCountsOf, IsTallyOf};
 
@@ -29,12 +30,12 @@ fn count_contest(records: &[Record], election: &Election, k: usize) -> Counts
     counts
 }
 
-/// The tally of a store's ballots.
-pub fn tally(closed: &Closed, election: &Election) -> Tally
-    requires { closed.now.election ≡ election.now }
-    ensures { IsTallyOf election.now closed.now.ballots result }
+/// The tally of these ballots.
+pub fn tally_of(records: &[Record], election: &Election) -> Tally
+    requires valid { All (IsValid election.now) (ballots_of records.now) }
+    requires few { length records.now ≤ most_ballots }
+    ensures { IsTallyOf election.now (ballots_of records.now) result }
 {
-    let records = closed.records();
     let mut choices = [[0; CHOICES]; MAX_CONTESTS];
     let mut under = [0; MAX_CONTESTS];
     let mut over = [0; MAX_CONTESTS];
@@ -50,4 +51,12 @@ pub fn tally(closed: &Closed, election: &Election) -> Tally
         under,
         over,
     }
+}
+
+/// The tally of a store's ballots.
+pub fn tally(closed: &Closed, election: &Election) -> Tally
+    requires { closed.now.election ≡ election.now }
+    ensures { IsTallyOf election.now closed.now.ballots result }
+{
+    tally_of(closed.records(), election)
 }

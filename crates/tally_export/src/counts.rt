@@ -38,6 +38,36 @@ fn add_choices(counts: &mut [u64], set: u32)
     }
 }
 
+/// Adds counts, each to the one at its place.
+fn add_counts(counts: &mut [u64], more: &[u64])
+    requires as_many { length counts.old ≡ length more.now }
+    requires room { (c : ℕ) → c < length counts.old
+        → slice_index counts.old c + slice_index more.now c < 2 ^ 64 }
+    ensures { (c : ℕ) → c < length counts.old
+        → slice_index counts.new c ≡ slice_index counts.old c + slice_index more.now c }
+{
+    for (place, count) in counts.iter_mut().enumerate() {
+        *count += more[place];
+    }
+}
+
+impl Tally {
+    ghost use Rattle.tally_export.specs.Counted.{AddsUp, IsUpTo};
+
+    /// Adds what other ballots add up to.
+    pub fn add(&mut self, more: &Tally)
+        requires ours { IsUpTo (2 ^ 62) self.old }
+        requires theirs { IsUpTo (2 ^ 62) more.now }
+        ensures { AddsUp self.old more.now self.new }
+    {
+        'contests: for place in 0..MAX_CONTESTS {
+            add_counts(&mut self.choices[place], &more.choices[place]);
+        }
+        add_counts(&mut self.under, &more.under);
+        add_counts(&mut self.over, &more.over);
+    }
+}
+
 impl Counts {
     ghost use Rattle.tally_export.specs.Counted.{AreAtMost, CountsSet};
 

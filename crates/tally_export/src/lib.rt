@@ -6,12 +6,14 @@ mod counts;
 mod fault;
 mod lines;
 mod text;
+mod threads;
 
 pub use contests::tally;
 pub use counts::{CHOICES, Tally};
 pub use fault::PutFault;
 pub use lines::export;
 pub use text::write_tally;
+pub use threads::tally_threads;
 
 #[cfg(test)]
 mod tests;

@@ -1,11 +1,12 @@
-ghost use Rattle.std.specs.Prelude.{◌≡◌, []};
+ghost use Rattle.std.specs.Prelude.{◌≡◌, [], IfOk};
 ghost use Rattle.store_spec.specs.Ballot.{IsValid};
 ghost use Rattle.ballot_record.specs.Record.{ballot};
 ghost use Rattle.body_store.specs.Contents.{ballots_of};
 
+use crate::build::index::Index;
 use ballot_record::{Election, LineFault, LineWhy, Record, read_line};
+use outside_io::Memory;
 use std::alloc::{AllocFailed, Global};
-use std::collections::BTreeMap;
 
 /// Why the ballot of a line was not taken.
 #[derive(Clone, Copy, Debug, PartialEq, Eq)]
@@ -27,11 +28,22 @@ impl<T: Drop> From<AllocFailed<T>> for Refusal {
     }
 }
 
+impl From<Memory> for Refusal {
+    ghost use Rattle.std.specs.Prelude.{◌≡◌};
+    ghost use Rattle.ballot_store_cli.specs.declared.build.ballots.Refusal.TheVariants as refusals;
+
+    ghost from_gives = { λ _ refusal. refusal ≡ refusals.Memory };
+
+    fn from(_: Memory) -> Self {
+        Refusal::Memory
+    }
+}
+
 /// The records of the lines so far, in the order of the lines, and each under its number.
 #[derive(Drop)]
 pub struct Ballots {
     records: Vec<Record>,
-    index: BTreeMap<u64, Record>,
+    index: Index,
 }
 
 impl Ballots {
@@ -39,14 +51,14 @@ impl Ballots {
     ghost use Rattle.store_spec.specs.Election.{Election};
 
     /// Those of no line.
-    pub fn new(alloc: Global) -> Ballots
-        ensures none { ballots_so_far result ≡ [] }
-        ensures sound { (e : Election) → IsSound e result }
+    pub fn new(alloc: Global) -> Result<Ballots, Memory>
+        ensures none { IfOk result (λ ballots. ballots_so_far ballots ≡ []) }
+        ensures sound { IfOk result (λ ballots. (e : Election) → IsSound e ballots) }
     {
-        Ballots {
+        Ok(Ballots {
             records: Vec::new(alloc),
-            index: BTreeMap::new(alloc),
-        }
+            index: Index::new(alloc)?,
+        })
     }
 
     /// Judges the next line, and takes its ballot where there is no reason to refuse it.
@@ -66,7 +78,7 @@ impl Ballots {
         requires valid { IsValid election.now (ballot cast) }
         ensures { Adds result election.now cast self.old self.new }
     {
-        if let Some(held) = self.index.get(&cast.number) {
+        if let Some(held) = self.index.get(&self.records, cast.number) {
             return Err(Refusal::Bad(if *held == cast {
                 LineWhy::Duplicate
             } else {
@@ -76,7 +88,7 @@ impl Ballots {
         if self.records.len() >= election.limit() as usize {
             return Err(Refusal::Bad(LineWhy::Full));
         }
-        self.index.insert(cast.number, cast)?;
+        self.index.note(&self.records, cast)?;
         self.records.push(cast)?;
         Ok(())
     }

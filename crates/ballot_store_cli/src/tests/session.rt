@@ -15,6 +15,7 @@ use std::thread::Threads;
 mod elections;
 mod faults;
 mod memory;
+mod turns;
 
 const SESSION: [&str; 3] = ["medium", "election.json", "session"];
 

@@ -21,12 +21,16 @@ pub returns-then-number-eq0 : goal.returns-then-number-eq0
 returns-then-number-eq0 c = none_found c.args.closed.now.ballots c.args.number
     (λ held.
     let with = ballot_with c.args.closed.now.ballots c.args.number held in
-    let valid = All-contains (IsValid c.args.closed.now.election) c.args.closed.now.ballots with.0 c.election-election.ensures.stored.set.valid with.1 in
+    let valid = All-contains (IsValid c.args.closed.now.election) c.args.closed.now.ballots with.0
+    c.cells-cells.ensures.stored.set.valid with.1 in
     absurd (omega (arith, valid.some_number, with.2, c.if-number-eq0.true)))
 
 pub returns-in_err-place_of : goal.returns-in_err-place_of
 returns-in_err-place_of c =
     let none : c.place_of.result ≡ None = c.branch-place_of.ensures ∙ ap continue_value c.in_err-place_of.is in
-    let nowhere : ¬ Contains c.cells.result.now c.args.number = subst (λ place. MatchOption place (¬ Contains c.cells.result.now c.args.number) (λ place. slice_index c.cells.result.now place ≡ c.args.number)) none c.place_of.ensures in
+    let nowhere : ¬ Contains c.cells-cells.result.now c.args.number =
+    subst (λ place. MatchOption place (¬ Contains c.cells-cells.result.now c.args.number)
+    (λ place. slice_index c.cells-cells.result.now place ≡ c.args.number)) none c.place_of.ensures in
     ap (option_map ballot) c.from_residual.ensures
-    ∙ none_found c.args.closed.now.ballots c.args.number (λ held. nowhere (c.cells.ensures.layout.exactly.each c.args.number held))
+    ∙ none_found c.args.closed.now.ballots c.args.number
+    (λ held. nowhere (c.cells-cells.ensures.layout.exactly.each c.args.number held))

@@ -63,22 +63,47 @@ struct Faulted {
     disk: MemoryDisk,
 }
 
-const SCRIPT: &str =
-    "open cast 2 | cast 1 9 1 1/- | cast 2 14 1 -/2 | cast 1 1 1 2/1,3 | close | checkpoint";
-
-// The replies to so many lines of the script.
-fn replies_to(alloc: Global, count: usize) -> Result<Vec<u8>, AllocError> {
-    let replies = match count {
-        0 => "",
-        1..=4 => "casting 2",
-        5 => "casting 2 | 1 1 accepted | 1 2 accepted | 2 1 accepted | closed 3",
-        _ => "casting 2 | 1 1 accepted | 1 2 accepted | 2 1 accepted | closed 3 | checkpoint 3",
-    };
-    lines(alloc, replies)
+// A script of three ballots, and what is replied to its first line and to the close of its phase.
+#[derive(Clone, Copy)]
+struct Script {
+    text: &'static str,
+    opened: &'static str,
+    closed: &'static str,
 }
 
-// The script over the medium of no ballots.
-fn run_failing<R>(rt: &R, failing: &Failing) -> Result<Faulted, Fail>
+// The three ballots at one tabulator, and at three.
+fn scripts() -> [Script; 2] {
+    [
+        Script {
+            text: "open cast 1 | cast 1 9 1 1/- | cast 1 14 1 -/2 | cast 1 1 1 2/1,3 | close | checkpoint",
+            opened: "casting 1",
+            closed: "1 1 accepted | 1 2 accepted | 1 3 accepted | closed 3",
+        },
+        Script {
+            text: "open cast 3 | cast 1 9 1 1/- | cast 2 14 1 -/2 | cast 3 1 1 2/1,3 | close | checkpoint",
+            opened: "casting 3",
+            closed: "1 1 accepted | 2 1 accepted | 3 1 accepted | closed 3",
+        },
+    ]
+}
+
+// The replies to so many of its lines.
+fn replies_to(alloc: Global, script: Script, count: usize) -> Result<Vec<u8>, AllocError> {
+    let mut replies = Vec::new(alloc);
+    if count > 0 {
+        replies.extend_from_slice(&lines(alloc, script.opened)?)?;
+    }
+    if count > 4 {
+        replies.extend_from_slice(&lines(alloc, script.closed)?)?;
+    }
+    if count > 5 {
+        replies.extend_from_slice(b"checkpoint 3\n")?;
+    }
+    Ok(replies)
+}
+
+// A script over the medium of no ballots.
+fn run_failing<R>(rt: &R, script: Script, failing: &Failing) -> Result<Faulted, Fail>
 where
     R: Threads + Sync + AllocGlobal + Abort,
 {
@@ -86,8 +111,8 @@ where
     let mut election = OneByOne {
         inner: MemorySource::new(EXAMPLE.to_vec(alloc)?, vec![in alloc; failing.election]?),
     };
-    let mut script = OneByOne {
-        inner: MemorySource::new(lines(alloc, SCRIPT)?, vec![in alloc; failing.script]?),
+    let mut source = OneByOne {
+        inner: MemorySource::new(lines(alloc, script.text)?, vec![in alloc; failing.script]?),
     };
     let mut sink = MemorySink::new(alloc, 200, vec![in alloc; failing.sink]?)?;
     let medium = medium_of(alloc, "")?;
@@ -97,7 +122,7 @@ where
         rt,
         &SESSION,
         &mut election,
-        &mut script,
+        &mut source,
         &mut sink,
         &mut disk,
     )?;
@@ -125,19 +150,28 @@ where
 }
 
 // A run in which no call fails.
-fn assert_passes(rt: &impl Abort, alloc: Global, run: &Faulted) -> Result<(), Fail> {
-    assert!(rt; run.replies == replies_to(alloc, 6)?);
+fn assert_passes(
+    rt: &impl Abort,
+    alloc: Global,
+    script: Script,
+    run: &Faulted,
+) -> Result<(), Fail> {
+    assert!(rt; run.replies == replies_to(alloc, script, 6)?);
     assert_eq!(rt; run.report.marks.as_slice(), [run.disk.calls()].as_slice());
     assert!(rt; run.disk.bytes() == medium_of(alloc, THREE_BALLOTS)?.as_slice());
     Ok(())
 }
 
-#[test]
-fn reads_of_the_election(rt: HostRuntime) -> Result<(), Fail> {
+// Each read of the election fails in turn.
+fn assert_election_reads_fail<R>(rt: &R, script: Script) -> Result<(), Fail>
+where
+    R: Threads + Sync + AllocGlobal + Abort,
+{
     let alloc = rt.alloc();
     for election in 1..1000 {
         let run = run_failing(
-            &rt,
+            rt,
+            script,
             &Failing {
                 election,
                 ..NOTHING
@@ -145,7 +179,7 @@ fn reads_of_the_election(rt: HostRuntime) -> Result<(), Fail> {
         )?;
         if run.status == Status::Ok {
             assert!(rt; election > EXAMPLE.len() as u64);
-            return assert_passes(&rt, alloc, &run);
+            return assert_passes(rt, alloc, script, &run);
         }
         let which = Which::Election;
         assert_eq!(rt; run.status, Status::ReadFault { which }, "{election}");
@@ -157,39 +191,65 @@ fn reads_of_the_election(rt: HostRuntime) -> Result<(), Fail> {
 }
 
 #[test]
-fn reads_of_the_script(rt: HostRuntime) -> Result<(), Fail> {
+fn reads_of_the_election(rt: HostRuntime) -> Result<(), Fail> {
+    for script in scripts() {
+        assert_election_reads_fail(&rt, script)?;
+    }
+    Ok(())
+}
+
+// Each read of the script fails in turn.
+fn assert_script_reads_fail<R>(rt: &R, script: Script) -> Result<(), Fail>
+where
+    R: Threads + Sync + AllocGlobal + Abort,
+{
     let alloc = rt.alloc();
-    let text = lines(alloc, SCRIPT)?;
-    for script in 1..1000u64 {
-        let run = run_failing(&rt, &Failing { script, ..NOTHING })?;
+    let text = lines(alloc, script.text)?;
+    for read in 1..1000u64 {
+        let failing = Failing {
+            script: read,
+            ..NOTHING
+        };
+        let run = run_failing(rt, script, &failing)?;
         let whole = text
             .iter()
-            .take(script as usize - 1)
+            .take(read as usize - 1)
             .filter(|byte| **byte == b'\n')
             .count();
         if run.status == Status::Ok {
-            assert!(rt; script > text.len() as u64);
-            return assert_passes(&rt, alloc, &run);
+            assert!(rt; read > text.len() as u64);
+            return assert_passes(rt, alloc, script, &run);
         }
         let which = Which::Script;
-        assert_eq!(rt; run.status, Status::ReadFault { which }, "{script}");
-        assert!(rt; run.replies == replies_to(alloc, whole)?, "{script}");
-        assert_eq!(rt; run.report.marks.len(), whole / 6, "{script}");
-        assert_recovers(&rt, run.disk.bytes(), Some(if whole < 6 { 0 } else { 3 }))?;
+        assert_eq!(rt; run.status, Status::ReadFault { which }, "{read}");
+        assert!(rt; run.replies == replies_to(alloc, script, whole)?, "{read}");
+        assert_eq!(rt; run.report.marks.len(), whole / 6, "{read}");
+        assert_recovers(rt, run.disk.bytes(), Some(if whole < 6 { 0 } else { 3 }))?;
     }
     assert!(rt; false, "a read fails each time");
     Ok(())
 }
 
 #[test]
-fn writes_of_the_sink(rt: HostRuntime) -> Result<(), Fail> {
+fn reads_of_the_script(rt: HostRuntime) -> Result<(), Fail> {
+    for script in scripts() {
+        assert_script_reads_fail(&rt, script)?;
+    }
+    Ok(())
+}
+
+// Each write fails in turn.
+fn assert_writes_fail<R>(rt: &R, script: Script) -> Result<(), Fail>
+where
+    R: Threads + Sync + AllocGlobal + Abort,
+{
     let alloc = rt.alloc();
-    let replies = replies_to(alloc, 6)?;
+    let replies = replies_to(alloc, script, 6)?;
     for sink in 1..100 {
-        let run = run_failing(&rt, &Failing { sink, ..NOTHING })?;
+        let run = run_failing(rt, script, &Failing { sink, ..NOTHING })?;
         if run.status == Status::Ok {
             assert!(rt; sink > 1);
-            return assert_passes(&rt, alloc, &run);
+            return assert_passes(rt, alloc, script, &run);
         }
         assert_eq!(rt; run.status, Status::WriteFault, "{sink}");
         assert!(rt; replies.starts_with(&run.replies), "{sink}");
@@ -197,32 +257,51 @@ fn writes_of_the_sink(rt: HostRuntime) -> Result<(), Fail> {
         // a checkpoint whose reply is lost stands
         let acknowledged = run.report.marks.len() == 1;
         let held = if acknowledged { Some(3) } else { None };
-        assert_recovers(&rt, run.disk.bytes(), held)?;
+        assert_recovers(rt, run.disk.bytes(), held)?;
     }
     assert!(rt; false, "a write fails each time");
     Ok(())
 }
 
 #[test]
-fn calls_of_the_disk(rt: HostRuntime) -> Result<(), Fail> {
+fn writes_of_the_sink(rt: HostRuntime) -> Result<(), Fail> {
+    for script in scripts() {
+        assert_writes_fail(&rt, script)?;
+    }
+    Ok(())
+}
+
+// Each call of the disk fails in turn.
+fn assert_disk_calls_fail<R>(rt: &R, script: Script) -> Result<(), Fail>
+where
+    R: Threads + Sync + AllocGlobal + Abort,
+{
     let alloc = rt.alloc();
     for disk in 1..100 {
-        let run = run_failing(&rt, &Failing { disk, ..NOTHING })?;
+        let run = run_failing(rt, script, &Failing { disk, ..NOTHING })?;
         if run.status == Status::Ok {
             assert!(rt; disk > run.disk.calls());
-            return assert_passes(&rt, alloc, &run);
+            return assert_passes(rt, alloc, script, &run);
         }
         assert_eq!(rt; run.status, Status::DiskFault, "{disk}");
         // five calls recover the medium, and the others are those of the checkpoint
         let before = if disk <= 5 { 0 } else { 5 };
-        assert!(rt; run.replies == replies_to(alloc, before)?, "{disk}");
+        assert!(rt; run.replies == replies_to(alloc, script, before)?, "{disk}");
         assert_eq!(rt; run.report.marks.len(), 0, "{disk}");
         for torn in [Torn::Old, Torn::New, Torn::Fill(0x3c), Torn::Fill(0xa7)] {
             let stopped = run.disk.after_stop(alloc, run.disk.calls(), false, torn)?;
-            assert_recovers(&rt, stopped.bytes(), None)?;
+            assert_recovers(rt, stopped.bytes(), None)?;
         }
     }
     assert!(rt; false, "a call fails each time");
+    Ok(())
+}
+
+#[test]
+fn calls_of_the_disk(rt: HostRuntime) -> Result<(), Fail> {
+    for script in scripts() {
+        assert_disk_calls_fail(&rt, script)?;
+    }
     Ok(())
 }
 

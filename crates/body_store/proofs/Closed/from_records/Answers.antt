@@ -4,10 +4,11 @@ use Rattle.ballot_record.specs.Record.{ballot}
 use Rattle.body_store.proofs.BallotSets.{MayHold, may_hold-IsPermutation, stored_in_order}
 use Rattle.body_store.proofs.Closed.from_records.Goals as goal
 use Rattle.body_store.proofs.Numbers.{numbers_rise}
-use Rattle.body_store.specs.Contents.{ballots_of}
+use Rattle.body_store.specs.Contents.{IsStored, ballots_of}
 use Rattle.std.proofs.lemmas.List.Sorted.{IsNonDecreasingBy-from_sort_by_key, IsPermutation-map}
 use Rattle.std.specs.List.Sorted.{IsNonDecreasing}
 use Rattle.store_spec.specs.Ballot.{numbers_of}
+use Rattle.store_spec.specs.Election.{Election}
 use Rattle.store_spec.specs.Image.{cells_of}
 
 pub layout-requires : goal.layout-requires
@@ -27,12 +28,14 @@ returns-clause-stored c =
     let sorted = c.sort_unstable_by_key.new.self.items in
     let rising : IsNonDecreasing (numbers_of (ballots_of sorted)) =
     numbers_rise sorted (IsNonDecreasingBy-from_sort_by_key (λ r. r.number) sorted c.sort_unstable_by_key.ensures.sorted (λ a r q k. search rules)) in
-    stored_in_order c.args.election.now _ _ c.in_ok-cells.ensures.election (record { listing = c.requires.listing; within_limit = c.requires.within_limit }) (returns-clause-same c) rising
+    subst (λ (e : Election). IsStored (record { election = e; ballots = ballots_of sorted })) (sym c.in_ok-own.ensures.ok)
+    (stored_in_order c.args.election.now _ _ c.in_ok-cells.ensures.election (record { listing = c.requires.listing; within_limit = c.requires.within_limit }) (returns-clause-same c) rising)
 
 pub invariant_of-result : goal.invariant_of-result
 invariant_of-result c = record {
   stored = returns-clause-stored c;
   cells =
       let same : c.deref.result.now ≡ c.sort_unstable_by_key.new.self.items = search rules in
-      c.in_ok-cells.ensures.cells ∙ ap (λ rs. cells_of c.args.election.now (ballots_of rs)) same;
+      c.in_ok-cells.ensures.cells ∙ ap (λ rs. cells_of c.args.election.now (ballots_of rs)) same
+      ∙ ap (λ (e : Election). cells_of e (ballots_of c.sort_unstable_by_key.new.self.items)) (sym c.in_ok-own.ensures.ok);
 }

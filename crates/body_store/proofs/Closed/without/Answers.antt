@@ -16,11 +16,13 @@ invariant_of-result c =
     c.in_ok-records.ensures ∙ ap (λ rs. ballots_without (ballots_of rs) numbers) own in
     let here : ballots_of c.in_ok-records.records.items ≡ ballots_without c.args.self.now.ballots numbers =
     left ∙ ap (λ (store : Contents). ballots_without store.ballots numbers) c.self.view_is in
-    let election : c.self.inside.election ≡ e = ap (λ (store : Contents). store.election) c.self.view_is ∙ sym c.requires.own in
+    let election : c.self.inside.election.value ≡ e = ap (λ (store : Contents). store.election) c.self.view_is ∙ sym c.requires.own in
+    let held : c.in_ok-own.own.value ≡ e = c.in_ok-own.ensures.ok in
     record {
       stored =
-          subst (λ (bs : List Ballot). IsStored (record { election = e; ballots = bs })) (sym left)
+          subst (λ (f : Election). IsStored (record { election = f; ballots = ballots_of c.in_ok-records.records.items })) (sym held)
+          (subst (λ (bs : List Ballot). IsStored (record { election = e; ballots = bs })) (sym left)
           (subst (λ (f : Election). IsStored (record { election = f; ballots = ballots_without (ballots_of c.self.inside.records.items) numbers })) election
-          (stored_without (contents_of c.self.inside) numbers c.self.invariant.stored));
-      cells = c.requires.layout ∙ ap (cells_of e) (sym here);
+          (stored_without (contents_of c.self.inside) numbers c.self.invariant.stored)));
+      cells = c.requires.layout ∙ ap (cells_of e) (sym here) ∙ ap (λ (f : Election). cells_of f (ballots_of c.in_ok-records.records.items)) (sym held);
     }

@@ -2,7 +2,7 @@ use Rattle.std.proofs.Common.{map, string_bytes}
 use Rattle.body_store.specs.Contents.{ballots_of}
 use Rattle.phase_gate.proofs.Closes.{closes_casting}
 use Rattle.phase_gate.proofs.closing.close_casting.Goals as goal
-use Rattle.phase_play.specs.Plays.{reply_of}
+use Rattle.phase_insert.specs.Closing.{reply_of}
 
 pub returns-clause-closes : goal.returns-clause-closes
 returns-clause-closes g c =

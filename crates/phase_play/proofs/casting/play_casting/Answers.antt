@@ -1,23 +1,50 @@
-use Rattle.std.proofs.Common.{◌∙◌, ap, map}
-use Rattle.std.proofs.lemmas.List.Elements.{All-map}
-use Rattle.std.specs.List.{All}
-use Rattle.body_store.specs.Contents.{ballots_of}
-use Rattle.phase_play.proofs.Playing.{may_merge, plays_casting}
-use Rattle.phase_play.specs.Plays.{reply_of}
-use Rattle.store_spec.specs.Ballot.{IsValid}
+use Rattle.std.proofs.Common.{◌≡◌, ◌++◌, ◌∙◌, List, ap, arith, drop, length, map, subst, sym, take}
+use Rattle.std.proofs.lemmas.List.{length-map, take_at}
+use Rattle.std.proofs.lemmas.Simd.{map-map}
+use Rattle.body_store.specs.Contents.{Contents, ballots_of}
+use Rattle.phase_insert.specs.Closing.{reply_of}
+use Rattle.phase_insert.specs.Tabulator.{new_tabulator}
+use Rattle.phase_play.proofs.Playing.{began, cast_all, cast_belong, cast_may, cast_trays, plays_casting}
+use Rattle.phase_play.specs.Plays.{PlaysCasting}
 use Rattle.phase_play.proofs.casting.play_casting.Goals as goal
 
-pub merged-requires : goal.merged-requires
-merged-requires g c =
-    let e = c.args.election.now in
-    let work = map (λ list. ballots_of list.items) c.args.work.now in
-    let may = may_merge e c.args.closed.ballots work c.in_ok-core.core c.in_ok-core.ensures (ballots_of c.deref.result.now) c.in_ok-cells.cells.items
-    (All-map (All (IsValid e)) (λ list. ballots_of list.items) c.args.work.now c.requires.valid)
-    (ap ballots_of c.deref.ensures.value ∙ c.in_ok-accepted.ensures) (c.in_ok-cells.ensures.items ∙ c.cells.ensures.cells) in
-    record { own = c.requires.own; listing = may.listing; within_limit = may.within_limit; layout = may.layout }
+pub run_cast-requires-clause-belong : goal.run_cast-requires-clause-belong
+run_cast-requires-clause-belong g c κs within =
+    let phase = c.in-Ok.begun.0 in
+    let work = c.args.work.now in
+    let are : c.deref_mut.result.now ≡ began (λ list. list.items) phase work = c.deref_mut.ensures.value ∙ c.in-Ok.ensures.tabulators ∙ ap (map (new_tabulator phase)) (c.deref.ensures.value ∙ c.in_ok-plan.ensures) in
+    cast_belong (λ list. list.items) phase work c.deref_mut.result.now are
 
-pub returns-clause-plays : goal.returns-clause-plays
-returns-clause-plays g c =
-    let work = map (λ list. ballots_of list.items) c.args.work.now in
-    plays_casting c.args.election.now c.args.closed.ballots work c.in_ok-core.core c.in_ok-core.ensures c.in_ok-after.after (ballots_of c.deref.result.now) (map (λ list. map reply_of list.items) c.in_ok-finals.finals.items)
-    c.in_ok-after.ensures.election c.in_ok-after.ensures.stored (ap ballots_of c.deref.ensures.value ∙ c.in_ok-accepted.ensures) c.in_ok-after.ensures.union c.in_ok-finals.ensures
+pub run_cast-requires-clause-room : goal.run_cast-requires-clause-room
+run_cast-requires-clause-room g c κs within =
+    let phase = c.in-Ok.begun.0 in
+    let work = c.args.work.now in
+    let are : c.deref_mut.result.now ≡ began (λ list. list.items) phase work = c.deref_mut.ensures.value ∙ c.in-Ok.ensures.tabulators ∙ ap (map (new_tabulator phase)) (c.deref.ensures.value ∙ c.in_ok-plan.ensures) in
+    cast_may (λ list. list.items) phase work c.deref_mut.result.now are
+
+pub close-requires : goal.close-requires
+close-requires g c =
+    let phase = c.in-Ok.begun.0 in
+    let work = c.args.work.now in
+    let held = c.in-Ok.begun.1 in
+    let after = c.run_cast.new.tabs in
+    let are : c.deref_mut.result.now ≡ began (λ list. list.items) phase work = c.deref_mut.ensures.value ∙ c.in-Ok.ensures.tabulators ∙ ap (map (new_tabulator phase)) (c.deref.ensures.value ∙ c.in_ok-plan.ensures) in
+    let whole : take held.len (after ++ drop (length after) held.items) ≡ after = take_at after (drop (length after) held.items) held.len (omega (arith, c.run_cast.ensures.as_many, c.deref_mut.ensures.len, held.ok)) in
+    cast_all (λ list. list.items) phase work c.deref_mut.result.now are after (take held.len (after ++ drop (length after) held.items)) c.run_cast.ensures.as_many whole
+    (c.in-Ok.ensures.seats ∙ ap length (c.deref.ensures.value ∙ c.in_ok-plan.ensures) ∙ length-map work (λ list. length list.items)) c.run_cast.ensures.belong
+
+pub returns-in-Ok-close-clause-plays : goal.returns-in-Ok-close-clause-plays
+returns-in-Ok-close-clause-plays g c =
+    let phase = c.in-Ok.begun.0 in
+    let work = c.args.work.now in
+    let held = c.in-Ok.begun.1 in
+    let after = c.run_cast.new.tabs in
+    let ended = c.in-Ok-close.ended in
+    let tabs = take held.len (after ++ drop (length after) held.items) in
+    let are : c.deref_mut.result.now ≡ began (λ list. list.items) phase work = c.deref_mut.ensures.value ∙ c.in-Ok.ensures.tabulators ∙ ap (map (new_tabulator phase)) (c.deref.ensures.value ∙ c.in_ok-plan.ensures) in
+    let whole : tabs ≡ after = take_at after (drop (length after) held.items) held.len (omega (arith, c.run_cast.ensures.as_many, c.deref_mut.ensures.len, held.ok)) in
+    let trays = cast_trays (λ list. list.items) phase work c.deref_mut.result.now are after tabs c.run_cast.ensures.as_many whole c.run_cast.ensures.cast in
+    let plays = plays_casting c.args.election.now phase.base (map (λ tab. tab.tray) tabs) (map (λ finals. finals.items) ended.1.items) (map (λ list. ballots_of list.items) work) ended.0.ballots
+    (ap (λ (store : Contents). store.election) c.in-Ok.ensures.base ∙ sym c.requires.own) c.in-Ok-close.ensures.closes trays in
+    subst (λ (base : Contents). PlaysCasting c.args.election.now base.ballots (map (λ list. ballots_of list.items) work) (map (λ list. map reply_of list.items) ended.1.items) ended.0.ballots) c.in-Ok.ensures.base
+    (subst (λ replies. PlaysCasting c.args.election.now phase.base.ballots (map (λ list. ballots_of list.items) work) replies ended.0.ballots) (map-map (map reply_of) (λ list. list.items) ended.1.items) plays)

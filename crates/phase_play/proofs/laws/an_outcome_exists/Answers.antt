@@ -2,7 +2,7 @@ use Rattle.std.proofs.Common.{map, refl}
 use Rattle.phase_play.proofs.Playing.{plays_finding}
 use Rattle.phase_play.proofs.Sequence.{an_outcome}
 use Rattle.phase_play.proofs.Withdrawals as withdrawals
-use Rattle.phase_play.specs.Plays.{is_present}
+use Rattle.phase_find.specs.Present.{is_present}
 use Rattle.phase_play.proofs.laws.an_outcome_exists.Goals as goal
 
 pub returns-clause-casting : goal.returns-clause-casting

@@ -11,9 +11,9 @@ pub returns-in-Casting-clause-does : goal.returns-in-Casting-clause-does
 returns-in-Casting-clause-does c = λ tab.
     let self = c.args.self in
     tells c.refuse.result c.args.telling (stays (state_of self) (refusal c.args.index (codes "invalid")))
-    (Does self.election c.args.index (state_of self) (CastInvalid tab) (phase_of self.work))
+    (Does self.closed.election c.args.index (state_of self) (CastInvalid tab) (phase_of self.work))
     (λ answer. effect_of answer (string_bytes c.refuse.new.reply))
-    (invalid_there self.election c.args.index (state_of self) tab c.phase.result (phase_of self.work) c.phase.ensures
+    (invalid_there self.closed.election c.args.index (state_of self) tab c.phase.result (phase_of self.work) c.phase.ensures
     c.in-Casting.is)
     c.refuse.ensures.stays
 
@@ -21,8 +21,8 @@ pub returns-in_default-clause-does : goal.returns-in_default-clause-does
 returns-in_default-clause-does c = λ tab.
     let self = c.args.self in
     tells c.refuse_phase.result c.args.telling (stays (state_of self) (wrong_phase c.args.index (phase_of self.work)))
-    (Does self.election c.args.index (state_of self) (CastInvalid tab) (phase_of self.work))
+    (Does self.closed.election c.args.index (state_of self) (CastInvalid tab) (phase_of self.work))
     (λ answer. effect_of answer (string_bytes c.refuse_phase.new.reply))
-    (invalid_elsewhere self.election c.args.index (state_of self) tab c.phase.result (phase_of self.work)
+    (invalid_elsewhere self.closed.election c.args.index (state_of self) tab c.phase.result (phase_of self.work)
     c.phase.ensures c.in_default.not-Casting)
     c.refuse_phase.ensures.stays

@@ -10,7 +10,7 @@ use Rattle.store_spec.specs.Session.{Does, counted, stays, wrong_phase}
 pub returns-in_ok-push_count-in-Closed-clause-does : goal.returns-in_ok-push_count-in-Closed-clause-does
 returns-in_ok-push_count-in-Closed-clause-does c =
     let self = c.args.self in
-    tells_checkpoint c.args.telling self.election c.args.index (state_of self) (phase_of self.work)
+    tells_checkpoint c.args.telling self.closed.election c.args.index (state_of self) (phase_of self.work)
     (named_closed c.phase.result (phase_of self.work) c.phase.ensures c.in-Closed.is)
     (string_bytes c.push_count.new.text)
     (c.in_ok-push_count-in-Closed.ensures ∙ ap (λ old. old ++ counted (codes "checkpoint") c.len.result)
@@ -20,8 +20,8 @@ pub returns-in_default-clause-does : goal.returns-in_default-clause-does
 returns-in_default-clause-does c =
     let self = c.args.self in
     tells c.refuse_phase.result c.args.telling (stays (state_of self) (wrong_phase c.args.index (phase_of self.work)))
-    (Does self.election c.args.index (state_of self) Checkpoint (phase_of self.work))
+    (Does self.closed.election c.args.index (state_of self) Checkpoint (phase_of self.work))
     (λ answer. effect_of answer (string_bytes c.refuse_phase.new.reply))
-    (checkpoint_elsewhere self.election c.args.index (state_of self) (phase_of self.work)
+    (checkpoint_elsewhere self.closed.election c.args.index (state_of self) (phase_of self.work)
     (named_open c.phase.result (phase_of self.work) c.phase.ensures c.in_default.not-Closed))
     c.refuse_phase.ensures.stays

@@ -1,4 +1,4 @@
-use Rattle.std.proofs.Common.{map, ap, string_bytes}
+use Rattle.std.proofs.Common.{All, map, ap, string_bytes, subst, sym}
 use Rattle.body_store.specs.Contents.{ballots_of}
 use Rattle.phase_gate.proofs.Phases.{close_closed}
 use Rattle.phase_gate.proofs.Told.{tells}
@@ -6,6 +6,8 @@ use Rattle.phase_gate.proofs.Waiting.{all_valid, are_lists}
 use Rattle.phase_gate.proofs.gate.Gate.close.Goals as goal
 use Rattle.phase_gate.specs.Gate.{effect_of, state_of}
 use Rattle.phase_gate.specs.Work.{phase_of}
+use Rattle.store_spec.specs.Ballot.{IsValid}
+use Rattle.store_spec.specs.Election.{Election}
 use Rattle.store_spec.specs.ScriptLine.ScriptLine.{Close}
 use Rattle.store_spec.specs.Session.{Does, stays, wrong_phase}
 
@@ -19,7 +21,8 @@ pub close_casting-requires-clause-valid : goal.close_casting-requires-clause-val
 close_casting-requires-clause-valid g c κs within =
     let lists = c.in-Casting.lists.items in
     let wait = c.args.self.waiting.casts (map (λ list. ballots_of list.items) lists) (ap phase_of c.in-Casting.is) in
-    all_valid c.args.self.election (λ list. ballots_of list.items) lists c.deref.result.now c.deref.ensures.value wait.1
+    let valid = subst (λ (e : Election). All (All (IsValid e)) (map (λ list. ballots_of list.items) lists)) (sym c.election.ensures.election) wait.1 in
+    all_valid c.election.result.now (λ list. ballots_of list.items) lists c.deref.result.now c.deref.ensures.value valid
 
 pub close_withdrawing-requires-clause-lists : goal.close_withdrawing-requires-clause-lists
 close_withdrawing-requires-clause-lists g c κs within =
@@ -37,7 +40,7 @@ pub returns-in-Closed-clause-does : goal.returns-in-Closed-clause-does
 returns-in-Closed-clause-does g c =
     let self = c.args.self in
     tells c.refuse_phase.result c.args.telling (stays (state_of self) (wrong_phase c.args.index (phase_of self.work)))
-    (Does self.election c.args.index (state_of self) Close (phase_of self.work))
+    (Does self.closed.election c.args.index (state_of self) Close (phase_of self.work))
     (λ answer. effect_of answer (string_bytes c.refuse_phase.new.reply))
-    (close_closed self.election c.args.index (state_of self) (phase_of self.work) (ap phase_of c.in-Closed.is))
+    (close_closed self.closed.election c.args.index (state_of self) (phase_of self.work) (ap phase_of c.in-Closed.is))
     c.refuse_phase.ensures.stays

@@ -13,27 +13,27 @@ use Rattle.store_spec.specs.Session.{Does, stays, wrong_phase}
 pub returns-after-telling-clause-does : goal.returns-after-telling-clause-does
 returns-after-telling-clause-does c =
     let self = c.args.self in
-    let text = export_text self.election self.closed.ballots in
-    let told = tells_export c.args.telling self.election c.args.index (state_of self) (phase_of self.work)
+    let text = export_text self.closed.election self.closed.ballots in
+    let told = tells_export c.args.telling self.closed.election c.args.index (state_of self) (phase_of self.work)
     (named_closed c.phase.result (phase_of self.work) c.phase.ensures c.in-Closed.is) in
     elim c.match-telling.branch [
       | in-All w ↦ subst (λ task. Tells c.args.telling
-          (Does self.election c.args.index (state_of self) Export (phase_of self.work))
+          (Does self.closed.election c.args.index (state_of self) Export (phase_of self.work))
           (effect_of (record { gate = self; task = task }) (string_bytes c.args.reply.now))) (sym w.result-is)
           (told text (ap (λ t. told_by t text) (sym w.in-All.is)))
       | in-Summary w ↦ subst (λ task. Tells c.args.telling
-          (Does self.election c.args.index (state_of self) Export (phase_of self.work))
+          (Does self.closed.election c.args.index (state_of self) Export (phase_of self.work))
           (effect_of (record { gate = self; task = task }) (string_bytes c.args.reply.now))) (sym w.result-is)
           (told (string_bytes c.args.reply.now) (c.requires.nothing ∙ sym
-          (ap (λ t. told_by t text) w.in-Summary.is ∙ export_untold self.election self.closed.ballots)))
+          (ap (λ t. told_by t text) w.in-Summary.is ∙ export_untold self.closed.election self.closed.ballots)))
     ]
 
 pub returns-in_default-clause-does : goal.returns-in_default-clause-does
 returns-in_default-clause-does c =
     let self = c.args.self in
     tells c.refuse_phase.result c.args.telling (stays (state_of self) (wrong_phase c.args.index (phase_of self.work)))
-    (Does self.election c.args.index (state_of self) Export (phase_of self.work))
+    (Does self.closed.election c.args.index (state_of self) Export (phase_of self.work))
     (λ answer. effect_of answer (string_bytes c.refuse_phase.new.reply))
-    (export_elsewhere self.election c.args.index (state_of self) (phase_of self.work)
+    (export_elsewhere self.closed.election c.args.index (state_of self) (phase_of self.work)
     (named_open c.phase.result (phase_of self.work) c.phase.ensures c.in_default.not-Closed))
     c.refuse_phase.ensures.stays

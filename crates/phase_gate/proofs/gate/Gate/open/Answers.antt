@@ -12,9 +12,8 @@ use Rattle.store_spec.specs.Session.{Does, counted, opened, phase_text, stays, w
 
 pub invariant_of-of : goal.invariant_of-of
 invariant_of-of c = record {
-  own = c.args.self.own;
-  waiting = subst (MayWait c.args.self.election) (sym c.in_ok-work-in-Closed.ensures)
-      (opened_may_wait c.args.self.election (kind_of c.args.kind) c.args.tabs c.requires.tabs);
+  waiting = subst (MayWait c.args.self.closed.election) (sym c.in_ok-work-in-Closed.ensures)
+      (opened_may_wait c.args.self.closed.election (kind_of c.args.kind) c.args.tabs c.requires.tabs);
 }
 
 pub returns-in_ok-tell_opening-in-Closed-clause-does : goal.returns-in_ok-tell_opening-in-Closed-clause-does
@@ -23,9 +22,9 @@ returns-in_ok-tell_opening-in-Closed-clause-does c =
     let work = kind_of c.args.kind in
     let text = string_bytes c.tell_opening.new.text in
     let reply = told_by c.args.telling (counted (phase_text (opened work c.args.tabs)) c.args.tabs) in
-    subst (λ answer. Tells c.args.telling (Does self.election c.args.index (state_of self) (Open work c.args.tabs)
+    subst (λ answer. Tells c.args.telling (Does self.closed.election c.args.index (state_of self) (Open work c.args.tabs)
     (phase_of self.work)) (effect_of answer text)) (sym c.of.ensures)
-    (tells_open c.args.telling self.election c.args.index (state_of self) (phase_of self.work)
+    (tells_open c.args.telling self.closed.election c.args.index (state_of self) (phase_of self.work)
     (ap phase_of c.in-Closed.is) work c.args.tabs text (phase_of c.in_ok-work-in-Closed.work)
     c.in_ok-work-in-Closed.ensures (c.in_ok-tell_opening-in-Closed.ensures ∙ ap (λ old. old ++ reply)
     c.requires.nothing))
@@ -34,8 +33,8 @@ pub returns-in_default-clause-does : goal.returns-in_default-clause-does
 returns-in_default-clause-does c =
     let self = c.args.self in
     tells c.refuse_phase.result c.args.telling (stays (state_of self) (wrong_phase c.args.index (phase_of self.work)))
-    (Does self.election c.args.index (state_of self) (Open (kind_of c.args.kind) c.args.tabs) (phase_of self.work))
+    (Does self.closed.election c.args.index (state_of self) (Open (kind_of c.args.kind) c.args.tabs) (phase_of self.work))
     (λ answer. effect_of answer (string_bytes c.refuse_phase.new.reply))
-    (open_elsewhere self.election c.args.index (state_of self) (kind_of c.args.kind) c.args.tabs (phase_of self.work)
+    (open_elsewhere self.closed.election c.args.index (state_of self) (kind_of c.args.kind) c.args.tabs (phase_of self.work)
     (open_work self.work c.in_default.not-Closed))
     c.refuse_phase.ensures.stays

@@ -10,6 +10,6 @@ pub returns-in-CastInvalid-clause-does : goal.returns-in-CastInvalid-clause-does
 returns-in-CastInvalid-clause-does g c =
     let self = c.args.self in
     subst (λ line. IfOk c.cast_invalid.result (λ answer. Tells c.args.telling
-    (Does self.election c.args.index (state_of self) (script_line line) (phase_of self.work))
+    (Does self.closed.election c.args.index (state_of self) (script_line line) (phase_of self.work))
     (effect_of answer (string_bytes c.cast_invalid.new.reply)))) (sym c.in-CastInvalid.is)
     (c.cast_invalid.ensures.does c.in-CastInvalid.tab)

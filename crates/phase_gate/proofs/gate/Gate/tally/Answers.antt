@@ -10,15 +10,15 @@ use Rattle.store_spec.specs.Session.{Does, stays, wrong_phase}
 pub returns-in-Closed-clause-does : goal.returns-in-Closed-clause-does
 returns-in-Closed-clause-does c =
     let self = c.args.self in
-    tells_tally c.args.telling self.election c.args.index (state_of self) (phase_of self.work)
+    tells_tally c.args.telling self.closed.election c.args.index (state_of self) (phase_of self.work)
     (named_closed c.phase.result (phase_of self.work) c.phase.ensures c.in-Closed.is)
 
 pub returns-in_default-clause-does : goal.returns-in_default-clause-does
 returns-in_default-clause-does c =
     let self = c.args.self in
     tells c.refuse_phase.result c.args.telling (stays (state_of self) (wrong_phase c.args.index (phase_of self.work)))
-    (Does self.election c.args.index (state_of self) Tally (phase_of self.work))
+    (Does self.closed.election c.args.index (state_of self) Tally (phase_of self.work))
     (λ answer. effect_of answer (string_bytes c.refuse_phase.new.reply))
-    (tally_elsewhere self.election c.args.index (state_of self) (phase_of self.work)
+    (tally_elsewhere self.closed.election c.args.index (state_of self) (phase_of self.work)
     (named_open c.phase.result (phase_of self.work) c.phase.ensures c.in_default.not-Closed))
     c.refuse_phase.ensures.stays

@@ -9,8 +9,7 @@ use Rattle.store_spec.specs.Session.{Does, in_phase}
 
 pub invariant_of-queued : goal.invariant_of-queued
 invariant_of-queued c = record {
-  own = c.args.self.own;
-  waiting = item_may_wait c.args.self.election (phase_of c.args.self.work) c.args.tab c.args.item c.in_ok-work.queued
+  waiting = item_may_wait c.args.self.closed.election (phase_of c.args.self.work) c.args.tab c.args.item c.in_ok-work.queued
       (phase_of c.in_ok-work.work) c.requires.tab.0 c.requires.item c.args.self.waiting c.in_ok-work.ensures;
 }
 
@@ -20,8 +19,8 @@ returns-clause-does c =
     let now = phase_of c.in_ok-work.work in
     let effect = queued_effect c.args.index (in_phase now self.closed.ballots) c.in_ok-work.queued in
     tells c.queued.result c.args.telling effect
-    (Does self.election c.args.index (state_of self) (item_line c.args.tab c.args.item) (phase_of self.work))
+    (Does self.closed.election c.args.index (state_of self) (item_line c.args.tab c.args.item) (phase_of self.work))
     (λ answer. effect_of answer (string_bytes c.queued.new.reply))
-    (item_does self.election c.args.index self.closed.ballots c.args.tab c.args.item (phase_of self.work)
+    (item_does self.closed.election c.args.index self.closed.ballots c.args.tab c.args.item (phase_of self.work)
     c.in_ok-work.queued now effect c.in_ok-work.ensures refl)
     c.queued.ensures.effect

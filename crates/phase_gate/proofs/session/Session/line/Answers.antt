@@ -51,6 +51,6 @@ returns-in_err-tell_task-clause-ends g c =
     (half_told model c.args.self.telling c.args.self.election c.args.index c.args.self.state c.args.line.now told
     tells before after acknowledged c.len.ensures.count
     c.in_err-tell_task.field-0.0
-    (subst (λ text. TakesSome before.sink.taken (told_at answer.task answer.gate.election set text) after.sink.taken)
+    (subst (λ text. TakesSome before.sink.taken (told_at answer.task answer.gate.closed.election set text) after.sink.taken)
     c.deref.ensures c.in_err-tell_task.ensures.some)
     c.in_err-tell_task.ensures.fault)

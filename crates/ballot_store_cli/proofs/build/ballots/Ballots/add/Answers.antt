@@ -1,11 +1,10 @@
 use Rattle.std.proofs.Common.{◌≡◌, ◌≢◌, ◌<◌, List, ◌++◌, [], ◌∷◌, length, map, None, Some, ap, sym, subst, ◌∙◌, arith, rules, length-append}
-use Rattle.std.specs.BTreeMap.{get}
-use Rattle.std.specs.Ordering.{nat_cmp}
 use Rattle.std.proofs.lemmas.List.{map_push, get_or-map, length-map}
 use Rattle.ballot_record.specs.declared.record.Record.{Record}
 use Rattle.ballot_record.specs.Record.{ballot}
 use Rattle.store_spec.specs.Ballot.{Ballot, IsListing}
-use Rattle.ballot_store_cli.proofs.Index.{found, found_in, ballot_missing, index_grown, listing_grown}
+use Rattle.ballot_store_cli.specs.Index.{IsIndexOf}
+use Rattle.ballot_store_cli.proofs.Index.{found, found_in, ballot_missing, listing_grown}
 use Rattle.ballot_store_cli.proofs.build.ballots.Ballots.add.Goals as goal
 
 abbrev record_like : Ballot → Record
@@ -15,7 +14,7 @@ pub returns-then-eq : goal.returns-then-eq
 returns-then-eq c =
     let records = c.args.self.now.records.items in
     let held = c.in-Some.held.now in
-    let is : found_in records c.args.cast.number ≡ Some held = sym (c.requires.sound.indexed c.args.cast.number) ∙ sym c.in-Some.ensures.value in
+    let is : found_in records c.args.cast.number ≡ Some held = ap (λ records. found_in records c.args.cast.number) (sym c.deref.ensures.value) ∙ sym c.in-Some.ensures in
     let f = found records c.args.cast.number held is in
     let same : held ≡ c.args.cast = search rules in
     (f.place, omega (arith, length-map records ballot, f.within), get_or-map ballot records f.place held (ballot c.args.cast) f.within ∙ ap ballot (f.is held ∙ same))
@@ -24,7 +23,7 @@ pub returns-else-eq : goal.returns-else-eq
 returns-else-eq c =
     let records = c.args.self.now.records.items in
     let held = c.in-Some.held.now in
-    let is : found_in records c.args.cast.number ≡ Some held = sym (c.requires.sound.indexed c.args.cast.number) ∙ sym c.in-Some.ensures.value in
+    let is : found_in records c.args.cast.number ≡ Some held = ap (λ records. found_in records c.args.cast.number) (sym c.deref.ensures.value) ∙ sym c.in-Some.ensures in
     let f = found records c.args.cast.number held is in
     let other : held ≢ c.args.cast = search rules in
     (f.place, ballot held, omega (arith, length-map records ballot, f.within), get_or-map ballot records f.place held (ballot held) f.within ∙ ap ballot (f.is held), (f.numbered, λ same. other (ap (λ (b : Ballot). record_like b) same)))
@@ -32,7 +31,7 @@ returns-else-eq c =
 pub returns-then-len-limit : goal.returns-then-len-limit
 returns-then-len-limit c =
     let records = c.args.self.now.records.items in
-    let none : found_in records c.args.cast.number ≡ None = sym (c.requires.sound.indexed c.args.cast.number) ∙ sym c.in_default.ensures.value in
+    let none : found_in records c.args.cast.number ≡ None = ap (λ records. found_in records c.args.cast.number) (sym c.deref.ensures.value) ∙ sym c.in_default.ensures in
     let counted = length-map records ballot in
     (λ any. ballot_missing records c.args.cast.number none any.0 any.1 any.2 (ap (λ (b : Ballot). b.number) any.3 ∙ any.4), omega (arith, counted, c.requires.sound.within_limit, c.if-len-limit.true))
 
@@ -41,17 +40,17 @@ returns c =
     let old = c.args.self.now in
     let cast = c.args.cast in
     let records = old.records.items in
-    let none : found_in records cast.number ≡ None = sym (c.requires.sound.indexed cast.number) ∙ sym c.in_default.ensures.value in
+    let none : found_in records cast.number ≡ None = ap (λ records. found_in records cast.number) (sym c.deref.ensures.value) ∙ sym c.in_default.ensures in
     let so_far : map ballot c.push.new.self.items ≡ map ballot records ++ ballot cast ∷ [] = ap (map ballot) c.in_ok-push.ensures.items ∙ map_push ballot records cast in
-    let u = c.in_ok-insert.ensures.updates.0 in
     let room : length (map ballot records) < c.args.election.now.limit = omega (arith, length-map records ballot, c.if-len-limit.false, c.limit.ensures.limit) in
     let listing = listing_grown c.args.election.now (map ballot records) (ballot cast) c.requires.sound.listing c.requires.valid (ballot_missing records cast.number none) in
     let P : List Ballot → Type 0 = λ ballots. IsListing c.args.election.now ballots in
-    let grown = index_grown (get nat_cmp old.index) (get nat_cmp c.insert.new.self) records cast c.requires.sound.indexed (sym c.in_default.ensures.value) u in (
+    let noted : IsIndexOf c.note.new.self (records ++ cast ∷ []) = subst (λ (records : List Record). IsIndexOf c.note.new.self (records ++ cast ∷ [])) c.deref-2.ensures.value c.in_ok-note.ensures in
+    let grown = subst (λ (records : List Record). IsIndexOf c.note.new.self records) (sym c.in_ok-push.ensures.items) noted in (
       so_far,
       record {
         listing = subst P (sym so_far) listing;
         within_limit = omega (arith, ap length so_far, length-append (map ballot records) (ballot cast ∷ []), room);
-        indexed = λ number. grown number ∙ ap (λ records. found_in records number) (sym c.in_ok-push.ensures.items);
+        indexed = grown;
       },
     )

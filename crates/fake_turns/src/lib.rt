@@ -1,0 +1,10 @@
+//! Turns of workers, for tests: what a worker does before an item is seen, or waits for another worker.
+#![tactic(auto)]
+
+mod meeting;
+#[cfg(test)]
+mod tests;
+mod words;
+
+pub use meeting::Meeting;
+pub use words::{SeenWords, Turn};

@@ -1,0 +1,114 @@
+-- A tray with one number more, and the lists of its seat.
+use Rattle.std.proofs.Common.{◌≡◌, ℕ, Bool, true, List, [], ◌∷◌, ◌++◌, get_or, map, refl, sym, ap, ◌∙◌, subst}
+use Rattle.std.proofs.lemmas.List.{append-nil, map_push}
+use Rattle.std.proofs.lemmas.List.Elements.{All-contains, All-push, Contains-get_or}
+use Rattle.std.proofs.lemmas.List.Quantifiers.{all_pairs_push}
+use Rattle.std.specs.List.{All, AllPairs, Contains}
+use Rattle.std.specs.Prelude.{◌↔◌}
+use Rattle.phase_delete.specs.Gains.{Gains, IsNewTo, IsRemoval}
+use Rattle.phase_delete.specs.Tray.{IsTold, gone_of, line, withdrawn_of}
+use Rattle.phase_delete.specs.WithdrawPhase.{Phase}
+use Rattle.phase_delete.specs.declared.reply.Withdrawal.{Withdrawal}
+use Rattle.step_core.proofs.WithdrawingAnswers.{numbers-append, numbers-contains}
+use Rattle.step_core.specs.WithdrawCore.{reply_of}
+use Rattle.step_core.specs.Withdrawing.{is_gone, numbers_that}
+use Rattle.step_core.specs.declared.withdrawer.WithdrawReply.{WithdrawReply}
+use Rattle.step_core.specs.declared.withdrawer.WithdrawReply.TheVariants.{Withdrawn, Gone, Absent}
+use Rattle.store_spec.specs.Ballot.{numbers_of}
+use Rattle.store_spec.specs.WithdrawPhase as outcome
+use Rattle.store_spec.specs.WithdrawPhase.{IsRight, MayPrecede, is_withdrawn}
+use Rattle.store_spec.specs.WithdrawStep.{WithdrawView}
+use Rattle.store_spec.specs.WithdrawStep.WithdrawState.{Rest}
+use Rattle.word_rule.specs.Seats.{SharedWords}
+
+-- ---- the numbers of a tray
+
+abbrev pub told : ℕ → WithdrawReply → Withdrawal
+told number reply = record { number = number; reply = reply }
+
+-- a number adds itself to those with such a reply, or nothing
+module _ (such : outcome.WithdrawReply → Bool) (tray : List Withdrawal) (w : Withdrawal) (list now : List ℕ) where
+  pushed : numbers_that such (map line (tray ++ w ∷ [])) ≡ numbers_that such (map line tray) ++ numbers_that such (line w ∷ [])
+  pushed = ap (numbers_that such) (map_push line tray w) ∙ numbers-append such (map line tray) (line w ∷ [])
+
+  adds : numbers_that such (line w ∷ []) ≡ w.number ∷ [] → numbers_that such (map line tray) ≡ list → now ≡ list ++ w.number ∷ [] → numbers_that such (map line (tray ++ w ∷ [])) ≡ now
+  adds one so_far is = pushed ∙ ap (λ l. numbers_that such (map line tray) ++ l) one ∙ ap (λ l. l ++ w.number ∷ []) so_far ∙ sym is
+
+  keeps : numbers_that such (line w ∷ []) ≡ [] → numbers_that such (map line tray) ≡ list → now ≡ list → numbers_that such (map line (tray ++ w ∷ [])) ≡ now
+  keeps none so_far is = pushed ∙ ap (λ l. numbers_that such (map line tray) ++ l) none ∙ append-nil (numbers_that such (map line tray)) ∙ so_far ∙ sym is
+
+-- ---- the lists of the seat
+
+-- the seat is at rest, and its lists are those that the tray tells
+pub record AreLists (view : WithdrawView) (tray : List Withdrawal) : Type 0 where
+  pub at_rest : view.state ≡ Rest
+  pub begun : withdrawn_of tray ≡ view.begun
+  pub gone : gone_of tray ≡ view.gone
+
+lists_more : (old now : WithdrawView) (tray : List Withdrawal) (number : ℕ) (reply : WithdrawReply) → AreLists old tray → Gains old number reply now → AreLists now (tray ++ told number reply ∷ [])
+lists_more old now tray number Withdrawn h gains = record {
+  at_rest = gains.at_rest;
+  begun = adds is_withdrawn tray (told number Withdrawn) old.begun now.begun refl h.begun gains.begun;
+  gone = keeps is_gone tray (told number Withdrawn) old.gone now.gone refl h.gone gains.gone;
+}
+lists_more old now tray number Gone h gains = record {
+  at_rest = gains.at_rest;
+  begun = keeps is_withdrawn tray (told number Gone) old.begun now.begun refl h.begun gains.begun;
+  gone = adds is_gone tray (told number Gone) old.gone now.gone refl h.gone gains.gone;
+}
+lists_more old now tray number Absent h same = record {
+  at_rest = ap (λ v. v.state) same ∙ h.at_rest;
+  begun = keeps is_withdrawn tray (told number Absent) old.begun now.begun refl h.begun (ap (λ v. v.begun) same);
+  gone = keeps is_gone tray (told number Absent) old.gone now.gone refl h.gone (ap (λ v. v.gone) same);
+}
+
+-- ---- the order
+
+withdrawn_here : (reply : WithdrawReply) → reply_of reply ≡ outcome.WithdrawReply.Withdrawn → reply ≡ Withdrawn
+withdrawn_here Withdrawn is = refl
+withdrawn_here Gone is = absurd cc
+withdrawn_here Absent is = absurd cc
+
+-- what is withdrawn now was not found gone before
+precedes : (old : WithdrawView) (tray : List Withdrawal) (number : ℕ) (reply : WithdrawReply) → gone_of tray ≡ old.gone → (reply ≡ Withdrawn → IsNewTo old number) → (a : outcome.Withdrawal) → Contains (map line tray) a → MayPrecede a (line (told number reply))
+precedes old tray number reply lists new a there same gone withdrawn =
+    let among = All-contains (λ (b : outcome.Withdrawal). is_gone b.reply ≡ true → Contains (gone_of tray) b.number) (map line tray) a (numbers-contains is_gone (map line tray)) there (ap is_gone gone) in
+    (new (withdrawn_here reply withdrawn)).not_gone (subst (λ (l : List ℕ). Contains l number) lists (subst (Contains (gone_of tray)) same among))
+
+-- ---- one number more
+
+pub told_more : (phase : Phase) (old now : WithdrawView) (tray : List Withdrawal) (number : ℕ) (reply : WithdrawReply) → IsTold phase old tray → IsRight (numbers_of phase.base.ballots) number (reply_of reply) → Gains old number reply now → (reply ≡ Withdrawn → IsNewTo old number) → IsTold phase now (tray ++ told number reply ∷ [])
+told_more phase old now tray number reply h right gains new =
+    let w = told number reply in
+    let before : AreLists old tray = record { at_rest = h.at_rest; begun = h.begun; gone = h.gone } in
+    let lists = lists_more old now tray number reply before gains in
+    let Right : outcome.Withdrawal → Type 0 = λ a. IsRight (numbers_of phase.base.ballots) a.number a.reply in
+    record {
+      at_rest = lists.at_rest;
+      begun = lists.begun;
+      gone = lists.gone;
+      right = subst (All Right) (sym (map_push line tray w)) (All-push Right (map line tray) (line w) h.right right);
+      in_order = subst (AllPairs MayPrecede) (sym (map_push line tray w))
+          (all_pairs_push MayPrecede (map line tray) (line w) h.in_order (λ k d within. precedes old tray number reply h.gone new (get_or (map line tray) k d) (Contains-get_or (map line tray) k d within)));
+    }
+
+-- the same of a withdrawer, as its parts are known after the call
+pub told_anew : (phase known : Phase) (words : SharedWords) (old now : WithdrawView) (tray items : List Withdrawal) (number : ℕ) (reply : WithdrawReply) → phase ≡ known → words ≡ phase.words → items ≡ tray ++ told number reply ∷ []
+    → IsTold phase old tray → IsRight (numbers_of known.base.ballots) number (reply_of reply) → Gains old number reply now → (reply ≡ Withdrawn → IsNewTo old number)
+    → IsTold (record { base = phase.base; words = words }) now items
+told_anew phase known words old now tray items number reply same belong is h right gains new =
+    let more = told_more known old now tray number reply (subst (λ (p : Phase). IsTold p old tray) same h) right gains new in
+    subst (λ (w : SharedWords). IsTold (record { base = phase.base; words = w }) now items) (sym belong)
+    (subst (λ (l : List Withdrawal). IsTold phase now l) (sym is) (subst (λ (p : Phase). IsTold p now (tray ++ told number reply ∷ [])) (sym same) more))
+
+-- ---- what a reply says, exactly
+
+pub absent_exactly : (held : List ℕ) (number : ℕ) (reply : WithdrawReply) → IsRight held number (reply_of reply) → (reply ≡ Absent) ↔ (¬ Contains held number)
+absent_exactly held number Withdrawn there = (λ e. absurd cc, λ none. absurd (none there))
+absent_exactly held number Gone there = (λ e. absurd cc, λ none. absurd (none there))
+absent_exactly held number Absent none = (λ e. none, λ out. refl)
+
+pub right_of_held : (held : List ℕ) (number : ℕ) (reply : WithdrawReply) → IsRemoval reply → Contains held number → IsRight held number (reply_of reply)
+right_of_held held number Withdrawn removal there = there
+right_of_held held number Gone removal there = there
+right_of_held held number Absent removal there = absurd removal

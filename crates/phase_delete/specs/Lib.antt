@@ -1,0 +1,9 @@
+pub mod Closing
+pub mod Ends
+pub mod Gains
+pub mod Running
+pub mod Tray
+pub mod WithdrawPhase
+pub mod WithdrawPhaseKept
+pub mod Withdrawer
+pub mod WithdrawerKept

@@ -1,0 +1,158 @@
+//! The two ends of a phase: what it is made of, and what becomes of it.
+
+ghost use Rattle.body_store.specs.Contents.{IsStored};
+ghost use Rattle.phase_delete.specs.Closing.{ClosesAs};
+ghost use Rattle.phase_delete.specs.Ends.{TellsOf, all_withdrawn, seat_of};
+ghost use Rattle.phase_delete.specs.Tray.{withdrawn_of};
+ghost use Rattle.phase_delete.specs.Withdrawer.{AreAll, new_withdrawer, seated_at};
+ghost use Rattle.std.specs.Prelude.{◌≡◌, ◌≤◌, ◌++◌, All, IfOk, length, map, zip};
+ghost use Rattle.store_spec.specs.WithdrawStep.{fresh_view};
+ghost use Rattle.word_rule.specs.Stores.{AreWordsOf};
+
+use crate::{Withdrawal, Withdrawer};
+use ballot_record::Election;
+use body_store::Closed;
+use outside_io::Memory;
+use probe_order::Salted;
+use std::alloc::Global;
+use step_core::{Shape, WithdrawReply};
+use word_rule::{WithdrawSeat, WithdrawWords};
+
+/// What a phase is made of: the shape of its words, the words, and a withdrawer for each entry of the plan.
+pub fn opened(
+    alloc: Global,
+    closed: &Closed,
+    election: &Election,
+    plan: &[u32],
+) -> Result<(Shape, WithdrawWords, Vec<Withdrawer>), Memory>
+    requires own { election.now ≡ closed.now.election }
+    requires some_withdrawer { 1 ≤ length plan.now }
+    ensures shape { IfOk result (λ made. made.0 ≡ made.1.shape) }
+    ensures words { IfOk result (λ made. AreWordsOf closed.now.election closed.now.ballots made.1) }
+    ensures seats { IfOk result (λ made. made.1.seats ≡ length plan.now) }
+    ensures withdrawers { IfOk result
+        (λ made. made.2.items
+        ≡ map (new_withdrawer (record { base = closed.now; words = made.1 })) plan.now) }
+{
+    let shape = Shape {
+        order: Salted {
+            bits: election.bits(),
+            salt: election.salt(),
+        },
+        cells: election.cells(),
+        claims: 0,
+    };
+    let (words, seats) = WithdrawWords::new(alloc, shape, closed.cells(), plan.len())?;
+    let withdrawers = seated(alloc, closed, seats, plan)?;
+    Ok((shape, words, withdrawers))
+}
+
+/// A withdrawer at each of new seats.
+fn seated(
+    alloc: Global,
+    closed: &Closed,
+    seats: Vec<WithdrawSeat>,
+    plan: &[u32],
+) -> Result<Vec<Withdrawer>, Memory>
+    requires new { All (λ seat. seat.view ≡ fresh_view) seats.items }
+    ensures { IfOk result
+        (λ tabs. tabs.items ≡ map (seated_at closed.now) (zip seats.items plan.now)) }
+{
+    let mut tabs = Vec::with_capacity(alloc, plan.len())?;
+    for (seat, room) in seats.into_iter().zip(plan) {
+        tabs.push(Withdrawer::new(alloc, closed, seat, *room)?)?;
+    }
+    Ok(tabs)
+}
+
+/// What becomes of a phase: the store without what was removed, and the reply to each number.
+pub fn after_phase(
+    alloc: Global,
+    closed: &Closed,
+    words: WithdrawWords,
+    tabs: Vec<Withdrawer>,
+) -> Result<(Closed, Vec<Vec<WithdrawReply>>), Memory>
+    requires all { AreAll (record { base = closed.now; words = words }) tabs.items }
+    requires words { AreWordsOf closed.now.election closed.now.ballots words }
+    ensures election { IfOk result (λ ended. ended.0.election ≡ closed.now.election) }
+    ensures stored { IfOk result (λ ended. IsStored ended.0) }
+    ensures closes { IfOk result
+        (λ ended. ClosesAs closed.now (map (λ tab. tab.tray) tabs.items)
+        (map (λ replies. replies.items) ended.1.items) ended.0.ballots) }
+{
+    let (seats, trays) = taken_apart(alloc, tabs)?;
+    let withdrawn = withdrawn(alloc, &trays)?;
+    let cells = words.close(alloc, seats)?;
+    let after = closed.without(alloc, closed.election(), &withdrawn, cells)?;
+    let replies = all_replies(alloc, &trays)?;
+    Ok((after, replies))
+}
+
+/// The seats of withdrawers, and their trays.
+fn taken_apart(
+    alloc: Global,
+    tabs: Vec<Withdrawer>,
+) -> Result<(Vec<WithdrawSeat>, Vec<Vec<Withdrawal>>), Memory>
+    ensures seats { IfOk result (λ parts. parts.0.items ≡ map seat_of tabs.items) }
+    ensures trays { IfOk result
+        (λ parts. map (λ tray. tray.items) parts.1.items ≡ map (λ tab. tab.tray) tabs.items) }
+    ensures told { IfOk result (λ _. All TellsOf tabs.items) }
+{
+    let mut seats = Vec::with_capacity(alloc, tabs.len())?;
+    let mut trays = Vec::with_capacity(alloc, tabs.len())?;
+    for tab in tabs {
+        let (seat, tray) = tab.into_parts();
+        seats.push(seat)?;
+        trays.push(tray)?;
+    }
+    Ok((seats, trays))
+}
+
+/// The numbers that were withdrawn, tray by tray.
+fn withdrawn(alloc: Global, trays: &[Vec<Withdrawal>]) -> Result<Vec<u64>, Memory>
+    ensures { IfOk result
+        (λ withdrawn. withdrawn.items ≡ all_withdrawn (map (λ tray. tray.items) trays.now)) }
+{
+    let mut withdrawn = Vec::new(alloc);
+    for tray in trays {
+        push_withdrawn(&mut withdrawn, tray)?;
+    }
+    Ok(withdrawn)
+}
+
+/// Appends the numbers of a tray that were withdrawn.
+fn push_withdrawn(withdrawn: &mut Vec<u64>, tray: &[Withdrawal]) -> Result<(), Memory>
+    ensures { IfOk result
+        (λ _. withdrawn.new.items ≡ withdrawn.old.items ++ withdrawn_of tray.now) }
+{
+    for withdrawal in tray {
+        if withdrawal.reply == WithdrawReply::Withdrawn {
+            withdrawn.push(withdrawal.number)?;
+        }
+    }
+    Ok(())
+}
+
+/// The replies to the numbers of all trays.
+fn all_replies(alloc: Global, trays: &[Vec<Withdrawal>]) -> Result<Vec<Vec<WithdrawReply>>, Memory>
+    ensures { IfOk result
+        (λ replies. map (λ list. list.items) replies.items
+        ≡ map (λ tray. map (λ w. w.reply) tray.items) trays.now) }
+{
+    let mut replies = Vec::with_capacity(alloc, trays.len())?;
+    for tray in trays {
+        replies.push(tray_replies(alloc, tray)?)?;
+    }
+    Ok(replies)
+}
+
+/// The replies to the numbers of a tray.
+fn tray_replies(alloc: Global, tray: &[Withdrawal]) -> Result<Vec<WithdrawReply>, Memory>
+    ensures { IfOk result (λ replies. replies.items ≡ map (λ w. w.reply) tray.now) }
+{
+    Ok(
+        tray.iter()
+            .map(|withdrawal| withdrawal.reply)
+            .collect(alloc)?,
+    )
+}

@@ -1,0 +1,33 @@
+//! One number at shared words: its flag is set, and then it and each number that takes its place is removed.
+
+ghost use Rattle.phase_delete.specs.Gains.{Gains, IsNewTo, IsRemoval};
+ghost use Rattle.std.specs.Prelude.{◌≡◌};
+ghost use Rattle.store_spec.specs.WithdrawStep.{IsSeated};
+ghost use Rattle.store_spec.specs.WithdrawStep.WithdrawState.{Rest};
+
+use step_core::{WithdrawNote, WithdrawReply, WithdrawState};
+use word_rule::{WithdrawSeat, WithdrawWords};
+
+/// Removes a number that stood in this cell at the opening, unless another did so before.
+pub fn remove(
+    words: &WithdrawWords,
+    seat: &mut WithdrawSeat,
+    number: u64,
+    place: usize,
+) -> WithdrawReply
+    requires belongs { seat.old.words ≡ words.now }
+    requires at_rest { seat.old.view.state ≡ Rest }
+    requires seated { IsSeated words.now.base number place }
+    ensures words { seat.new.words ≡ seat.old.words }
+    ensures removal { IsRemoval result }
+    ensures gains { Gains seat.old.view number result seat.new.view }
+    ensures new { result ≡ WithdrawReply.Withdrawn → IsNewTo seat.old.view number }
+{
+    if words.first(seat, number, place) == WithdrawNote::Gone {
+        return WithdrawReply::Gone;
+    }
+    'steps: while seat.state() != WithdrawState::Rest {
+        words.next(seat);
+    }
+    WithdrawReply::Withdrawn
+}

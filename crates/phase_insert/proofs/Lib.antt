@@ -1,0 +1,13 @@
+pub mod CastLists
+pub mod Compared
+pub mod Hands
+pub mod HeldNumbers
+pub mod Notes
+pub mod Opened
+pub mod Outcome
+pub mod Probing
+pub mod Rows
+pub mod Sent
+pub mod Trays
+pub mod Unions
+pub mod Whole

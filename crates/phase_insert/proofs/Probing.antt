@@ -1,0 +1,137 @@
+-- Probes for a number, of which those before the last one told nothing.
+use Rattle.std.proofs.Common.{◌≡◌, ◌≢◌, ℕ, ◌+◌, ◌-◌, ◌<◌, inl, inr, List, [], ◌∷◌, refl, sym, ap, ◌∙◌, subst, arith}
+use Rattle.phase_insert.specs.Gains.{IsNewTo, Probes}
+use Rattle.store_spec.specs.CastStep.{CastNote, CastRow, CastState, CastView, Table, number_of, view_after}
+use Rattle.store_spec.specs.CastStep.CastNote.{Quiet, Claimed, Taken, Full, Placed}
+use Rattle.store_spec.specs.CastStep.CastRow.{claim_won, claim_met, claim_passed, claims_full, look_passes, look_ready, takes_empty, displaces, lost_passes, lost_ready}
+use Rattle.store_spec.specs.CastStep.CastState.{Rest, Probing, Carrying, Ready}
+use Rattle.word_rule.specs.CastSeats.{IsToldAlike, MakesRow}
+
+-- the state after a probe, by its note
+abbrev pub IsProbeAfter : Table → ℕ → ℕ → CastState → CastNote → Type 0
+IsProbeAfter t x k new Quiet = (new ≡ Probing x (k + 1)) × (k + 1 < t.claims)
+IsProbeAfter t x k new Claimed = new ≡ Carrying x (t.home x)
+IsProbeAfter t x k new Taken = new ≡ Rest
+IsProbeAfter t x k new Full = new ≡ Rest
+IsProbeAfter t x k new Placed = ⊥
+
+abbrev IsAfter : Table → CastState → CastState → CastNote → Type 0
+IsAfter t Rest new note = Unit {0}
+IsAfter t (Probing x k) new note = IsProbeAfter t x k new note
+IsAfter t (Carrying v i) new note = Unit {0}
+IsAfter t (Ready v i s) new note = Unit {0}
+
+row_after : (t : Table) (from : CastState) (word found left : ℕ) (new : CastState) (note : CastNote) → CastRow t from word found left new note → IsAfter t from new note
+row_after t from word found left new note (claim_won x k) = refl
+row_after t from word found left new note (claim_met x k) = refl
+row_after t from word found left new note (claim_passed x k f some other more) = (refl, more)
+row_after t from word found left new note (claims_full x k f some other last) = refl
+row_after t from word found left new note (look_passes v i f greater) = tt
+row_after t from word found left new note (look_ready v i f less) = tt
+row_after t from word found left new note (takes_empty v i) = tt
+row_after t from word found left new note (displaces v i s some) = tt
+row_after t from word found left new note (lost_passes v i s f lost greater) = tt
+row_after t from word found left new note (lost_ready v i s f lost less) = tt
+
+pub probe_after : (t : Table) (number : ℕ) (old now : CastView) (note : CastNote) (p : Probes t number old note now) → IsProbeAfter t number p.tries now.state note
+probe_after t number old now note p = row_after t (Probing number p.tries) _ p.row.found _ now.state note p.row.leads
+
+pub quiet_probe : (t : Table) (number : ℕ) (old now : CastView) (note : CastNote) → note ≡ Quiet → Probes t number old note now → Probes t number old Quiet now
+quiet_probe t number old now note quiet p = subst (λ (n : CastNote). Probes t number old n now) quiet p
+
+pub is_not_rest : (t : Table) (number : ℕ) (old now : CastView) → Probes t number old Quiet now → now.state ≢ Rest
+is_not_rest t number old now p rests =
+    let after = probe_after t number old now Quiet p in
+    let same : Probing number (p.tries + 1) ≡ Rest = sym after.0 ∙ rests in
+    cc
+
+-- ---- one probe more
+
+abbrev in_state : CastView → CastState → CastView
+in_state view state = record view { state = state }
+
+-- where a probe told nothing, the lists are those of before
+pub quiet_lists : (t : Table) (number : ℕ) (old now : CastView) → Probes t number old Quiet now → now ≡ record old { state = now.state }
+quiet_lists t number old now p = p.row.is
+
+same_lists : (old : CastView) (number : ℕ) (state new : CastState) (note : CastNote) → view_after (record old { state = state }) number new note ≡ view_after old number new note
+same_lists old number state new Quiet = refl
+same_lists old number state new Claimed = refl
+same_lists old number state new Taken = refl
+same_lists old number state new Full = refl
+same_lists old number state new Placed = refl
+
+pub one_probe_more : (t : Table) (number : ℕ) (old mid now : CastView) (note : CastNote) → Probes t number old Quiet mid → MakesRow t mid.state mid note now → Probes t number old note now
+one_probe_more t number old mid now note p row =
+    let after = probe_after t number old mid Quiet p in
+    let from = subst (λ (s : CastState). MakesRow t s mid note now) after.0 row in
+    record {
+      tries = p.tries + 1;
+      row = record {
+        found = from.found;
+        leads = from.leads;
+        is = from.is ∙ ap (λ (v : CastView). view_after v number now.state note) (quiet_lists t number old mid p) ∙ same_lists old number mid.state now.state note;
+      };
+    }
+
+-- and what its note tells is said of the first view too
+pub told_again : (t : Table) (number : ℕ) (old mid : CastView) (note : CastNote) → Probes t number old Quiet mid → IsToldAlike mid (number_of mid.state) note → IsToldAlike old number note
+told_again t number old mid note p told =
+    let after = probe_after t number old mid Quiet p in
+    let of_number = subst (λ (s : CastState). IsToldAlike mid (number_of s) note) after.0 told in
+    let h = subst (λ (v : CastView). IsToldAlike v number note) (quiet_lists t number old mid p) of_number in
+    record { again = h.again; no_room = h.no_room; full_again = h.full_again }
+
+-- ---- the measure
+
+abbrev pub tries_left : Table → CastState → ℕ
+tries_left t Rest = 0
+tries_left t (Probing x k) = t.claims - k
+tries_left t (Carrying v i) = 0
+tries_left t (Ready v i s) = 0
+
+left_after : (t : Table) (x k : ℕ) (new : CastState) (note : CastNote) → k < t.claims → IsProbeAfter t x k new note → tries_left t new < t.claims - k
+left_after t x k new Quiet left h = subst (λ (s : CastState). tries_left t s < t.claims - k) (sym h.0) (omega arith)
+left_after t x k new Claimed left h = subst (λ (s : CastState). tries_left t s < t.claims - k) (sym h) (omega arith)
+left_after t x k new Taken left h = subst (λ (s : CastState). tries_left t s < t.claims - k) (sym h) (omega arith)
+left_after t x k new Full left h = subst (λ (s : CastState). tries_left t s < t.claims - k) (sym h) (omega arith)
+left_after t x k new Placed left h = absurd h
+
+pub tries_fall : (t : Table) (number : ℕ) (old mid now : CastView) (note : CastNote) → Probes t number old Quiet mid → MakesRow t mid.state mid note now → tries_left t now.state < tries_left t mid.state
+tries_fall t number old mid now note p row =
+    let after = probe_after t number old mid Quiet p in
+    let from = subst (λ (s : CastState). MakesRow t s mid note now) after.0 row in
+    subst (λ (s : CastState). tries_left t now.state < tries_left t s) (sym after.0)
+    (left_after t number (p.tries + 1) now.state note after.1 (row_after t (Probing number (p.tries + 1)) _ from.found _ now.state note from.leads))
+
+-- ---- what is claimed
+
+-- the view of a number that was claimed and placed
+pub claimed_and_placed : (t : Table) (number : ℕ) (old mid now : CastView) → Probes t number old Claimed mid → now ≡ record mid { state = Rest } → now ≡ view_after old number Rest Claimed
+claimed_and_placed t number old mid now p placed = placed ∙ ap (λ (v : CastView). in_state v Rest) p.row.is
+
+no_more : {X : Type 0} (xs : List X) → ((xs ≢ []) → ⊥) → xs ≡ []
+no_more [] some = refl
+no_more (x ∷ xs) some = absurd (some (λ same. cc))
+
+pub claimed_new : (claims : ℕ) (view : CastView) (number : ℕ) → claims ≢ 0 → IsToldAlike view number Claimed → IsNewTo claims view number
+claimed_new claims view number some told = record {
+  some_claim = some;
+  not_accepted = λ c. (told.again (inl c)).0 refl;
+  not_taken = λ c. (told.again (inr c)).0 refl;
+  no_full = no_more view.full (λ some. told.no_room some refl);
+}
+
+-- a number that was taken, or met full claim words, and the seat rests
+pub taken_gains : (t : Table) (number : ℕ) (old now : CastView) → Probes t number old Taken now → now ≡ view_after old number Rest Taken
+taken_gains t number old now p = p.row.is ∙ ap (λ (s : CastState). view_after old number s Taken) (probe_after t number old now Taken p)
+
+pub full_gains : (t : Table) (number : ℕ) (old now : CastView) → Probes t number old Full now → now ≡ view_after old number Rest Full
+full_gains t number old now p = p.row.is ∙ ap (λ (s : CastState). view_after old number s Full) (probe_after t number old now Full p)
+
+-- where no note was quiet or placed one, none is left
+pub other_notes : (t : Table) (number : ℕ) (old now : CastView) → Probes t number old Placed now → ⊥
+other_notes t number old now p = probe_after t number old now Placed p
+
+pub in_hand_after : (t : Table) (number : ℕ) (old now : CastView) → Probes t number old Claimed now → (v place : ℕ) × (now.state ≡ Carrying v place)
+in_hand_after t number old now p = (number, t.home number, probe_after t number old now Claimed p)

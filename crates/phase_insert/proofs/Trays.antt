@@ -1,0 +1,155 @@
+-- A tray with one ballot more, and the lists of its seat.
+use Rattle.std.proofs.Common.{◌≡◌, ◌≢◌, ℕ, ⊎_elim, Bool, true, List, [], ◌∷◌, ◌++◌, get_or, map, refl, sym, ap, ◌∙◌, subst}
+use Rattle.std.proofs.lemmas.List.{append-nil, map-append}
+use Rattle.std.proofs.lemmas.List.Elements.{All-push, Contains-get_or, filter-append}
+use Rattle.std.proofs.lemmas.List.Quantifiers.{all_pairs_push}
+use Rattle.std.specs.List.{Contains, filter}
+use Rattle.ballot_record.specs.Record.{ballot}
+use Rattle.ballot_record.specs.declared.record.Record.{Record}
+use Rattle.body_store.proofs.Numbers.{no_record}
+use Rattle.phase_insert.proofs.Compared.{another_number, has_own_number}
+use Rattle.phase_insert.specs.CastPhase.{Phase}
+use Rattle.phase_insert.specs.Gains.{Gains, IsNewTo}
+use Rattle.phase_insert.specs.Tray.{Compares, IsTold, MayPrecede, is_accepted, is_full, is_taken, numbers_that}
+use Rattle.phase_insert.specs.declared.reply.Cast.{Cast}
+use Rattle.phase_insert.specs.declared.reply.CastReply.{CastReply}
+use Rattle.phase_insert.specs.declared.reply.CastReply.TheVariants.{Accepted, Duplicate, Conflict, Taken, Full}
+use Rattle.store_spec.specs.Ballot.{Ballot, IsValid}
+use Rattle.store_spec.specs.BallotPhase.{HasNumber}
+use Rattle.store_spec.specs.CastStep.{CastView}
+use Rattle.store_spec.specs.CastStep.CastState.{Rest}
+use Rattle.word_rule.proofs.Members.{contains-filter, contains-map, not_in_none}
+use Rattle.word_rule.specs.Seats.{SharedWords}
+
+-- ---- the numbers of a tray
+
+abbrev pub cast_of : Record → CastReply → Cast
+cast_of b reply = record { ballot = b; reply = reply }
+
+numbers_that-append : (p : CastReply → Bool) (xs ys : List Cast) → numbers_that p (xs ++ ys) ≡ numbers_that p xs ++ numbers_that p ys
+numbers_that-append p xs ys =
+    ap (map (λ (c : Cast). c.ballot.number)) (filter-append (λ (c : Cast). p c.reply) xs ys)
+    ∙ map-append (λ (c : Cast). c.ballot.number) (filter (λ (c : Cast). p c.reply) xs) (filter (λ (c : Cast). p c.reply) ys)
+
+-- a ballot adds its number, or nothing
+module _ (p : CastReply → Bool) (tray : List Cast) (c : Cast) (list now : List ℕ) where
+  adds : numbers_that p (c ∷ []) ≡ c.ballot.number ∷ [] → numbers_that p tray ≡ list → now ≡ list ++ c.ballot.number ∷ [] → numbers_that p (tray ++ c ∷ []) ≡ now
+  adds one so_far is = numbers_that-append p tray (c ∷ []) ∙ ap (λ l. numbers_that p tray ++ l) one ∙ ap (λ l. l ++ c.ballot.number ∷ []) so_far ∙ sym is
+
+  keeps : numbers_that p (c ∷ []) ≡ [] → numbers_that p tray ≡ list → now ≡ list → numbers_that p (tray ++ c ∷ []) ≡ now
+  keeps none so_far is = numbers_that-append p tray (c ∷ []) ∙ ap (λ l. numbers_that p tray ++ l) none ∙ append-nil (numbers_that p tray) ∙ so_far ∙ sym is
+
+-- a ballot of the tray with such a reply has its number among those
+pub listed : (p : CastReply → Bool) (tray : List Cast) (c : Cast) → Contains tray c → p c.reply ≡ true → Contains (numbers_that p tray) c.ballot.number
+listed p tray c there passes = contains-map (λ (x : Cast). x.ballot.number) (filter (λ (x : Cast). p x.reply) tray) c (contains-filter (λ (x : Cast). p x.reply) tray c there passes)
+
+-- ---- the lists of the seat
+
+-- the lists are those that the tray tells
+pub record AreLists (claims : ℕ) (view : CastView) (tray : List Cast) : Type 0 where
+  pub accepted : numbers_that is_accepted tray ≡ view.accepted
+  pub taken : numbers_that is_taken tray ≡ view.taken
+  pub full : claims ≢ 0 → numbers_that is_full tray ≡ view.full
+
+lists_more : (claims : ℕ) (old now : CastView) (tray : List Cast) (b : Record) (reply : CastReply) → AreLists claims old tray → Gains claims old b.number reply now → AreLists claims now (tray ++ cast_of b reply ∷ [])
+lists_more claims old now tray b Accepted h is = record {
+  accepted = adds is_accepted tray (cast_of b Accepted) old.accepted now.accepted refl h.accepted (ap (λ v. v.accepted) is);
+  taken = keeps is_taken tray (cast_of b Accepted) old.taken now.taken refl h.taken (ap (λ v. v.taken) is);
+  full = λ some. keeps is_full tray (cast_of b Accepted) old.full now.full refl (h.full some) (ap (λ v. v.full) is);
+}
+lists_more claims old now tray b Duplicate h is = record {
+  accepted = keeps is_accepted tray (cast_of b Duplicate) old.accepted now.accepted refl h.accepted (ap (λ v. v.accepted) is);
+  taken = keeps is_taken tray (cast_of b Duplicate) old.taken now.taken refl h.taken (ap (λ v. v.taken) is);
+  full = λ some. keeps is_full tray (cast_of b Duplicate) old.full now.full refl (h.full some) (ap (λ v. v.full) is);
+}
+lists_more claims old now tray b Conflict h is = record {
+  accepted = keeps is_accepted tray (cast_of b Conflict) old.accepted now.accepted refl h.accepted (ap (λ v. v.accepted) is);
+  taken = keeps is_taken tray (cast_of b Conflict) old.taken now.taken refl h.taken (ap (λ v. v.taken) is);
+  full = λ some. keeps is_full tray (cast_of b Conflict) old.full now.full refl (h.full some) (ap (λ v. v.full) is);
+}
+lists_more claims old now tray b Taken h is = record {
+  accepted = keeps is_accepted tray (cast_of b Taken) old.accepted now.accepted refl h.accepted (ap (λ v. v.accepted) is);
+  taken = adds is_taken tray (cast_of b Taken) old.taken now.taken refl h.taken (ap (λ v. v.taken) is);
+  full = λ some. keeps is_full tray (cast_of b Taken) old.full now.full refl (h.full some) (ap (λ v. v.full) is);
+}
+lists_more claims old now tray b Full h gains = ⊎_elim
+    (λ none. record {
+      accepted = keeps is_accepted tray (cast_of b Full) old.accepted now.accepted refl h.accepted (ap (λ v. v.accepted) none.1);
+      taken = keeps is_taken tray (cast_of b Full) old.taken now.taken refl h.taken (ap (λ v. v.taken) none.1);
+      full = λ some. absurd (some none.0);
+    })
+    (λ is. record {
+      accepted = keeps is_accepted tray (cast_of b Full) old.accepted now.accepted refl h.accepted (ap (λ v. v.accepted) is);
+      taken = keeps is_taken tray (cast_of b Full) old.taken now.taken refl h.taken (ap (λ v. v.taken) is);
+      full = λ some. adds is_full tray (cast_of b Full) old.full now.full refl (h.full some) (ap (λ v. v.full) is);
+    })
+    gains
+
+rests_more : (claims number : ℕ) (old now : CastView) (reply : CastReply) → old.state ≡ Rest → Gains claims old number reply now → now.state ≡ Rest
+rests_more claims number old now Accepted rests is = ap (λ v. v.state) is
+rests_more claims number old now Duplicate rests is = ap (λ v. v.state) is ∙ rests
+rests_more claims number old now Conflict rests is = ap (λ v. v.state) is ∙ rests
+rests_more claims number old now Taken rests is = ap (λ v. v.state) is
+rests_more claims number old now Full rests gains = ⊎_elim (λ none. ap (λ v. v.state) none.1 ∙ rests) (λ is. ap (λ v. v.state) is) gains
+
+-- ---- the order
+
+-- a number that no held ballot has is not that of a held one
+not_held : (base : List Ballot) (a b : ℕ) → ¬ HasNumber base b → HasNumber base a → a ≢ b
+not_held base a b none there same = none (subst (HasNumber base) same there)
+
+-- what is accepted now was not answered before
+module _ (phase : Phase) (old : CastView) (tray : List Cast) (b : Record) (lists : AreLists phase.words.shape.claims old tray) (new : IsNewTo phase.words.shape.claims old b.number) (none : ¬ HasNumber phase.base.ballots b.number) where
+  other_than : (p : CastReply → Bool) (list : List ℕ) → numbers_that p tray ≡ list → ¬ Contains list b.number → (c : Cast) → Contains tray c → p c.reply ≡ true → c.ballot.number ≢ b.number
+  other_than p list is without c there passes same = without (subst (λ (l : List ℕ). Contains l b.number) is (subst (Contains (numbers_that p tray)) same (listed p tray c there passes)))
+
+  precedes : (c : Cast) → Contains tray c → Compares phase.base.ballots (ballot c.ballot) c.reply → (c.ballot.number ≢ b.number) × (c.reply ≢ Full)
+  precedes c there compares = by_reply c.reply refl
+    where
+      by_reply : (reply : CastReply) → c.reply ≡ reply → (c.ballot.number ≢ b.number) × (c.reply ≢ Full)
+      by_reply Accepted is = (other_than is_accepted old.accepted lists.accepted new.not_accepted c there (ap is_accepted is), λ full. let e : Accepted ≡ Full = sym is ∙ full in cc)
+      by_reply Duplicate is = (
+        not_held phase.base.ballots c.ballot.number b.number none (has_own_number phase.base.ballots (ballot c.ballot) (subst (Compares phase.base.ballots (ballot c.ballot)) is compares)),
+        λ full. let e : Duplicate ≡ Full = sym is ∙ full in cc,
+      )
+      by_reply Conflict is = (
+        not_held phase.base.ballots c.ballot.number b.number none (another_number phase.base.ballots (ballot c.ballot) (subst (Compares phase.base.ballots (ballot c.ballot)) is compares)),
+        λ full. let e : Conflict ≡ Full = sym is ∙ full in cc,
+      )
+      by_reply Taken is = (other_than is_taken old.taken lists.taken new.not_taken c there (ap is_taken is), λ full. let e : Taken ≡ Full = sym is ∙ full in cc)
+      by_reply Full is = not_in_none c.ballot.number (subst (λ (l : List ℕ). Contains l c.ballot.number) (lists.full new.some_claim ∙ new.no_full) (listed is_full tray c there (ap is_full is)))
+
+-- ---- one ballot more
+
+pub told_more : (phase : Phase) (old now : CastView) (tray : List Cast) (b : Record) (reply : CastReply) → IsTold phase old tray → IsValid phase.base.election (ballot b) → Compares phase.base.ballots (ballot b) reply → Gains phase.words.shape.claims old b.number reply now
+    → (reply ≡ Accepted → IsNewTo phase.words.shape.claims old b.number) → IsTold phase now (tray ++ cast_of b reply ∷ [])
+told_more phase old now tray b reply told valid compares gains new =
+    let claims = phase.words.shape.claims in
+    let c = cast_of b reply in
+    let before : AreLists claims old tray = record { accepted = told.accepted; taken = told.taken; full = told.full } in
+    let lists = lists_more claims old now tray b reply before gains in
+    let Right : Cast → Type 0 = λ x. Compares phase.base.ballots (ballot x.ballot) x.reply in
+    record {
+      at_rest = rests_more claims b.number old now reply told.at_rest gains;
+      accepted = lists.accepted;
+      taken = lists.taken;
+      full = lists.full;
+      valid = All-push (λ (x : Cast). IsValid phase.base.election (ballot x.ballot)) tray c told.valid valid;
+      compared = All-push Right tray c told.compared compares;
+      in_order = all_pairs_push MayPrecede tray c told.in_order (λ k d within accepts.
+          precedes phase old tray b before (new accepts) (subst (Compares phase.base.ballots (ballot b)) accepts compares)
+          (get_or tray k d) (Contains-get_or tray k d within) (told.compared k d within));
+    }
+
+-- the same of a tabulator, as its parts are known after the call
+pub told_anew : (phase known : Phase) (words : SharedWords) (old now : CastView) (tray items : List Cast) (b : Record) (reply : CastReply) → phase ≡ known → words ≡ phase.words → items ≡ tray ++ cast_of b reply ∷ []
+    → IsTold phase old tray → IsValid known.base.election (ballot b) → Compares known.base.ballots (ballot b) reply → Gains known.words.shape.claims old b.number reply now → (reply ≡ Accepted → IsNewTo known.words.shape.claims old b.number)
+    → IsTold (record { base = phase.base; words = words }) now items
+told_anew phase known words old now tray items b reply same belong is told valid compares gains new =
+    let more = told_more known old now tray b reply (subst (λ (p : Phase). IsTold p old tray) same told) valid compares gains new in
+    subst (λ (w : SharedWords). IsTold (record { base = phase.base; words = w }) now items) (sym belong)
+    (subst (λ (l : List Cast). IsTold phase now l) (sym is) (subst (λ (p : Phase). IsTold p now (tray ++ cast_of b reply ∷ [])) (sym same) more))
+
+-- what stands past the end of a tray
+abbrev pub no_cast : Cast
+no_cast = record { ballot = no_record; reply = Accepted }

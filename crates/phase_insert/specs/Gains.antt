@@ -1,0 +1,37 @@
+-- What a number that is cast adds to the lists of its seat.
+use Rattle.std.specs.Prelude.{◌≡◌, ◌≢◌, ◌⊎◌, ℕ, [], Contains}
+use Rattle.phase_insert.specs.declared.reply.CastReply.{CastReply}
+use Rattle.phase_insert.specs.declared.reply.CastReply.TheVariants.{Accepted, Duplicate, Conflict, Taken, Full}
+use Rattle.store_spec.specs.CastStep as note
+use Rattle.store_spec.specs.CastStep.{CastNote, CastView, Table, view_after}
+use Rattle.store_spec.specs.CastStep.CastState.{Probing, Rest}
+use Rattle.word_rule.specs.CastSeats.{MakesRow}
+
+-- The number is in the list that the reply names, and the seat is at rest. Where the base answers, or there are no claim
+-- words, nothing changes.
+abbrev pub Gains : ℕ → CastView → ℕ → CastReply → CastView → Type 0
+Gains claims old number Accepted now = now ≡ view_after old number Rest note.CastNote.Claimed
+Gains claims old number Duplicate now = now ≡ old
+Gains claims old number Conflict now = now ≡ old
+Gains claims old number Taken now = now ≡ view_after old number Rest note.CastNote.Taken
+Gains claims old number Full now = ((claims ≡ 0) × (now ≡ old)) ⊎ (now ≡ view_after old number Rest note.CastNote.Full)
+
+-- a reply that the claim words give
+abbrev pub IsMet : CastReply → Type 0
+IsMet Accepted = Unit {0}
+IsMet Duplicate = ⊥
+IsMet Conflict = ⊥
+IsMet Taken = Unit {0}
+IsMet Full = Unit {0}
+
+-- there are claim words, and the seat has neither accepted the number nor found it taken, and met no full claim words
+pub record IsNewTo (claims : ℕ) (view : CastView) (number : ℕ) : Type 0 where
+  pub some_claim : claims ≢ 0
+  pub not_accepted : ¬ Contains view.accepted number
+  pub not_taken : ¬ Contains view.taken number
+  pub no_full : view.full ≡ []
+
+-- the last of some probes for a number, of which those before told nothing
+pub record Probes (t : Table) (number : ℕ) (old : CastView) (told : CastNote) (now : CastView) : Type 0 where
+  pub tries : ℕ
+  pub row : MakesRow t (Probing number tries) old told now

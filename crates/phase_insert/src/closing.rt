@@ -1,0 +1,185 @@
+//! The two ends of a phase: what it is made of, and what becomes of it.
+
+ghost use Rattle.ballot_record.specs.Record.{ballot};
+ghost use Rattle.body_store.specs.Contents.{IsStored, ballots_of};
+ghost use Rattle.phase_insert.specs.CastPhase.{AreCastWordsOf};
+ghost use Rattle.phase_insert.specs.Closing.{ClosesAs};
+ghost use Rattle.phase_insert.specs.Ends.{AreAllFinals, AreFinals, Decides, IsAnswered, TellsOf, all_accepted, seat_of};
+ghost use Rattle.phase_insert.specs.Tabulator.{AreAll, new_tabulator, seated_at};
+ghost use Rattle.phase_insert.specs.Tray.{ballots_that, is_accepted};
+ghost use Rattle.std.specs.Prelude.{◌≡◌, ◌≤◌, ◌++◌, All, IfOk, length, map, zip};
+ghost use Rattle.store_spec.specs.CastStep.{fresh_view};
+
+use crate::{Cast, CastReply, Final, Tabulator};
+use ballot_record::{Election, Record};
+use body_store::Closed;
+use outside_io::Memory;
+use probe_order::Salted;
+use std::alloc::Global;
+use step_core::Shape;
+use word_rule::{CastSeat, CastWords};
+
+/// What a phase is made of: the shape of its words, the words, and a tabulator for each entry of the plan.
+pub fn opened(
+    alloc: Global,
+    closed: &Closed,
+    election: &Election,
+    plan: &[u32],
+) -> Result<(Shape, CastWords, Vec<Tabulator>), Memory>
+    requires own { election.now ≡ closed.now.election }
+    requires some_tabulator { 1 ≤ length plan.now }
+    ensures shape { IfOk result (λ made. made.0 ≡ made.1.shape) }
+    ensures words { IfOk result (λ made. AreCastWordsOf closed.now made.1) }
+    ensures seats { IfOk result (λ made. made.1.seats ≡ length plan.now) }
+    ensures tabulators { IfOk result
+        (λ made. made.2.items
+        ≡ map (new_tabulator (record { base = closed.now; words = made.1 })) plan.now) }
+{
+    let shape = Shape {
+        order: Salted {
+            bits: election.bits(),
+            salt: election.salt(),
+        },
+        cells: election.cells(),
+        claims: election.limit() as usize - closed.len(),
+    };
+    let (words, seats) = CastWords::new(alloc, shape, closed.cells(), plan.len())?;
+    let tabulators = seated(alloc, closed, seats, plan)?;
+    Ok((shape, words, tabulators))
+}
+
+/// A tabulator at each of new seats.
+fn seated(
+    alloc: Global,
+    closed: &Closed,
+    seats: Vec<CastSeat>,
+    plan: &[u32],
+) -> Result<Vec<Tabulator>, Memory>
+    requires new { All (λ seat. seat.view ≡ fresh_view) seats.items }
+    ensures { IfOk result
+        (λ tabs. tabs.items ≡ map (seated_at closed.now) (zip seats.items plan.now)) }
+{
+    let mut tabs = Vec::with_capacity(alloc, plan.len())?;
+    for (seat, room) in seats.into_iter().zip(plan) {
+        tabs.push(Tabulator::new(alloc, closed, seat, *room)?)?;
+    }
+    Ok(tabs)
+}
+
+/// What becomes of a phase: the store with what was accepted, and a final reply to each ballot.
+pub fn after_phase(
+    alloc: Global,
+    closed: &Closed,
+    words: CastWords,
+    tabs: Vec<Tabulator>,
+) -> Result<(Closed, Vec<Vec<Final>>), Memory>
+    requires all { AreAll (record { base = closed.now; words = words }) tabs.items }
+    requires words { AreCastWordsOf closed.now words }
+    ensures election { IfOk result (λ ended. ended.0.election ≡ closed.now.election) }
+    ensures stored { IfOk result (λ ended. IsStored ended.0) }
+    ensures closes { IfOk result
+        (λ ended. ClosesAs closed.now (map (λ tab. tab.tray) tabs.items)
+        (map (λ finals. finals.items) ended.1.items) ended.0.ballots) }
+{
+    let (seats, trays) = taken_apart(alloc, tabs)?;
+    let accepted = accepted(alloc, &trays)?;
+    let cells = words.close(alloc, seats)?;
+    let after = closed.merged(alloc, closed.election(), &accepted, cells)?;
+    let finals = all_finals(alloc, &after, &trays)?;
+    Ok((after, finals))
+}
+
+/// The seats of tabulators, and their trays.
+fn taken_apart(
+    alloc: Global,
+    tabs: Vec<Tabulator>,
+) -> Result<(Vec<CastSeat>, Vec<Vec<Cast>>), Memory>
+    ensures seats { IfOk result (λ parts. parts.0.items ≡ map seat_of tabs.items) }
+    ensures trays { IfOk result
+        (λ parts. map (λ tray. tray.items) parts.1.items ≡ map (λ tab. tab.tray) tabs.items) }
+    ensures told { IfOk result (λ _. All TellsOf tabs.items) }
+{
+    let mut seats = Vec::with_capacity(alloc, tabs.len())?;
+    let mut trays = Vec::with_capacity(alloc, tabs.len())?;
+    for tab in tabs {
+        let (seat, tray) = tab.into_parts();
+        seats.push(seat)?;
+        trays.push(tray)?;
+    }
+    Ok((seats, trays))
+}
+
+/// The ballots that were accepted, tray by tray.
+fn accepted(alloc: Global, trays: &[Vec<Cast>]) -> Result<Vec<Record>, Memory>
+    ensures { IfOk result
+        (λ accepted. ballots_of accepted.items
+        ≡ all_accepted (map (λ tray. tray.items) trays.now)) }
+{
+    let mut accepted = Vec::new(alloc);
+    for tray in trays {
+        push_accepted(&mut accepted, tray)?;
+    }
+    Ok(accepted)
+}
+
+/// Appends the ballots of a tray that were accepted.
+fn push_accepted(accepted: &mut Vec<Record>, tray: &[Cast]) -> Result<(), Memory>
+    ensures { IfOk result
+        (λ _. ballots_of accepted.new.items
+        ≡ ballots_of accepted.old.items ++ ballots_that is_accepted tray.now) }
+{
+    for cast in tray {
+        if cast.reply == CastReply::Accepted {
+            accepted.push(cast.ballot)?;
+        }
+    }
+    Ok(())
+}
+
+/// The final replies to the ballots of all trays.
+fn all_finals(alloc: Global, after: &Closed, trays: &[Vec<Cast>]) -> Result<Vec<Vec<Final>>, Memory>
+    ensures { IfOk result
+        (λ finals. AreAllFinals after.now.ballots (map (λ tray. tray.items) trays.now)
+        (map (λ list. list.items) finals.items)) }
+{
+    let mut finals = Vec::with_capacity(alloc, trays.len())?;
+    for tray in trays {
+        finals.push(tray_finals(alloc, after, tray)?)?;
+    }
+    Ok(finals)
+}
+
+/// The final replies to the ballots of a tray.
+fn tray_finals(alloc: Global, after: &Closed, tray: &[Cast]) -> Result<Vec<Final>, Memory>
+    ensures { IfOk result (λ finals. AreFinals after.now.ballots tray.now finals.items) }
+{
+    let mut finals = Vec::with_capacity(alloc, tray.len())?;
+    for cast in tray {
+        finals.push(final_of(after, cast))?;
+    }
+    Ok(finals)
+}
+
+/// The final reply to a ballot.
+fn final_of(after: &Closed, cast: &Cast) -> Final
+    ensures { IsAnswered after.now.ballots (cast.now, result) }
+{
+    match cast.reply {
+        CastReply::Accepted => Final::Accepted,
+        CastReply::Duplicate => Final::Duplicate,
+        CastReply::Conflict => Final::Conflict,
+        CastReply::Taken => compared(after, &cast.ballot),
+        CastReply::Full => Final::Full,
+    }
+}
+
+/// The final reply to a ballot whose number was taken.
+fn compared(after: &Closed, cast: &Record) -> Final
+    ensures { Decides after.now.ballots (ballot cast.now) result }
+{
+    if after.record_of(cast.number) == Some(*cast) {
+        Final::Duplicate
+    } else {
+        Final::Conflict
+    }
+}

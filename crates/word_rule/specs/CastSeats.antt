@@ -1,0 +1,55 @@
+-- What one step of a seat of casting tells, and what is kept of the words.
+use Rattle.std.specs.Prelude.{◌≡◌, ◌≢◌, ◌⊎◌, ℕ, List, [], Contains}
+use Rattle.atomic_table.specs.Table.{Me, Step}
+use Rattle.step_core.specs.CastTables.{FitsIn, LeadsTo, MayFind}
+use Rattle.step_core.specs.Shape.{table_of}
+use Rattle.step_core.specs.declared.shape.Shape.{Shape}
+use Rattle.store_spec.specs.CastInvariant.{CastInvariant, HasRoomFor}
+use Rattle.store_spec.specs.CastStep.{CastNote, CastState, CastView, Table, cast_measure, number_of, view_after}
+use Rattle.store_spec.specs.CastStep.CastNote.{Claimed, Taken, Full}
+use Rattle.store_spec.specs.CastStep.CastState.{Probing, Rest}
+use Rattle.store_spec.specs.Layout.{numbers_in}
+use Rattle.store_spec.specs.Measure.{Falls}
+use Rattle.word_rule.specs.declared.seats.Known.{Known}
+
+-- the casting invariant over the words and all views
+pub record IsCast (shape : Shape) (base words : List ℕ) (views : List CastView) : Type 0 where
+  pub room : HasRoomFor (table_of shape) (numbers_in base)
+  pub invariant : CastInvariant (table_of shape) (numbers_in base) words views
+
+-- such seats are made, and taken in by others
+abbrev pub IsAtRest : CastView → Type 0
+IsAtRest view = view.state ≡ Rest
+
+-- A number that the seat has accepted or found taken is neither claimed nor met full claim words for. Once the seat has
+-- met full claim words it claims no more, and a number that it met them for is not found taken.
+pub record IsToldAlike (view : CastView) (number : ℕ) (note : CastNote) : Type 0 where
+  pub again : Contains view.accepted number ⊎ Contains view.taken number → (note ≢ Claimed) × (note ≢ Full)
+  pub no_room : view.full ≢ [] → note ≢ Claimed
+  pub full_again : Contains view.full number → note ≢ Taken
+
+-- one row of the table from a state: the word that is found leads to the new state, with this note, and the list that the
+-- note names grows by the number
+pub record MakesRow (t : Table) (from : CastState) (old : CastView) (note : CastNote) (now : CastView) : Type 0 where
+  pub found : ℕ
+  pub leads : LeadsTo t from found now.state note
+  pub is : now ≡ view_after old (number_of from) now.state note
+
+-- what a step from a state tells of the word that it found and of the seat after it
+pub record StepsFrom (from : CastState) (me : Me (Unit {0}) (Known CastView)) (found : ℕ) (now : Me (Unit {0}) (Known CastView)) : Type 0 where
+  pub new : CastState
+  pub note : CastNote
+  pub may_find : MayFind from found
+  pub leads : LeadsTo (table_of me.0.shape) from found new note
+  pub is : now ≡ (record me.0 { view = view_after me.0.view (number_of from) new note }, me.1)
+  pub fits : FitsIn (table_of me.0.shape) new
+  pub told_alike : IsToldAlike me.0.view (number_of from) note
+  pub falls : Falls (cast_measure (table_of me.0.shape) new) (cast_measure (table_of me.0.shape) from)
+
+-- a step from the seat's own state
+abbrev pub goes_on : Step (Unit {0}) → Me (Unit {0}) (Known CastView) → ℕ → Me (Unit {0}) (Known CastView) → Type 0
+goes_on step me found now = StepsFrom me.0.view.state me found now
+
+-- the first step of the number that the step is to put
+abbrev pub begins : Step (Unit {0}) → Me (Unit {0}) (Known CastView) → ℕ → Me (Unit {0}) (Known CastView) → Type 0
+begins step me found now = StepsFrom (Probing step.second 0) me found now

@@ -1,0 +1,62 @@
+-- Shared words of casting and their seats, as callers see them.
+use Rattle.std.specs.Prelude.{◌≡◌, ◌≢◌, ℕ, ◌+◌, ◌^◌, ◌<◌, ◌≤◌, List, ◌++◌, length, map, All, Contains}
+use Rattle.crossbeam_utils.specs.Padded.{padded_value}
+use Rattle.step_core.specs.CastTables.{FitsIn, state_of}
+use Rattle.step_core.specs.Shape.{homes_of, table_of}
+use Rattle.step_core.specs.declared.shape.Shape.{Shape}
+use Rattle.store_spec.specs.CastInvariant.{EachOnce, accepted_of}
+use Rattle.store_spec.specs.CastStep.{CastView}
+use Rattle.store_spec.specs.Layout.{IsOrdered, layout_of, numbers_in}
+use Rattle.word_rule.specs.Places.{IsSingle, Place, place_of}
+use Rattle.word_rule.specs.Seats.{SharedWords}
+use Rattle.word_rule.specs.declared.cast.CastSeat.TheInside as seats
+use Rattle.word_rule.specs.declared.cast.CastWords.TheInside as words
+
+-- what words may be made of: ordered cells, with room for what stands in them, each claim word and each home
+pub record MayHold (shape : Shape) (cells : List ℕ) : Type 0 where
+  pub ordered : IsOrdered (homes_of shape) cells
+  pub size : length cells ≡ shape.cells
+  pub small : shape.cells + shape.claims < 2 ^ 32
+  pub room : length (numbers_in cells) + shape.claims + 2 ^ shape.order.bits ≤ shape.cells
+
+-- a number that a seat may begin with: it is not 0 and stood in no cell at the opening, and there are claim words
+pub record MayBegin (words : SharedWords) (number : ℕ) : Type 0 where
+  pub some : number ≢ 0
+  pub not_held : ¬ Contains (numbers_in words.base) number
+  pub claims : words.shape.claims ≢ 0
+
+-- the numbers that seats have accepted
+abbrev pub accepted_by : List (Place CastView) → List ℕ
+accepted_by seats = accepted_of (map (λ seat. seat.view) seats)
+
+-- What the lists of all seats are like at the end. A number is accepted once and was not held, and each has a claim word.
+-- One that was found taken was accepted, and one that met full claim words was not, where as many are accepted as there
+-- are claim words.
+pub record AgreeOn (words : SharedWords) (seats : List (Place CastView)) : Type 0 where
+  pub once : EachOnce (accepted_by seats)
+  pub not_held : All (λ x. ¬ Contains (numbers_in words.base) x) (accepted_by seats)
+  pub few : length (accepted_by seats) ≤ words.shape.claims
+  pub taken : All (λ seat. All (Contains (accepted_by seats)) seat.view.taken) seats
+  pub full : All (λ seat. All (λ x. (¬ Contains (accepted_by seats) x) × (length (accepted_by seats) ≡ words.shape.claims)) seat.view.full) seats
+
+-- the cells at the end: the layout of what was held and what was accepted
+abbrev pub cells_after : SharedWords → List (Place CastView) → List ℕ
+cells_after words seats = layout_of (homes_of words.shape) words.shape.cells (numbers_in words.base ++ accepted_by seats)
+
+-- ---- how words and seats are kept
+
+pub record AreWords (w : words.Inside) : Type 0 where
+  pub shape : w.shape ≡ w.table.shared.key.shape
+  pub count : w.table.shared.table_id.words ≡ w.shape.cells + w.shape.claims
+  pub some : 0 < w.shape.cells
+  pub some_seat : 0 < w.table.shared.key.seats
+  pub no_slots : w.table.shared.table_id.slots ≡ 0
+  pub small : w.shape.cells + w.shape.claims < 2 ^ 32
+
+abbrev pub seat_seen : seats.Inside → Place CastView
+seat_seen s = place_of s.seat
+
+pub record IsSeat (s : seats.Inside) : Type 0 where
+  pub state : state_of (padded_value s.state) ≡ s.seat.me.0.view.state
+  pub single : IsSingle s.seat
+  pub fits : FitsIn (table_of s.seat.me.0.shape) s.seat.me.0.view.state

@@ -1,0 +1,72 @@
+-- Shared words of withdrawing and their seats, as callers see them.
+use Rattle.std.specs.Prelude.{◌≡◌, ℕ, ◌+◌, ◌^◌, ◌<◌, ◌≤◌, List, length, map, All, Contains}
+use Rattle.crossbeam_utils.specs.Padded.{padded_value}
+use Rattle.step_core.specs.Shape.{homes_of}
+use Rattle.step_core.specs.WithdrawTables.{FitsIn, state_of}
+use Rattle.step_core.specs.declared.shape.Shape.{Shape}
+use Rattle.store_spec.specs.Layout.{layout_of, numbers_in}
+use Rattle.store_spec.specs.WithdrawInvariant.{IsBase, IsOf, begun_by, times}
+use Rattle.store_spec.specs.WithdrawPhase.{without}
+use Rattle.store_spec.specs.WithdrawStep.{FirstRow, WithdrawState, WithdrawView, number_of, view_after}
+use Rattle.store_spec.specs.WithdrawStep as definition
+use Rattle.step_core.specs.WithdrawTables.{LeadsTo}
+use Rattle.word_rule.specs.Places.{IsSingle, Place, place_of}
+use Rattle.word_rule.specs.Seats.{SharedWords, base_of}
+use Rattle.word_rule.specs.declared.withdraw.WithdrawSeat.TheInside as seats
+use Rattle.word_rule.specs.declared.withdraw.WithdrawWords.TheInside as words
+
+-- what words may be made of: ordered cells, of which the last is empty, with a flag for each
+pub record MayEmpty (shape : Shape) (cells : List ℕ) : Type 0 where
+  pub base : IsBase (homes_of shape) cells
+  pub size : length cells ≡ shape.cells
+  pub some : 0 < shape.cells
+  pub small : shape.cells + shape.cells < 2 ^ 32
+  pub no_claims : shape.claims ≡ 0
+
+-- the row of the first step for a number, by the flag that is found, and the list that its note names grows by the number
+pub record MakesFirstRow (home : ℕ → ℕ) (x : ℕ) (old : WithdrawView) (note : definition.WithdrawNote) (now : WithdrawView) : Type 0 where
+  pub found : ℕ
+  pub leads : FirstRow home x found now.state note
+  pub is : now ≡ view_after old x now.state note
+
+-- the row of the table for what is found, and the list that its note names grows by the number
+pub record MakesRow (home : ℕ → ℕ) (old : WithdrawView) (note : definition.WithdrawNote) (now : WithdrawView) : Type 0 where
+  pub found : ℕ
+  pub leads : LeadsTo home old.state found now.state note
+  pub is : now ≡ view_after old (number_of old.state) now.state note
+
+-- the numbers whose removal seats have begun
+abbrev pub begun_at : List (Place WithdrawView) → List ℕ
+begun_at seats = begun_by (map (λ seat. seat.view) seats)
+
+-- What the lists of all seats are like at the end. A removal was begun of numbers that stood in the cells, and of each
+-- once, and one that was found gone is one of them.
+pub record AgreeOn (words : SharedWords) (seats : List (Place WithdrawView)) : Type 0 where
+  pub held : All (IsOf words.base) (begun_at seats)
+  pub once : (x : ℕ) → times (begun_at seats) x ≤ 1
+  pub gone : All (λ seat. All (Contains (begun_at seats)) seat.view.gone) seats
+
+-- the cells at the end: the layout of what was held without what was begun
+abbrev pub cells_after : SharedWords → List (Place WithdrawView) → List ℕ
+cells_after words seats = layout_of (homes_of words.shape) words.shape.cells (without (numbers_in words.base) (begun_at seats))
+
+-- ---- how words and seats are kept
+
+pub record AreWords (w : words.Inside) : Type 0 where
+  pub shape : w.shape ≡ w.table.shared.key.shape
+  pub count : w.table.shared.table_id.words ≡ w.shape.cells + w.shape.cells
+  pub base : length (base_of w.table.shared.key) ≡ w.shape.cells
+  pub some : 0 < w.shape.cells
+  pub no_slots : w.table.shared.table_id.slots ≡ 0
+  pub small : w.shape.cells + w.shape.cells < 2 ^ 32
+  pub no_claims : w.shape.claims ≡ 0
+  pub some_seat : 0 < w.table.shared.key.seats
+  pub begins : IsBase (homes_of w.shape) (base_of w.table.shared.key)
+
+abbrev pub seat_seen : seats.Inside → Place WithdrawView
+seat_seen s = place_of s.seat
+
+pub record IsSeat (s : seats.Inside) : Type 0 where
+  pub state : state_of (padded_value s.state) ≡ s.seat.me.0.view.state
+  pub single : IsSingle s.seat
+  pub fits : FitsIn s.seat.me.0.shape.cells s.seat.me.0.view.state

@@ -1,0 +1,245 @@
+//! Shared words of casting, and seats at which threads make its steps.
+
+#[cfg(test)]
+mod tests;
+
+ghost use Rattle.std.specs.Prelude.{◌≡◌, ◌≢◌, ℕ, ◌<◌, ◌≤◌, All, IfOk, length, map};
+ghost use Rattle.step_core.specs.CastTables.{note_of, state_of};
+ghost use Rattle.step_core.specs.Shape.{table_of};
+ghost use Rattle.store_spec.specs.CastStep.{cast_measure, fresh_view, number_of};
+ghost use Rattle.store_spec.specs.CastStep.CastState.{Probing, Rest};
+ghost use Rattle.store_spec.specs.Measure.{Falls};
+ghost use Rattle.word_rule.specs.CastSeats.{IsAtRest, IsToldAlike, MakesRow};
+ghost use Rattle.word_rule.specs.CastWords.{AgreeOn, MayBegin, MayHold, cells_after};
+ghost use Rattle.word_rule.specs.Places.{AreAll, AreMadeOf, AreWhole, IsSingle, place_of};
+
+use crate::seats::{Known, Opening, Phase, Seated, close_table, deal_seats, join_seats, lay_out};
+use crate::steps::perform;
+use atomic_table::{Play, Seat, Table};
+use crossbeam_utils::CachePadded;
+use outside_io::Memory;
+use std::alloc::Global;
+use std::collections::LinkedList;
+use std::marker::Model;
+use std::snapshot::Snapshot;
+use step_core::{CastNote, CastState, Shape, cast_act, cast_after, cast_first};
+
+/// What a seat of casting knows in its phase: its state, and the numbers that it has accepted, has found taken, and has
+/// met full claim words for. No value of it is made.
+pub struct CastSight {
+    state: CastState,
+    accepted: LinkedList<u64>,
+    taken: LinkedList<u64>,
+    full: LinkedList<u64>,
+}
+
+impl Model for CastSight {
+    ghost use Rattle.step_core.specs.CastTables.{state_of};
+    ghost use Rattle.store_spec.specs.CastStep.{CastView};
+
+    ghost Value = { CastView };
+
+    ghost view = { λ s. record {
+      state = state_of s.state;
+      accepted = s.accepted;
+      taken = s.taken;
+      full = s.full;
+    } };
+}
+
+/// The casting invariant.
+pub struct Casting;
+
+impl Phase<CastSight> for Casting {
+    ghost use Rattle.store_spec.specs.CastStep.{fresh_view, joined_view};
+    ghost use Rattle.word_rule.specs.CastSeats.{IsAtRest, IsCast};
+
+    ghost holds = { IsCast };
+
+    ghost fresh = { fresh_view };
+
+    ghost both = { joined_view };
+
+    ghost rests = { IsAtRest };
+}
+
+/// The first step of a number.
+struct Begins;
+
+impl Play<(), Known<CastSight>> for Begins {
+    ghost use Rattle.word_rule.specs.CastSeats.{begins};
+
+    ghost then = { begins };
+}
+
+/// A later step.
+struct GoesOn;
+
+impl Play<(), Known<CastSight>> for GoesOn {
+    ghost use Rattle.word_rule.specs.CastSeats.{goes_on};
+
+    ghost then = { goes_on };
+}
+
+/// Shared words of a casting phase: the cells, and behind them the claim words.
+#[derive(Drop)]
+pub struct CastWords {
+    shape: Shape,
+    table: Table<(), Known<CastSight>, Opening, Seated<Casting>, Global>,
+}
+
+impl Model for CastWords {
+    ghost use Rattle.word_rule.specs.CastWords.{AreWords};
+    ghost use Rattle.word_rule.specs.Places.{words_seen};
+    ghost use Rattle.word_rule.specs.Seats.{SharedWords};
+
+    ghost Value = { SharedWords };
+
+    ghost view = { λ w. words_seen w.table.shared };
+
+    ghost invariant = { AreWords };
+}
+
+/// A seat at shared words of casting. One thread at a time makes its steps. Nothing else lies on the cache lines of its
+/// state.
+#[derive(Drop)]
+pub struct CastSeat {
+    state: CachePadded<CastState>,
+    seat: Seat<(), Known<CastSight>>,
+}
+
+impl Model for CastSeat {
+    ghost use Rattle.store_spec.specs.CastStep.{CastView};
+    ghost use Rattle.word_rule.specs.CastWords.{IsSeat, seat_seen};
+    ghost use Rattle.word_rule.specs.Places.{Place};
+
+    ghost Value = { Place CastView };
+
+    ghost view = { seat_seen };
+
+    ghost invariant = { IsSeat };
+}
+
+impl CastSeat {
+    /// What it is about.
+    pub fn state(&self) -> CastState
+        ensures { state_of result ≡ self.now.view.state }
+    {
+        *self.state
+    }
+}
+
+impl CastWords {
+    /// Words over ordered cells, with free claim words, and so many new seats. Each seat but one costs a step on word 0.
+    pub fn new(
+        alloc: Global,
+        shape: Shape,
+        cells: &[u64],
+        seats: usize,
+    ) -> Result<(CastWords, Vec<CastSeat>), Memory>
+        requires some_seat { 1 ≤ seats }
+        requires may_hold { MayHold shape cells.now }
+        ensures words { IfOk result (λ made. AreMadeOf shape cells.now seats made.0) }
+        ensures seats { IfOk result (λ made. AreAll fresh_view made.0 made.1.items) }
+    {
+        let words = lay_out(alloc, cells, shape.claims)?;
+        let opening = Opening {
+            shape,
+            seats,
+            words: Snapshot::of(&words),
+        };
+        let (table, first) = Table::of_words(alloc, &words, &opening)?;
+        let dealt = deal_seats(alloc, &table.shared, first, seats)?;
+        let seats = new_seats(alloc, dealt)?;
+        Ok((CastWords { shape, table }, seats))
+    }
+
+    /// The first step of a number, by a seat at rest: its first claim word is tried.
+    pub fn first(&self, seat: &mut CastSeat, number: u64) -> CastNote
+        requires belongs { seat.old.words ≡ self.now }
+        requires at_rest { seat.old.view.state ≡ Rest }
+        requires may_begin { MayBegin self.now number }
+        ensures words { seat.new.words ≡ seat.old.words }
+        ensures row { MakesRow (table_of self.now.shape) (Probing number 0) seat.old.view
+            (note_of result) seat.new.view }
+        ensures told_alike { IsToldAlike seat.old.view number (note_of result) }
+    {
+        let probing = CastState::Probing { number, tries: 0 };
+        let act = cast_act(&self.shape, probing);
+        let found = perform::<_, _, _, Begins>(&self.table.shared, &mut seat.seat, act);
+        let (state, note) = cast_first(&self.shape, number, found);
+        *seat.state = state;
+        note
+    }
+
+    /// The next step of a seat that is not at rest.
+    pub fn next(&self, seat: &mut CastSeat) -> CastNote
+        requires belongs { seat.old.words ≡ self.now }
+        requires moving { seat.old.view.state ≢ Rest }
+        ensures words { seat.new.words ≡ seat.old.words }
+        ensures row { MakesRow (table_of self.now.shape) seat.old.view.state seat.old.view
+            (note_of result) seat.new.view }
+        ensures told_alike { IsToldAlike seat.old.view (number_of seat.old.view.state)
+            (note_of result) }
+        ensures falls { Falls (cast_measure (table_of self.now.shape) seat.new.view.state)
+            (cast_measure (table_of self.now.shape) seat.old.view.state) }
+    {
+        let state = *seat.state;
+        let act = cast_act(&self.shape, state);
+        let found = perform::<_, _, _, GoesOn>(&self.table.shared, &mut seat.seat, act);
+        let (after, told) = cast_after(&self.shape, state, found);
+        *seat.state = after;
+        told
+    }
+
+    /// One look at a cell, without a seat. It promises nothing of the answer.
+    pub fn peek(&self, cell: usize) -> u64
+        requires { cell < self.now.shape.cells }
+    {
+        self.table.shared.peek(cell)
+    }
+
+    /// The cells at the end, from all seats. Each seat but one costs one step on word 0.
+    pub fn close(self, alloc: Global, seats: Vec<CastSeat>) -> Result<Vec<u64>, Memory>
+        requires { AreWhole IsAtRest self seats.items }
+        ensures cells { IfOk result (λ cells. cells.items ≡ cells_after self seats.items) }
+        ensures lists { IfOk result (λ _. AgreeOn self seats.items) }
+    {
+        let Self { shape, table } = self;
+        let left = left_seats(alloc, seats)?;
+        let mut cells = vec![in alloc; 0; shape.cells]?;
+        let whole = join_seats(&table.shared, left);
+        close_table(table, whole, &mut cells);
+        Ok(cells)
+    }
+}
+
+/// Seats at rest of seats that were dealt.
+fn new_seats(alloc: Global, dealt: Vec<Seat<(), Known<CastSight>>>) -> Result<Vec<CastSeat>, Memory>
+    requires single { All IsSingle dealt.items }
+    requires fresh { All (λ seat. seat.me.0.view ≡ fresh_view) dealt.items }
+    ensures { IfOk result (λ seats. seats.items ≡ map place_of dealt.items) }
+{
+    let mut seats = Vec::with_capacity(alloc, dealt.len())?;
+    for seat in dealt {
+        let state = CachePadded::new(CastState::Rest);
+        seats.push(CastSeat { state, seat })?;
+    }
+    Ok(seats)
+}
+
+/// What is left of seats whose states are done with.
+fn left_seats(
+    alloc: Global,
+    seats: Vec<CastSeat>,
+) -> Result<Vec<Seat<(), Known<CastSight>>>, Memory>
+    ensures places { IfOk result (λ left. map place_of left.items ≡ seats.items) }
+    ensures single { IfOk result (λ left. All IsSingle left.items) }
+{
+    let mut left = Vec::with_capacity(alloc, seats.len())?;
+    for seat in seats {
+        let CastSeat { state: _, seat } = seat;
+        left.push(seat)?;
+    }
+    Ok(left)
+}
