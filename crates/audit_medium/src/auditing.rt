@@ -1,15 +1,18 @@
 //! The audit of a medium. Nothing is written here.
 
-ghost use Rattle.std.specs.Prelude.{◌≡◌, ◌↔◌, ◌≤◌, IsErrOf, IsTrue, IfErr, IfOk, IfSome};
+ghost use Rattle.std.specs.Prelude.{◌≡◌, ◌↔◌, ◌≤◌, IsErrOf, IsTrue, IfErr, IfOk, IfSome, length};
 ghost use Rattle.std.specs.Option.{ForSome};
 ghost use Rattle.audit_medium.specs.Audited.{IsAudited};
 ghost use Rattle.bank_medium.specs.Banks.{bank_named};
+ghost use Rattle.image_builder.specs.Page.{page_size};
 ghost use Rattle.recovery.specs.Canonical.{IsReadAs};
 ghost use Rattle.recovery.specs.ReadsOnly.{ReadsOnly, WritesNothing};
 ghost use Rattle.recovery.specs.Refused.{IsRefusedMedium};
 ghost use Rattle.recovery.specs.declared.fault.RecoverFault.TheVariants.{DiskFault};
 ghost use Rattle.store_spec.specs.Disk.{IsSettled};
+ghost use Rattle.store_spec.specs.Election.{IsElection, bank_size};
 ghost use Rattle.store_spec.specs.Fault.{CountsFault, CountsFaultIf};
+ghost use Rattle.store_spec.specs.Image.{image_of};
 ghost use Rattle.store_spec.specs.Medium.{IsOpen, other_bank};
 
 use crate::finding::Audit;
@@ -41,22 +44,35 @@ pub fn audit<D: Disk>(
     ensures fault { CountsFaultIf (IsErrOf result DiskFault) (D.faults disk.old) (D.faults disk.new) }
 {
     let (bank, open_too) = choose(disk, election)?;
-    let mut scratch = Scratch::new(alloc, election)?;
-    let closed = read_bank(alloc, disk, election, bank, &mut scratch.found)?;
-    Ok(compare(disk, &closed, election, bank, open_too, &mut scratch)?)
+    let mut own = Scratch::new(alloc, election)?;
+    let scratch = &mut own;
+    let closed = read_bank(alloc, disk, election, bank, &mut scratch.made)?;
+    Ok(compare(
+        disk,
+        &closed,
+        election,
+        bank,
+        open_too,
+        &scratch.made,
+        &mut scratch.found,
+    )?)
 }
 
-/// Compares the other bank and its gate with those of the medium of the store that was read from a bank. That bank and its
-/// gate are as the medium has them.
+/// Compares the other bank and its gate with those of the medium of the store that was read from a bank. That bank has
+/// the bytes `made`, and it and its gate are as the medium has them.
 fn compare<D: Disk>(
     disk: &mut D,
     closed: &Closed,
     election: &Election,
     bank: Bank,
     open_too: bool,
-    scratch: &mut Scratch,
+    made: &[u8],
+    found: &mut [u8],
 ) -> Result<Audit, Failed>
-    requires own { election.now ≡ closed.now.election }
+    requires election { IsElection election.now }
+    requires image { made.now ≡ image_of election.now closed.now.ballots }
+    requires whole { length made.now ≡ bank_size election.now }
+    requires found_page { length found.old ≡ page_size }
     requires read { ForSome (D.seen disk.old)
         (λ bytes. IsReadAs election.now bytes (bank_named bank) closed.now.ballots) }
     requires gate { ForSome (D.seen disk.old)
@@ -67,14 +83,7 @@ fn compare<D: Disk>(
     ensures fault { CountsFault result (D.faults disk.old) (D.faults disk.new) }
 {
     let other = other_of(bank);
-    let first = first_difference(
-        disk,
-        closed,
-        election,
-        other,
-        &mut scratch.found,
-        &mut scratch.made,
-    )?;
+    let first = first_difference(disk, election, other, made, found)?;
     if let Some(at) = first {
         let place = bank_place(election, other) + at as u64;
         return Ok(Audit::Differs { place });

@@ -9,6 +9,7 @@ mod Counts
 mod Fronts
 mod Joining
 mod LineAnswers
+mod LineFours
 pub mod LineFronts
 pub mod LineGroups
 pub mod LineLaws

@@ -17,7 +17,7 @@ abbrev pub StopsDigits : List ℕ → Type 0
 StopsDigits [] = Unit {0}
 StopsDigits (byte ∷ bytes) = is_ascii_digit byte ≡ false
 
-digit_bounds : (byte : ℕ) → is_ascii_digit byte ≡ true → (48 ≤ byte) × (byte ≤ 57)
+pub digit_bounds : (byte : ℕ) → is_ascii_digit byte ≡ true → (48 ≤ byte) × (byte ≤ 57)
 digit_bounds byte is = let both = and_parts (leb 48 byte) (leb byte 57) is in (leb-true 48 byte both.0, leb-true byte 57 both.1)
 
 decimal_longer : (n digit : ℕ) → 1 ≤ n → digit < 10 → n * 10 + digit < 2 ^ 64 → decimal (n * 10 + digit) ≡ decimal n ++ (48 + digit) ∷ []
@@ -109,7 +109,7 @@ number_takes limit short (byte ∷ bytes) n rest e =
 
 -- ---- and back
 
-digit_again : (limit value digit : ℕ) (bytes : List ℕ) → digit < 10 → 1 ≤ value * 10 + digit → value * 10 + digit ≤ limit → digits_at limit value ((48 + digit) ∷ bytes) ≡ digits_at limit (value * 10 + digit) bytes
+pub digit_again : (limit value digit : ℕ) (bytes : List ℕ) → digit < 10 → 1 ≤ value * 10 + digit → value * 10 + digit ≤ limit → digits_at limit value ((48 + digit) ∷ bytes) ≡ digits_at limit (value * 10 + digit) bytes
 unfolding digits_at
 digit_again limit value digit bytes small some within =
     let is : is_ascii_digit (48 + digit) ≡ true = and_from (leb 48 (48 + digit)) (leb (48 + digit) 57) (le-leb 48 (48 + digit) (omega arith)) (le-leb (48 + digit) 57 (omega arith)) in

@@ -16,6 +16,28 @@ digits_at limit value (byte ∷ bytes) =
     )
     else if value == 0 then None else Some (value, byte ∷ bytes)
 
+-- the number of the four digits that stand first, and the bytes after them
+unfoldable pub four_at : List ℕ → Option (ℕ × List ℕ)
+four_at [] = None
+four_at (a ∷ []) = None
+four_at (a ∷ b ∷ []) = None
+four_at (a ∷ b ∷ c ∷ []) = None
+four_at (a ∷ b ∷ c ∷ d ∷ bytes) =
+    if is_ascii_digit a
+    then (
+    if is_ascii_digit b
+    then (
+    if is_ascii_digit c
+    then (
+    if is_ascii_digit d
+    then Some (((a - 48) * 10 + (b - 48)) * 100 + ((c - 48) * 10 + (d - 48)), bytes) else None
+    )
+    else None
+    )
+    else None
+    )
+    else None
+
 -- what comes of the bytes after this one where it stands first, and otherwise the last argument
 abbrev pub past_byte : {A : Type 0} → ℕ → List ℕ → (List ℕ → A) → A → A
 past_byte wanted [] goes_on otherwise = otherwise

@@ -9,6 +9,9 @@ ghost use Rattle.ballot_record.specs.declared.record.Record as declared;
 
 use crate::{Election, MAX_MARK_SETS, Record};
 
+/// As many zeros as the longest cell has bytes: a number, a style and sixteen mark sets.
+const ZEROS: [u8; 73] = [0; 73];
+
 /// What stands in a cell.
 #[derive(Clone, Copy, Debug, PartialEq, Eq)]
 pub enum CellRead {
@@ -65,9 +68,10 @@ fn record_at(bytes: &[u8], contests: usize) -> Record
 }
 
 fn are_zero(bytes: &[u8]) -> bool
+    requires { length bytes.now ≤ 73 }
     ensures { IsTrue result ↔ All (λ byte. byte ≡ 0) bytes.now }
 {
-    bytes.iter().all(|byte| *byte == 0)
+    bytes == &ZEROS[..bytes.len()]
 }
 
 /// What stands in a cell under an election: `Bad` is what no store writes.

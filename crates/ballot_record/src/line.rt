@@ -1,6 +1,6 @@
-ghost use Rattle.std.specs.Prelude.{◌≡◌, ℕ, ◌^◌, ◌<◌, ◌≤◌, ◌↔◌, option_map, option_copied, Some, None, Ok, Err, IfOk};
+ghost use Rattle.std.specs.Prelude.{◌≡◌, ℕ, ◌^◌, ◌<◌, ◌≤◌, ◌↔◌, option_map, option_copied, replicate, Some, None, Ok, Err, IfOk};
 ghost use Rattle.store_spec.specs.BallotLine.{IsRecordLine, Spells, IsLineOf};
-ghost use Rattle.ballot_record.specs.LineReading.{digits_at, past_byte, choices_at, group_at, groups_of, line_of};
+ghost use Rattle.ballot_record.specs.LineReading.{digits_at, four_at, past_byte, choices_at, group_at, groups_of, line_of};
 ghost use Rattle.ballot_record.specs.Line.{set_seen, sets_seen, line_seen};
 ghost use Rattle.ballot_record.specs.Record.{ballot};
 
@@ -16,12 +16,57 @@ fn after_byte(bytes: &[u8], byte: u8) -> Option<&[u8]>
     }
 }
 
-/// The number from 1 to the limit that stands first, and the bytes after it.
-#[tactic(auto, unfolding(crate::specs::LineReading::digits_at))]
-pub fn take_number(bytes: &[u8], limit: u64) -> Option<(u64, &[u8])>
-    ensures { option_map (λ x. (x.0, x.1.now)) result ≡ digits_at limit 0 bytes.now }
+/// What four digits 0 spell where each byte counts as its code.
+const FOUR_ZEROS: u64 = 1111 * b'0' as u64;
+
+/// The number of the four digits that stand first, and the bytes after them.
+#[tactic(auto, unfolding(crate::specs::LineReading::four_at))]
+fn four_digits(bytes: &[u8]) -> Option<(u64, &[u8])>
+    ensures { option_map (λ x. (x.0, x.1.now)) result ≡ four_at bytes.now }
 {
-    let mut value: u64 = 0;
+    match bytes {
+        [
+            a @ b'0'..=b'9',
+            b @ b'0'..=b'9',
+            c @ b'0'..=b'9',
+            d @ b'0'..=b'9',
+            rest @ ..,
+        ] => {
+            let high = u64::from(*a) * 10 + u64::from(*b);
+            let low = u64::from(*c) * 10 + u64::from(*d);
+            Some((high * 100 + low - FOUR_ZEROS, rest))
+        }
+        _ => None,
+    }
+}
+
+/// The digits that stand first, four at a time as long as no four of them pass the limit, and the bytes after them.
+fn take_fours(bytes: &[u8], limit: u64) -> (u64, &[u8])
+    ensures { digits_at limit result.0 result.1.now ≡ digits_at limit 0 bytes.now }
+{
+    let None = after_byte(bytes, b'0') else {
+        return (0, bytes);
+    };
+    let room = limit / 10_000;
+    let mut value = 0;
+    let mut rest = bytes;
+    while value < room {
+        let Some((four, after)) = four_digits(rest) else {
+            break;
+        };
+        value = value * 10_000 + four;
+        rest = after;
+    }
+    (value, rest)
+}
+
+/// The number from 1 to the limit that goes on with the digits that stand first, and the bytes after it; 0 is no digit
+/// yet.
+#[tactic(auto, unfolding(crate::specs::LineReading::digits_at))]
+fn take_digits(bytes: &[u8], before: u64, limit: u64) -> Option<(u64, &[u8])>
+    ensures { option_map (λ x. (x.0, x.1.now)) result ≡ digits_at limit before bytes.now }
+{
+    let mut value = before;
     let mut rest = bytes;
     while let [byte @ b'0'..=b'9', after @ ..] = rest {
         let digit = u64::from(*byte - b'0');
@@ -38,6 +83,14 @@ pub fn take_number(bytes: &[u8], limit: u64) -> Option<(u64, &[u8])>
     }
 }
 
+/// The number from 1 to the limit that stands first, and the bytes after it.
+pub fn take_number(bytes: &[u8], limit: u64) -> Option<(u64, &[u8])>
+    ensures { option_map (λ x. (x.0, x.1.now)) result ≡ digits_at limit 0 bytes.now }
+{
+    let (value, rest) = take_fours(bytes, limit);
+    take_digits(rest, value, limit)
+}
+
 /// The mark set of choices in ascending order, with commas between them, and the bytes after them.
 fn take_choices(bytes: &[u8]) -> Option<(u32, &[u8])>
     ensures { option_map (λ x. (x.0, x.1.now)) result
@@ -47,7 +100,7 @@ fn take_choices(bytes: &[u8]) -> Option<(u32, &[u8])>
     let mut last = 0;
     let mut rest = bytes;
     loop {
-        let (choice, after) = take_number(rest, MAX_CHOICES as u64)?;
+        let (choice, after) = take_digits(rest, 0, MAX_CHOICES as u64)?;
         if choice <= last {
             return None;
         }
@@ -71,37 +124,36 @@ fn take_group(bytes: &[u8]) -> Option<(u32, &[u8])>
     }
 }
 
-/// The mark sets of the groups up to the end, and how many groups there are.
-fn all_groups(bytes: &[u8]) -> Option<([u32; MAX_MARK_SETS], usize)>
-    ensures { result ≡ option_map sets_seen (groups_of MAX_CONTESTS bytes.now) }
+/// Puts the mark sets of the groups up to the end, and says how many groups there are.
+fn put_groups(bytes: &[u8], marks: &mut [u32; MAX_MARK_SETS]) -> Option<usize>
+    requires { marks.old ≡ replicate MAX_MARK_SETS 0 }
+    ensures { option_map (λ count. (marks.new, count)) result
+        ≡ option_map sets_seen (groups_of MAX_CONTESTS bytes.now) }
 {
-    let mut marks = [0; MAX_MARK_SETS];
     let mut rest = bytes;
     for place in 0..MAX_CONTESTS {
         let (set, after) = take_group(rest)?;
         marks[place] = set;
         if after.is_empty() {
-            return Some((marks, place + 1));
+            return Some(place + 1);
         }
         rest = after_byte(after, b'/')?;
     }
     None
 }
 
-/// The record that a line in the grammar spells, and how many groups it has.
+/// Puts the parts of the record that a line in the grammar spells, and says how many groups it has.
 #[tactic(auto, unfolding(crate::specs::LineReading::line_of))]
-fn parts(line: &[u8]) -> Option<(Record, usize)>
-    ensures { option_map (λ x. (ballot x.0, x.1)) result ≡ option_map line_seen (line_of line.now) }
+fn put_parts(line: &[u8], parts: &mut Record) -> Option<usize>
+    requires { parts.old.marks ≡ replicate MAX_MARK_SETS 0 }
+    ensures { option_map (λ count. (ballot parts.new, count)) result
+        ≡ option_map line_seen (line_of line.now) }
 {
     let (number, rest) = take_number(line, u64::MAX)?;
-    let (style, rest) = take_number(after_byte(rest, b' ')?, MAX_STYLES as u64)?;
-    let (marks, count) = all_groups(after_byte(rest, b' ')?)?;
-    let record = Record {
-        number,
-        style: style as u8,
-        marks,
-    };
-    Some((record, count))
+    let (style, rest) = take_digits(after_byte(rest, b' ')?, 0, MAX_STYLES as u64)?;
+    parts.number = number;
+    parts.style = style as u8;
+    put_groups(after_byte(rest, b' ')?, &mut parts.marks)
 }
 
 /// The record of a line under an election. The whole line is judged by the grammar of record lines before any part
@@ -114,10 +166,15 @@ pub fn read_line(line: &[u8], election: &Election) -> Result<Record, LineFault>
     ensures invalid { (result ≡ Err LineFault.Invalid)
         ↔ (IsRecordLine election.now line.now × ¬ IsLineOf election.now line.now) }
 {
-    let Some((record, groups)) = parts(line) else {
+    let mut record = Record {
+        number: 0,
+        style: 0,
+        marks: [0; MAX_MARK_SETS],
+    };
+    let Some(groups) = put_parts(line, &mut record) else {
         return Err(LineFault::Malformed);
     };
-    if groups != election.contests() || !record.valid(election) {
+    if groups != election.contests() || !record.valid_up_to(election, groups) {
         return Err(LineFault::Invalid);
     }
     Ok(record)

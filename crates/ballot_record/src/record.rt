@@ -32,17 +32,28 @@ impl Record {
     pub fn valid(&self, election: &Election) -> bool
         ensures { IsTrue result ↔ IsValid election.now (ballot self.now) }
     {
+        self.valid_up_to(election, MAX_MARK_SETS)
+    }
+
+    /// Whether it is valid, where no choice is marked behind so many sets.
+    pub(crate) fn valid_up_to(&self, election: &Election, sets: usize) -> bool
+        requires few { sets ≤ MAX_MARK_SETS }
+        requires behind { (k : ℕ) → sets ≤ k → slice_index self.now.marks k ≡ 0 }
+        ensures { IsTrue result ↔ IsValid election.now (ballot self.now) }
+    {
         self.number != 0
             && self.style != 0
             && usize::from(self.style) <= election.styles()
-            && self.has_marks(election)
+            && self.has_marks(election, sets)
     }
 
-    fn has_marks(&self, election: &Election) -> bool
+    fn has_marks(&self, election: &Election, sets: usize) -> bool
+        requires few { sets ≤ MAX_MARK_SETS }
+        requires behind { (k : ℕ) → sets ≤ k → slice_index self.now.marks k ≡ 0 }
         ensures { IsTrue result ↔ HasMarks election.now self.now.style self.now.marks }
     {
-        for (place, marks) in self.marks.iter().enumerate() {
-            if !has_choices(*marks, election, self.style, place + 1) {
+        for place in 0..sets {
+            if !has_choices(self.marks[place], election, self.style, place + 1) {
                 return false;
             }
         }

@@ -1,5 +1,5 @@
 -- Where records stand in a list, by their numbers.
-use Rattle.std.specs.Prelude.{◌≡◌, ℕ, ◌*◌, ◌/◌, ◌%◌, ◌^◌, ◌==◌, if◌then◌else◌, List, length, find, Option, Some, None, slice_get, slice_index}
+use Rattle.std.specs.Prelude.{◌≡◌, ℕ, ◌*◌, ◌/◌, ◌%◌, ◌^◌, ◌==◌, if◌then◌else◌, List, length, find, Option, Some, None, bit_xor, slice_get, slice_index}
 use Rattle.std.specs.BTreeMap.{get}
 use Rattle.std.specs.Ordering.{nat_cmp}
 use Rattle.ballot_record.specs.declared.record.Record.{Record}
@@ -7,7 +7,7 @@ use Rattle.ballot_store_cli.specs.declared.build.index.Index.{Index}
 
 -- the slot of a number
 unfoldable pub slot_of : ℕ → ℕ
-slot_of number = number * 0x9E3779B97F4A7C15 % 2 ^ 64 / 2 ^ 47
+slot_of number = bit_xor number (number / 2 ^ 32) * 0x9E3779B97F4A7C15 % 2 ^ 64 / 2 ^ 47
 
 -- there is a record, and its number has this slot
 abbrev pub HasSlot : Option Record → ℕ → Type 0

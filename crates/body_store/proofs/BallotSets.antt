@@ -1,13 +1,17 @@
 -- Sets of ballots: their layout, and what a store may hold.
-use Rattle.std.proofs.Common.{◌≡◌, ◌≢◌, ◌==◌, ◌^◌, ℕ, ◌<◌, not, List, sym, ap, arith}
-use Rattle.std.proofs.lemmas.List.Elements.{All-filter, All-map, All-weaker}
+use Rattle.std.proofs.Common.{◌≡◌, ◌≢◌, ◌==◌, ◌^◌, ℕ, zero, suc, ◌<◌, inl, inr, Bool, true, not, List, [], ◌∷◌, sym, ap, ◌∙◌, subst, arith}
+use Rattle.std.proofs.lemmas.Bool.{cases_Bool, cond-true, cond-false}
+use Rattle.std.proofs.lemmas.List.Elements.{All-contains, All-contains_itself, All-filter, All-map, All-weaker, filter_passes}
 use Rattle.std.proofs.lemmas.List.Kept.{AllPairs-filter}
-use Rattle.std.proofs.lemmas.List.Sorted.{IsPermutation-map, length_permutation}
+use Rattle.std.proofs.lemmas.List.Sorted.{Contains-permutation, IsPermutation-map, IsPermutation-sym, length_permutation}
 use Rattle.std.proofs.lemmas.List.Sums.{length-filter, count_by-le-length}
-use Rattle.std.specs.List.{list_any}
-use Rattle.std.specs.List.Sorted.{IsPermutation, IsNonDecreasing}
-use Rattle.ballot_record.proofs.BallotNumbers.{length-numbers_of, pairs_of_numbers, pairs_of_ballots}
-use Rattle.ballot_record.proofs.BallotSets.{listing-IsPermutation, listing_from_set}
+use Rattle.std.specs.List.{Contains, filter, list_any}
+use Rattle.std.specs.List.Sorted.{IsPermutation}
+use Rattle.ballot_record.proofs.BallotNumbers.{length-numbers_of, pairs_of_numbers}
+use Rattle.ballot_record.proofs.BallotSets.{listing-IsPermutation, listing_from_set, same_members}
+use Rattle.ballot_record.proofs.Lookups.{AreAmong, AreDistinct}
+use Rattle.body_store.proofs.ByNumber.{by_number-IsPermutation, by_number-ascends}
+use Rattle.body_store.specs.ByNumber.{AreNumbered, by_number}
 use Rattle.body_store.specs.Contents.{Contents, IsStored, ballots_without}
 use Rattle.probe_order.specs.Below.{home_of-lt}
 use Rattle.layout_def.proofs.Ascending.{ascending-IsPermutation}
@@ -23,48 +27,112 @@ pub record MayHold (e : Election) (ballots : List Ballot) : Type 0 where
   pub listing : IsListing e ballots
   pub within_limit : IsWithinLimit e ballots
 
-pub may_hold_set : (e : Election) (ballots : List Ballot) → IsBallotSet e ballots → IsWithinLimit e ballots → MayHold e ballots
+pub may_hold_set : (e : Election) (ballots : List Ballot) → IsBallotSet e ballots → IsWithinLimit e ballots
+    → MayHold e ballots
 may_hold_set e ballots set few = record { listing = listing_from_set e ballots set; within_limit = few }
 
 -- the cells of an election have room for each of its sets, however it is listed
-pub has_room : (e : Election) (ballots : List Ballot) → IsElection e → MayHold e ballots → HasRoom (home_in e) (2 ^ e.bits) (cell_count e) (numbers_of ballots)
+pub has_room : (e : Election) (ballots : List Ballot) → IsElection e → MayHold e ballots
+    → HasRoom (home_in e) (2 ^ e.bits) (cell_count e) (numbers_of ballots)
 has_room e ballots election held = record {
   distinct = pairs_of_numbers (λ a b. a ≢ b) ballots held.listing.distinct;
   some = All-map (λ v. v ≢ 0) (λ b. b.number) ballots
-      (All-weaker (IsValid e) (λ b. b.number ≢ 0) (λ b h. let one = h.some_number in λ z. omega arith) ballots held.listing.valid);
+      (All-weaker (IsValid e) (λ b. b.number ≢ 0)
+      (λ b h. let one = h.some_number in λ z. omega arith) ballots held.listing.valid);
   homed = λ k d lt. home_of-lt e.bits e.salt _ election.few_bits;
   room = omega (arith, length-numbers_of ballots, held.within_limit);
 }
 
 pub cells_of-IsPermutation : (e : Election) (xs ys : List Ballot) → IsPermutation xs ys → cells_of e xs ≡ cells_of e ys
 cells_of-IsPermutation e xs ys p =
-    ap (laid_out (home_in e) (cell_count e)) (sym (ascending-IsPermutation _ _ (IsPermutation-map (λ b. b.number) xs ys p)))
+    ap (laid_out (home_in e) (cell_count e))
+    (sym (ascending-IsPermutation _ _ (IsPermutation-map (λ b. b.number) xs ys p)))
 
-pub limit-IsPermutation : (e : Election) (xs ys : List Ballot) → IsPermutation xs ys → IsWithinLimit e xs → IsWithinLimit e ys
+pub limit-IsPermutation : (e : Election) (xs ys : List Ballot) → IsPermutation xs ys → IsWithinLimit e xs
+    → IsWithinLimit e ys
 limit-IsPermutation e xs ys p few = let size = length_permutation xs ys p in omega arith
 
 pub may_hold-IsPermutation : (e : Election) (xs ys : List Ballot) → IsPermutation xs ys → MayHold e xs → MayHold e ys
-may_hold-IsPermutation e xs ys p held = record { listing = listing-IsPermutation e xs ys p held.listing; within_limit = limit-IsPermutation e xs ys p held.within_limit }
+may_hold-IsPermutation e xs ys p held = record {
+  listing = listing-IsPermutation e xs ys p held.listing;
+  within_limit = limit-IsPermutation e xs ys p
+      held.within_limit;
+}
 
--- a listing may be stored where it is put in order
-pub stored_in_order : (e : Election) (xs ys : List Ballot) → IsElection e → MayHold e xs → IsPermutation xs ys → IsNonDecreasing (numbers_of ys) → IsStored (record { election = e; ballots = ys })
-stored_in_order e xs ys election held p up =
-    let moved = may_hold-IsPermutation e xs ys p held in
-    let apart = pairs_of_numbers (λ a b. a ≢ b) ys moved.listing.distinct in
+-- what a store may hold is stored in order, whichever way it is listed
+pub stored_by_number : (e : Election) (ballots : List Ballot) → IsElection e → MayHold e ballots
+    → IsStored (record { election = e; ballots = by_number ballots })
+stored_by_number e ballots election held =
+    let moved = may_hold-IsPermutation e _ _ (by_number-IsPermutation ballots) held in
     record {
       election = election;
-      set = record {
-        valid = moved.listing.valid;
-        ascending = pairs_of_ballots (λ a b. a < b) ys (λ i j d lt within.
-            let least = up i j d (omega arith) within in
-            let other = apart i j d lt within in
-            omega arith);
-      };
+      set = record { valid = moved.listing.valid; ascending = by_number-ascends ballots held.listing.distinct };
       within_limit = moved.within_limit;
     }
 
+pub may_hold_by_number : (e : Election) (ballots : List Ballot)
+    → IsStored (record { election = e; ballots = by_number ballots }) → MayHold e ballots
+may_hold_by_number e ballots h =
+    may_hold-IsPermutation e (by_number ballots) ballots (IsPermutation-sym _ _ (by_number-IsPermutation ballots))
+    (may_hold_set e (by_number ballots) h.set h.within_limit)
+
+filter_contains : (test : Ballot → Bool) (xs : List Ballot) (b : Ballot) → Contains xs b → test b ≡ true
+    → Contains (filter test xs) b
+filter_contains test [] b c passes = absurd (omega (arith, c.1))
+filter_contains test (x ∷ xs) b (zero, lt, e) passes =
+    subst (λ (ys : List Ballot). Contains ys b)
+    (sym (cond-true (test x) (x ∷ filter test xs) (filter test xs) (ap test e ∙ passes))) (0, omega arith, e)
+filter_contains test (x ∷ xs) b (suc i, lt, e) passes =
+    let rest = filter_contains test xs b (i, omega arith, e) passes in
+    elim (cases_Bool (test x)) [
+      | inl keeps ↦ subst (λ (ys : List Ballot). Contains ys b)
+          (sym (cond-true (test x) (x ∷ filter test xs) (filter test xs) keeps)) (suc rest.0, omega (arith, rest.1), rest.2)
+      | inr drops ↦ subst (λ (ys : List Ballot). Contains ys b)
+          (sym (cond-false (test x) (x ∷ filter test xs) (filter test xs) drops)) rest
+    ]
+
+-- what a filter keeps is the same, however the ballots are listed
+filter_among : (test : Ballot → Bool) (xs ys : List Ballot) → AreAmong xs ys
+    → AreAmong (filter test xs) (filter test ys)
+filter_among test xs ys among b c =
+    let was = All-contains (Contains xs) (filter test xs) b
+    (All-filter test (Contains xs) xs (All-contains_itself xs)) c in
+    let passes = All-contains (λ x. test x ≡ true) (filter test xs) b (filter_passes test xs) c in
+    filter_contains test ys b (among b was) passes
+
+pub without_by_number : (ballots : List Ballot) (numbers : List ℕ) → AreDistinct ballots
+    → by_number (ballots_without ballots numbers) ≡ ballots_without (by_number ballots) numbers
+without_by_number ballots numbers apart =
+    let test = λ (b : Ballot). not (list_any (λ number. number == b.number) numbers) in
+    let there = by_number-IsPermutation ballots in
+    let left = AllPairs-filter (λ a b. a.number ≢ b.number) test ballots apart in
+    let kept = by_number-IsPermutation (filter test ballots) in
+    let back = IsPermutation-sym (filter test ballots) (by_number (filter test ballots)) kept in
+    same_members (by_number (filter test ballots)) (filter test (by_number ballots))
+    (by_number-ascends (filter test ballots) left)
+    (AllPairs-filter (λ a b. a.number < b.number) test (by_number ballots) (by_number-ascends ballots apart))
+    (λ b c. filter_among test ballots (by_number ballots)
+    (λ x. Contains-permutation ballots (by_number ballots) x there) b (Contains-permutation _ _ b back c))
+    (λ b c. Contains-permutation _ _ b kept
+    (filter_among test (by_number ballots) ballots
+    (λ x. Contains-permutation (by_number ballots) ballots x (IsPermutation-sym _ _ there)) b c))
+
+pub may_hold_without : (e : Election) (ballots : List Ballot) (numbers : List ℕ) → MayHold e ballots
+    → MayHold e (ballots_without ballots numbers)
+may_hold_without e ballots numbers held =
+    let test = λ (b : Ballot). not (list_any (λ number. number == b.number) numbers) in
+    record {
+      listing = record {
+        valid = All-filter test (IsValid e) ballots held.listing.valid;
+        distinct = AllPairs-filter (λ a b. a.number ≢ b.number) test ballots held.listing.distinct;
+      };
+      within_limit = let few = held.within_limit in omega
+          (arith, length-filter test ballots, count_by-le-length test ballots);
+    }
+
 -- so may what is left of a stored set
-pub stored_without : (store : Contents) (numbers : List ℕ) → IsStored store → IsStored (record { election = store.election; ballots = ballots_without store.ballots numbers })
+pub stored_without : (store : Contents) (numbers : List ℕ) → IsStored store
+    → IsStored (record { election = store.election; ballots = ballots_without store.ballots numbers })
 stored_without store numbers h =
     let test = λ (b : Ballot). not (list_any (λ number. number == b.number) numbers) in
     let ballots = store.ballots in
@@ -74,9 +142,25 @@ stored_without store numbers h =
         valid = All-filter test (IsValid store.election) ballots h.set.valid;
         ascending = AllPairs-filter (λ a b. a.number < b.number) test ballots h.set.ascending;
       };
-      within_limit = let few = h.within_limit in omega (arith, length-filter test ballots, count_by-le-length test ballots);
+      within_limit = let few = h.within_limit in omega
+          (arith, length-filter test ballots, count_by-le-length test ballots);
     }
 
 -- the cells of what is stored
-pub stored_layout : (store : Contents) → IsStored store → IsLayout (home_in store.election) (cell_count store.election) (numbers_of store.ballots) (cells_of store.election store.ballots)
-stored_layout store h = layout_of_is _ _ _ _ (has_room store.election store.ballots h.election (may_hold_set store.election store.ballots h.set h.within_limit))
+pub stored_layout : (store : Contents) → IsStored store
+    → IsLayout (home_in store.election) (cell_count store.election) (numbers_of store.ballots)
+    (cells_of store.election store.ballots)
+stored_layout store h = layout_of_is _ _ _ _
+    (has_room store.election store.ballots h.election (may_hold_set store.election store.ballots h.set h.within_limit))
+
+-- each ballot that may be held has a number of its own
+pub numbered : (e : Election) (ballots : List Ballot) → MayHold e ballots → AreNumbered ballots
+numbered e ballots held = record {
+  some = All-weaker (IsValid e) (λ b. b.number ≢ 0)
+      (λ b h. let one = h.some_number in λ z. omega arith) ballots held.listing.valid;
+  distinct = held.listing.distinct;
+}
+
+pub held_layout : (e : Election) (ballots : List Ballot) → IsElection e → MayHold e ballots
+    → IsLayout (home_in e) (cell_count e) (numbers_of ballots) (cells_of e ballots)
+held_layout e ballots election held = layout_of_is _ _ _ _ (has_room e ballots election held)

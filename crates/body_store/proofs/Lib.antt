@@ -1,4 +1,8 @@
+mod CellPlaces
+mod Keeping
+mod Numbered
 pub mod BallotSets
+pub mod Blank
+pub mod ByNumber
 pub mod Lookups
 pub mod Numbers
-pub mod Blank

@@ -2,17 +2,20 @@
 use Rattle.std.proofs.Common.{◌≡◌, ◌≢◌, ◌==◌, ◌||◌, ℕ, zero, suc, ◌+◌, ◌<◌, ◌≤◌, ⊎_elim, true, false, not, List, [], ◌∷◌, ◌++◌, length, get_or, take, filter, Some, None, Result, Ok, Err, MatchResult, refl, sym, ap, ◌∙◌, arith}
 use Rattle.std.proofs.lemmas.Bool.{or_right, cond-true, cond-false, eq-eqb, ne_eqb, cases_lt}
 use Rattle.std.proofs.lemmas.Bool.Decides.{nat_tests}
-use Rattle.std.proofs.lemmas.List.{map_push, append-nil}
-use Rattle.std.proofs.lemmas.List.Elements.{filter-append}
-use Rattle.std.specs.List.{AllPairs, list_any}
+use Rattle.std.proofs.lemmas.List.{append-nil, get_or-map, length-map, map_push}
+use Rattle.std.proofs.lemmas.List.Elements.{All-contains, filter-append}
+use Rattle.std.specs.List.{Contains, list_any}
 use Rattle.std.specs.Ordering.{nat_cmp, ordering_index}
 use Rattle.std.specs.declared.cmp.Ordering.TheVariants.{Less, Equal, Greater}
 use Rattle.std.specs.Result.{is_ok}
 use Rattle.ballot_record.specs.declared.record.Record.{Record}
 use Rattle.ballot_record.specs.Record.{ballot}
-use Rattle.ballot_record.proofs.BallotNumbers.{no_ballot}
+use Rattle.ballot_record.proofs.BallotNumbers.{ballot_with, contains_number}
+use Rattle.ballot_record.proofs.Lookups.{found_in, found_once, option_cases}
+use Rattle.body_store.proofs.Numbers.{number_of_record}
+use Rattle.body_store.specs.ByNumber.{AreNumbered}
 use Rattle.body_store.specs.Contents.{ballots_of, ballots_without}
-use Rattle.store_spec.specs.Ballot.{Ballot, ballot_of}
+use Rattle.store_spec.specs.Ballot.{Ballot, ballot_of, numbers_of}
 
 -- ---- numbers
 
@@ -27,7 +30,10 @@ not_found (y ∷ xs) x none =
     ap (λ b. b || list_any (λ n. n == x) xs) (ne_eqb y x (none 0 (omega arith)))
     ∙ not_found xs x (λ k lt. none (suc k) (omega arith))
 
-pub any_from_search : (xs : List ℕ) (x : ℕ) (r : Result ℕ ℕ) → MatchResult r (λ i. (i < length xs) × (get_or xs i 0 ≡ x)) (λ i. (i ≤ length xs) × ((k : ℕ) → k < i → get_or xs k 0 < x) × ((k : ℕ) → i ≤ k → k < length xs → x < get_or xs k 0)) → is_ok r ≡ list_any (λ n. n == x) xs
+pub any_from_search : (xs : List ℕ) (x : ℕ) (r : Result ℕ ℕ)
+    → MatchResult r (λ i. (i < length xs) × (get_or xs i 0 ≡ x))
+    (λ i. (i ≤ length xs) × ((k : ℕ) → k < i → get_or xs k 0 < x) ×
+    ((k : ℕ) → i ≤ k → k < length xs → x < get_or xs k 0)) → is_ok r ≡ list_any (λ n. n == x) xs
 any_from_search xs x (Ok i) h = sym (found xs x i h.0 h.1)
 any_from_search xs x (Err i) h = sym (not_found xs x (λ k lt. ⊎_elim
     (λ (before : k < i). let less = h.1 k before in λ e. omega arith)
@@ -36,19 +42,28 @@ any_from_search xs x (Err i) h = sym (not_found xs x (λ k lt. ⊎_elim
 
 -- ---- the ballot with a number
 
-pub ballot_found : (ballots : List Ballot) (number i : ℕ) → AllPairs (λ a b. a.number < b.number) ballots → i < length ballots → (get_or ballots i no_ballot).number ≡ number → Some (get_or ballots i no_ballot) ≡ ballot_of ballots number
-ballot_found [] number i h lt e = absurd (omega arith)
-ballot_found (b ∷ ballots) number zero h lt e = sym (cond-true _ _ _ (eq-eqb b.number number e))
-ballot_found (b ∷ ballots) number (suc i) h lt e =
-    let less : b.number < (get_or ballots i no_ballot).number = h 0 (suc i) no_ballot (omega arith) lt in
-    ballot_found ballots number i (λ j k d m n. h (suc j) (suc k) d (omega arith) (omega arith)) (omega arith) e
-    ∙ sym (cond-false _ _ _ (ne_eqb b.number number (λ z. omega arith)))
+pub record_found : (records : List Record) (place number : ℕ) (d : Record) → AreNumbered (ballots_of records)
+    → place < length records → get_or (numbers_of (ballots_of records)) place 0 ≡ number
+    → Some (ballot (get_or records place d)) ≡ ballot_of (ballots_of records) number
+record_found records place number d are lt same =
+    let b = ballot (get_or records place d) in
+    let there : get_or (ballots_of records) place b ≡ b = get_or-map ballot records place d b lt in
+    sym (found_once (ballots_of records) number b are.distinct
+    (place, omega (arith, length-map records ballot), there) (sym (number_of_record records place d lt) ∙ same))
 
-pub ballot_missing : (ballots : List Ballot) (number : ℕ) → ((k : ℕ) → k < length ballots → (get_or ballots k no_ballot).number ≢ number) → None ≡ ballot_of ballots number
-ballot_missing [] number none = refl
-ballot_missing (b ∷ ballots) number none =
-    ballot_missing ballots number (λ k lt. none (suc k) (omega arith))
-    ∙ sym (cond-false _ _ _ (ne_eqb b.number number (none 0 (omega arith))))
+pub none_found : (ballots : List Ballot) (number : ℕ) → ¬ Contains (numbers_of ballots) number
+    → None ≡ ballot_of ballots number
+none_found ballots number none = ⊎_elim
+    (λ (missing : ballot_of ballots number ≡ None). sym missing)
+    (λ some. let found = found_in ballots number some.0 some.1 in absurd
+    (none (contains_number ballots some.0 number found.0 found.1)))
+    (option_cases (ballot_of ballots number))
+
+-- no ballot has the number 0
+pub none_of_zero : (ballots : List Ballot) → AreNumbered ballots → None ≡ ballot_of ballots 0
+none_of_zero ballots are = none_found ballots 0 (λ c.
+    let b = ballot_with ballots 0 c in
+    All-contains (λ b. b.number ≢ 0) ballots b.0 are.some b.1 b.2)
 
 pub cmp_equal : (a n : ℕ) → nat_cmp a n ≡ Equal → a ≡ n
 cmp_equal a n e = grind (arith, nat_tests)
@@ -64,22 +79,32 @@ cmp_rises a b n le = grind (arith, nat_tests)
 
 -- ---- the ballots that stay
 
-pub kept_more : (records rest : List Record) (i : ℕ) (r : Record) (numbers : List ℕ) → take (i + 1) records ≡ take i records ++ r ∷ [] → ballots_of rest ≡ ballots_without (ballots_of (take i records)) numbers → list_any (λ n. n == r.number) numbers ≡ false → ballots_of (rest ++ r ∷ []) ≡ ballots_without (ballots_of (take (i + 1) records)) numbers
+pub kept_more : (records rest : List Record) (i : ℕ) (r : Record) (numbers : List ℕ)
+    → take (i + 1) records ≡ take i records ++ r ∷ []
+    → ballots_of rest ≡ ballots_without (ballots_of (take i records)) numbers
+    → list_any (λ n. n == r.number) numbers ≡ false
+    → ballots_of (rest ++ r ∷ []) ≡ ballots_without (ballots_of (take (i + 1) records)) numbers
 kept_more records rest i r numbers more so_far other =
     let test = λ (b : Ballot). not (list_any (λ number. number == b.number) numbers) in
     map_push ballot rest r
     ∙ ap (λ bs. bs ++ ballot r ∷ []) so_far
-    ∙ ap (λ bs. ballots_without (ballots_of (take i records)) numbers ++ bs) (sym (cond-true (test (ballot r)) (ballot r ∷ []) [] (ap not other)))
+    ∙ ap (λ bs. ballots_without (ballots_of (take i records)) numbers ++ bs)
+    (sym (cond-true (test (ballot r)) (ballot r ∷ []) [] (ap not other)))
     ∙ sym (filter-append test (ballots_of (take i records)) (ballot r ∷ []))
     ∙ ap (filter test) (sym (map_push ballot (take i records) r))
     ∙ ap (λ rs. ballots_without (ballots_of rs) numbers) (sym more)
 
-pub dropped_more : (records rest : List Record) (i : ℕ) (r : Record) (numbers : List ℕ) → take (i + 1) records ≡ take i records ++ r ∷ [] → ballots_of rest ≡ ballots_without (ballots_of (take i records)) numbers → list_any (λ n. n == r.number) numbers ≡ true → ballots_of rest ≡ ballots_without (ballots_of (take (i + 1) records)) numbers
+pub dropped_more : (records rest : List Record) (i : ℕ) (r : Record) (numbers : List ℕ)
+    → take (i + 1) records ≡ take i records ++ r ∷ []
+    → ballots_of rest ≡ ballots_without (ballots_of (take i records)) numbers
+    → list_any (λ n. n == r.number) numbers ≡ true
+    → ballots_of rest ≡ ballots_without (ballots_of (take (i + 1) records)) numbers
 dropped_more records rest i r numbers more so_far other =
     let test = λ (b : Ballot). not (list_any (λ number. number == b.number) numbers) in
     so_far
     ∙ sym (append-nil (ballots_without (ballots_of (take i records)) numbers))
-    ∙ ap (λ bs. ballots_without (ballots_of (take i records)) numbers ++ bs) (sym (cond-false (test (ballot r)) (ballot r ∷ []) [] (ap not other)))
+    ∙ ap (λ bs. ballots_without (ballots_of (take i records)) numbers ++ bs)
+    (sym (cond-false (test (ballot r)) (ballot r ∷ []) [] (ap not other)))
     ∙ sym (filter-append test (ballots_of (take i records)) (ballot r ∷ []))
     ∙ ap (filter test) (sym (map_push ballot (take i records) r))
     ∙ ap (λ rs. ballots_without (ballots_of rs) numbers) (sym more)

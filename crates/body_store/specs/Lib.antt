@@ -1,2 +1,4 @@
+pub mod ByNumber
 pub mod Contents
 pub mod Kept
+pub mod Places

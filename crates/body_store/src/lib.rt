@@ -1,32 +1,37 @@
-//! The closed store: the ballots that are held, and the cells in which their numbers stand.
+//! The closed store: the ballots that are held, the cells in which their numbers stand, and the records found by them.
 #![tactic(auto)]
 
 pub mod laws;
+mod places;
 mod records;
 #[cfg(test)]
 mod tests;
 
 ghost use Rattle.body_store.specs.Contents.{Contents, IsStored, ballots_of, ballots_without};
-ghost use Rattle.std.specs.Prelude.{◌≡◌, ◌++◌, List, [], IfOk, IsPermutation, length, option_map};
+ghost use Rattle.body_store.specs.ByNumber.{by_number};
+ghost use Rattle.body_store.specs.Places.{LeadTo};
+ghost use Rattle.std.specs.Prelude.{◌≡◌, ◌++◌, ◌<◌, List, [], IfOk, IsPermutation, length, map, option_map, slice_index};
 ghost use Rattle.ballot_record.specs.Record.{ballot};
 ghost use Rattle.store_spec.specs.Ballot.{IsListing, IsWithinLimit, ballot_of, numbers_of};
-ghost use Rattle.store_spec.specs.Election.{cell_count};
+ghost use Rattle.store_spec.specs.Election.{IsElection, cell_count};
 ghost use Rattle.store_spec.specs.Home.{home_in};
 ghost use Rattle.store_spec.specs.Image.{cells_of};
-ghost use Rattle.store_spec.specs.Layout.{IsLayout};
+ghost use Rattle.store_spec.specs.Layout.{IsLayout, numbers_in};
 
 use ballot_record::{Election, Record};
 use outside_io::Memory;
 use std::alloc::Global;
 use std::marker::Model;
 
-/// A store between two phases: its election, the records that it holds, and the cells in which their numbers stand. An
-/// election has some thousand bytes, and a store is moved at each line of a session, so the election stands beside it.
+/// A store between two phases: its election, the records that it holds, the cells in which their numbers stand, and for
+/// each cell with a number which of the records has it. An election has some thousand bytes, and a store is moved at
+/// each line of a session, so the election stands beside it.
 #[derive(Drop)]
 pub struct Closed {
     election: Box<Election>,
     records: Vec<Record>,
     cells: Vec<u64>,
+    places: Vec<u32>,
 }
 
 impl Model for Closed {
@@ -48,19 +53,15 @@ impl Closed {
     {
         let records = Vec::new(alloc);
         let cells = records::layout(alloc, election, &records)?;
-        let own = Box::new(alloc, *election)?;
-        Ok(Closed {
-            election: own,
-            records,
-            cells,
-        })
+        let places = places::of_all(alloc, &records, &cells)?;
+        kept(alloc, election, records, cells, places)
     }
 
     /// A store that holds these ballots, which may come in any order.
     pub fn from_records(
         alloc: Global,
         election: &Election,
-        mut ballots: Vec<Record>,
+        ballots: Vec<Record>,
     ) -> Result<Closed, Memory>
         requires listing { IsListing election.now (ballots_of ballots.items) }
         requires within_limit { IsWithinLimit election.now (ballots_of ballots.items) }
@@ -69,14 +70,30 @@ impl Closed {
             (λ store. IsPermutation (ballots_of ballots.items) store.ballots) }
         ensures stored { IfOk result IsStored }
     {
-        ballots.sort_unstable_by_key(|ballot| ballot.number);
         let cells = records::layout(alloc, election, &ballots)?;
-        let own = Box::new(alloc, *election)?;
-        Ok(Closed {
-            election: own,
-            records: ballots,
-            cells,
-        })
+        let places = places::of_all(alloc, &ballots, &cells)?;
+        kept(alloc, election, ballots, cells, places)
+    }
+
+    /// A store that holds these ballots, which come in the order of their cells. `cells` is their layout.
+    pub fn from_cells(
+        alloc: Global,
+        election: &Election,
+        records: Vec<Record>,
+        cells: Vec<u64>,
+    ) -> Result<Closed, Memory>
+        requires listing { IsListing election.now (ballots_of records.items) }
+        requires within_limit { IsWithinLimit election.now (ballots_of records.items) }
+        requires layout { cells.items ≡ cells_of election.now (ballots_of records.items) }
+        requires in_turn { numbers_of (ballots_of records.items) ≡ numbers_in cells.items }
+        ensures election { IfOk result (λ store. store.election ≡ election.now) }
+        ensures same { IfOk result
+            (λ store. IsPermutation (ballots_of records.items) store.ballots) }
+        ensures stored { IfOk result IsStored }
+    {
+        let _ = election.limit();
+        let places = places::in_turn(alloc, &cells)?;
+        kept(alloc, election, records, cells, places)
     }
 
     /// Its election.
@@ -95,12 +112,21 @@ impl Closed {
         self.records.len()
     }
 
-    /// The ballots that it holds, in ascending order of their numbers.
+    /// The ballots that it holds, in no particular order.
     pub fn records(&self) -> &[Record]
-        ensures ballots { ballots_of result.now ≡ self.now.ballots }
+        ensures ballots { IsPermutation (ballots_of result.now) self.now.ballots }
         ensures stored { IsStored self.now }
     {
         &self.records
+    }
+
+    /// The ballots that it holds, in ascending order of their numbers.
+    pub fn in_order(&self, alloc: Global) -> Result<Vec<&Record>, Memory>
+        ensures ballots { IfOk result
+            (λ listed. map (λ held. ballot held.now) listed.items ≡ self.now.ballots) }
+        ensures stored { IsStored self.now }
+    {
+        records::in_order(alloc, &self.records)
     }
 
     /// Its cells, each with the number of a ballot, or 0 where it is empty.
@@ -117,7 +143,23 @@ impl Closed {
     pub fn record_of(&self, number: u64) -> Option<Record>
         ensures { option_map ballot result ≡ ballot_of self.now.ballots number }
     {
-        records::with_number(&self.records, number)
+        records::with_number(
+            &self.election,
+            &self.records,
+            &self.cells,
+            &self.places,
+            number,
+        )
+    }
+
+    /// The ballot whose number stands in a cell. `None` where the cell is empty.
+    pub fn record_in(&self, cell: usize) -> Option<&Record>
+        requires { cell < cell_count self.now.election }
+        ensures { option_map (λ held. ballot held.now) result
+            ≡ ballot_of self.now.ballots
+            (slice_index (cells_of self.now.election self.now.ballots) cell) }
+    {
+        records::in_cell(&self.records, &self.cells, &self.places, cell)
     }
 
     /// The store that also holds these ballots, whose numbers are new to it. `cells` is the layout of all.
@@ -139,14 +181,17 @@ impl Closed {
             (λ store. IsPermutation (self.now.ballots ++ ballots_of ballots.now) store.ballots) }
         ensures stored { IfOk result IsStored }
     {
-        let mut records = records::joined(alloc, &self.records, ballots)?;
-        records.sort_by_key(|record| record.number)?;
-        let own = Box::new(alloc, *election)?;
-        Ok(Closed {
-            election: own,
-            records,
-            cells,
-        })
+        let held = &self.records;
+        let records = records::joined(alloc, held, ballots)?;
+        let places = places::renewed(
+            alloc,
+            &records,
+            held.len(),
+            &self.cells,
+            &self.places,
+            &cells,
+        )?;
+        kept(alloc, election, records, cells, places)
     }
 
     /// The store without the ballots of these numbers. `cells` is the layout of the rest.
@@ -167,11 +212,38 @@ impl Closed {
             }) }
     {
         let records = records::without(alloc, &self.records, numbers)?;
-        let own = Box::new(alloc, *election)?;
-        Ok(Closed {
-            election: own,
-            records,
-            cells,
-        })
+        let places = places::of_all(alloc, &records, &cells)?;
+        kept(alloc, election, records, cells, places)
     }
+}
+
+/// The store of these records, whose cells and places are given.
+fn kept(
+    alloc: Global,
+    election: &Election,
+    records: Vec<Record>,
+    cells: Vec<u64>,
+    places: Vec<u32>,
+) -> Result<Closed, Memory>
+    requires election { IsElection election.now }
+    requires listing { IsListing election.now (ballots_of records.items) }
+    requires within_limit { IsWithinLimit election.now (ballots_of records.items) }
+    requires layout { cells.items ≡ cells_of election.now (ballots_of records.items) }
+    requires places { LeadTo (numbers_of (ballots_of records.items)) cells.items places.items }
+    ensures contents { IfOk result
+        (λ store. store ≡ record {
+          election = election.now;
+          ballots = by_number (ballots_of records.items);
+        }) }
+    ensures same { IfOk result
+        (λ store. IsPermutation (ballots_of records.items) store.ballots) }
+    ensures stored { IfOk result IsStored }
+{
+    let own = Box::new(alloc, *election)?;
+    Ok(Closed {
+        election: own,
+        records,
+        cells,
+        places,
+    })
 }

@@ -45,16 +45,42 @@ fn holds(rt: &impl Abort, cells: &[u64], wanted: &[(usize, u64)]) {
     }
 }
 
+/// The numbers of the records in the cells that hold one, and of all records in order.
+fn is_found(rt: &impl Abort, alloc: Global, store: &Closed, wanted: &[u64]) {
+    for (cell, number) in store.cells().iter().enumerate() {
+        let found = store.record_in(cell).map_or(0, |record| record.number);
+        assert_eq!(rt; found, *number, "cell {cell}");
+    }
+    let listed = store.in_order(alloc).expect(rt, "memory");
+    assert_eq!(rt; listed.len(), wanted.len());
+    for (place, number) in wanted.iter().enumerate() {
+        assert_eq!(rt; listed[place].number, *number, "place {place}");
+        assert_eq!(rt; store.record_of(*number), Some(blank(*number)), "{number}");
+    }
+}
+
 #[test]
 fn three_ballots(rt: HostRuntime) {
     let election = Election::example();
     let empty = Closed::empty(rt.alloc(), &election).expect(&rt, "memory");
     assert_eq!(rt; empty.len(), 0);
+    is_found(&rt, rt.alloc(), &empty, &[]);
     let three = blanks(rt.alloc(), &[14, 1, 9]).expect(&rt, "memory");
     let store = Closed::from_records(rt.alloc(), &election, three).expect(&rt, "memory");
     holds(&rt, store.cells(), &[(4, 9), (5, 14), (6, 1)]);
-    assert_eq!(rt; store.record_of(9), Some(blank(9)));
+    is_found(&rt, rt.alloc(), &store, &[1, 9, 14]);
+    assert_eq!(rt; store.records().len(), 3);
     assert_eq!(rt; store.record_of(10), None);
+    assert_eq!(rt; store.record_of(0), None);
+}
+
+#[test]
+fn in_the_order_of_their_cells(rt: HostRuntime) {
+    let election = Election::example();
+    let three = blanks(rt.alloc(), &[9, 14, 1]).expect(&rt, "memory");
+    let cells = records::layout(rt.alloc(), &election, &three).expect(&rt, "memory");
+    let store = Closed::from_cells(rt.alloc(), &election, three, cells).expect(&rt, "memory");
+    is_found(&rt, rt.alloc(), &store, &[1, 9, 14]);
 }
 
 #[test]
@@ -69,6 +95,7 @@ fn one_more(rt: HostRuntime) {
         .expect(&rt, "memory");
     assert_eq!(rt; merged.len(), 4);
     holds(&rt, merged.cells(), &[(4, 22), (5, 14), (6, 9), (7, 1)]);
+    is_found(&rt, rt.alloc(), &merged, &[1, 9, 14, 22]);
 }
 
 #[test]
@@ -83,4 +110,5 @@ fn one_less(rt: HostRuntime) {
         .expect(&rt, "memory");
     assert_eq!(rt; rest.len(), 2);
     holds(&rt, rest.cells(), &[(4, 1), (5, 14)]);
+    is_found(&rt, rt.alloc(), &rest, &[1, 14]);
 }

@@ -45,15 +45,13 @@ told_back None None y told is = absurd cc
 told_back None (Some z) y told is = absurd cc
 
 -- a page that stands there already, as if it were written
-pub page_same : (seen : Option (List ℕ)) (found image : List ℕ) (p n at k : ℕ) → at + k ≤ n → length image ≡ n → found ≡ slice_range image at (at + k)
-    → IfSome seen (λ bytes. found ≡ slice_range (slice_range bytes p (p + n)) at (at + k))
-    → seen ≡ option_map (overwritten (p + at) (slice_range image at (at + k))) seen
-page_same None found image p n at k within long is read = refl
-page_same (Some bytes) found image p n at k within long is read =
-    let part = slice_range image at (at + k) in
-    let there : part ≡ slice_range bytes (p + at) (p + at + k) = sym is ∙ read ∙ sym (within_range p n at k bytes within) in
-    let size : length part ≡ k = omega (arith, length-take (at + k - at) (drop at image), length-drop at image) in
-    ap Some (sym (overwritten-same (p + at) k part bytes size there))
+pub page_same : (seen : Option (List ℕ)) (page : List ℕ) (p n at k : ℕ) → at + k ≤ n → length page ≡ k
+    → IfSome seen (λ bytes. page ≡ slice_range (slice_range bytes p (p + n)) at (at + k))
+    → seen ≡ option_map (overwritten (p + at) page) seen
+page_same None page p n at k within size read = refl
+page_same (Some bytes) page p n at k within size read =
+    let there : page ≡ slice_range bytes (p + at) (p + at + k) = read ∙ sym (within_range p n at k bytes within) in
+    ap Some (sym (overwritten-same (p + at) k page bytes size there))
 
 -- no page yet
 pub page_first : (first : Option (List ℕ)) (image : List ℕ) (p : ℕ) → first ≡ option_map (overwritten p (take 0 image)) first
@@ -127,6 +125,6 @@ page_next seen now (Some old) image p at k within begins before here =
 pub whole_pages : (now first : Option (List ℕ)) (image : List ℕ) (p at n : ℕ) → length image ≡ n → n ≤ at → now ≡ option_map (overwritten p (take at image)) first → now ≡ option_map (overwritten p image) first
 whole_pages now first image p at n long all written = written ∙ ap (λ (xs : List ℕ). option_map (overwritten p xs) first) (take_all at image (omega arith))
 
--- a part that was made, as a range
-pub part_range : (part image : List ℕ) (at k j : ℕ) → part ≡ take j (drop at image) → j ≡ k → part ≡ slice_range image at (at + k)
-part_range part image at k j is same = let much : j ≡ at + k - at = omega arith in is ∙ ap (λ i. take i (drop at image)) much
+-- the bytes of a page
+pub page_long : (image : List ℕ) (at k : ℕ) → at + k ≤ length image → length (slice_range image at (at + k)) ≡ k
+page_long image at k within = omega (arith, length-take (at + k - at) (drop at image), length-drop at image)

@@ -3,20 +3,18 @@
 ghost use Rattle.std.specs.Prelude.{◌≡◌, ◌⊎◌, ◌+◌, ◌≤◌, ◌++◌, ℕ, List, [], Some, option_map, is_some, IsErrOf, IfErr, IfSome, OnOk, length};
 ghost use Rattle.std.specs.Option.{ForSome};
 ghost use Rattle.bank_medium.specs.Banks.{place_of};
-ghost use Rattle.body_store.specs.Contents.{IsStored};
-ghost use Rattle.image_builder.specs.Page.{page_size};
 ghost use Rattle.checkpoint.specs.Unused.{IsRefusedDisk, IsUnchangedAt, IsUntouchedOrNew};
 ghost use Rattle.outside_io.specs.Told.{AsTold};
 ghost use Rattle.store_spec.specs.Disk.{leaves_now, overwritten, IsSettled, LeavesOnly, SyncsFirst};
 ghost use Rattle.store_spec.specs.Fault.{CountsFault, CountsFaultIf};
-ghost use Rattle.store_spec.specs.Image.{image_of};
+ghost use Rattle.store_spec.specs.Election.{bank_size};
 ghost use Rattle.store_spec.specs.Medium.{HoldsAtMost, IsMediumOf, IsUnused};
 
 use ballot_record::Election;
 use bank_medium::{Bank, gates, open_both_gates, settle, write_page};
 use body_store::Closed;
 use crash_disk::Disk;
-use image_builder::{PAGE_BYTES, Scratch, image_part};
+use image_builder::{PAGE_BYTES, Scratch};
 use outside_io::{Failed, Memory};
 use std::alloc::Global;
 
@@ -81,7 +79,8 @@ pub fn init<D: Disk>(
     settle(disk)?;
     look(disk, election)?;
     let closed = Closed::empty(alloc, election)?;
-    write_banks(disk, &closed, election, &mut scratch.made)?;
+    scratch.make(&closed, election);
+    write_banks(disk, election, &scratch.made)?;
     open_both_gates(disk, election)?;
     Ok(())
 }
@@ -113,57 +112,43 @@ fn look<D: Disk>(disk: &mut D, election: &Election) -> Result<(), InitFault>
     }
 }
 
-/// Writes both banks of an unused disk, and settles them.
-fn write_banks<D: Disk>(
-    disk: &mut D,
-    closed: &Closed,
-    election: &Election,
-    made: &mut [u8],
-) -> Result<(), Failed>
-    requires own { election.now ≡ closed.now.election }
-    requires made_page { length made.old ≡ page_size }
+/// Writes these bytes as both banks of an unused disk, and settles them.
+fn write_banks<D: Disk>(disk: &mut D, election: &Election, made: &[u8]) -> Result<(), Failed>
+    requires whole { length made.now ≡ bank_size election.now }
     requires settled { IsSettled D.seen D.calls D.may_leave disk.old }
     requires unused { ForSome (D.seen disk.old) (IsUnused election.now) }
-    ensures stored { IsStored closed.now }
-    ensures written { OnOk result (D.seen disk.new ≡ option_map
-        (overwritten 0 (image_of election.now closed.now.ballots
-        ++ image_of election.now closed.now.ballots)) (D.seen disk.old)) }
+    ensures written { OnOk result (D.seen disk.new
+        ≡ option_map (overwritten 0 (made.now ++ made.now)) (D.seen disk.old)) }
     ensures settled { OnOk result (IsSettled D.seen D.calls D.may_leave disk.new) }
     ensures any_moment { LeavesOnly D.calls D.may_leave disk.old disk.new (IsUnused election.now) }
     ensures fault { CountsFault result (D.faults disk.old) (D.faults disk.new) }
 {
-    write_each_page(disk, closed, election, Bank::A, made)?;
-    write_each_page(disk, closed, election, Bank::B, made)?;
+    write_each_page(disk, election, Bank::A, made)?;
+    write_each_page(disk, election, Bank::B, made)?;
     settle(disk)
 }
 
-/// Writes all pages of a bank of an unused disk, in ascending order. They are not settled yet.
+/// Writes these bytes as a bank of an unused disk, page after page, in ascending order. They are not settled yet.
 fn write_each_page<D: Disk>(
     disk: &mut D,
-    closed: &Closed,
     election: &Election,
     bank: Bank,
-    made: &mut [u8],
+    made: &[u8],
 ) -> Result<(), Failed>
-    requires own { election.now ≡ closed.now.election }
-    requires made_page { length made.old ≡ page_size }
+    requires whole { length made.now ≡ bank_size election.now }
     requires begins { ForSome (D.seen disk.old) (λ old. place_of election.now bank ≤ length old) }
     requires unused { (c : List ℕ) → leaves_now D.calls D.may_leave disk.old c
         → IsUnused election.now c }
-    ensures stored { IsStored closed.now }
     ensures written { OnOk result (D.seen disk.new
-        ≡ option_map (overwritten (place_of election.now bank)
-        (image_of election.now closed.now.ballots)) (D.seen disk.old)) }
+        ≡ option_map (overwritten (place_of election.now bank) made.now) (D.seen disk.old)) }
     ensures any_moment { LeavesOnly D.calls D.may_leave disk.old disk.new (IsUnused election.now) }
     ensures fault { CountsFault result (D.faults disk.old) (D.faults disk.new) }
 {
-    let end = closed.election().bank_bytes();
+    let end = made.len();
     let mut at = 0;
     while at < end {
         let count = PAGE_BYTES.min(end - at);
-        let page = &mut made[..count];
-        image_part(closed, election, at, page);
-        write_page(disk, election, bank, at, page)?;
+        write_page(disk, election, bank, at, &made[at..at + count])?;
         at += count;
     }
     Ok(())

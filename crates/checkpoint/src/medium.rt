@@ -17,8 +17,9 @@ use crash_disk::Disk;
 use image_builder::Scratch;
 use outside_io::Failed;
 
-/// Makes a medium that of a store: bank B is renewed and then bank A. Only pages that differ are written. At each moment
-/// a crash leaves a medium that holds the old set or that of the store. After `Failed` it is to be recovered.
+/// Makes a medium that of a store: its image is made once, and bank B is renewed from it and then bank A. Only pages
+/// that differ are written. At each moment a crash leaves a medium that holds the old set or that of the store. After
+/// `Failed` it is to be recovered.
 pub fn checkpoint<D: Disk>(
     disk: &mut D,
     closed: &Closed,
@@ -40,7 +41,8 @@ pub fn checkpoint<D: Disk>(
     ensures later { D.calls disk.old ≤ D.calls disk.new }
     ensures fault { CountsFault result (D.faults disk.old) (D.faults disk.new) }
 {
-    prove!(closed.len() <= election.limit() as usize);
-    renew_bank(disk, closed, election, Bank::B, scratch)?;
-    renew_bank(disk, closed, election, Bank::A, scratch)
+    scratch.make(closed, election);
+    let made = scratch.made.as_slice();
+    renew_bank(disk, election, Bank::B, made, &mut scratch.found)?;
+    renew_bank(disk, election, Bank::A, made, &mut scratch.found)
 }

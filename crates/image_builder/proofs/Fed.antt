@@ -3,7 +3,7 @@ use Rattle.std.proofs.Common.{◌≡◌, ◌≢◌, ℕ, ◌+◌, ◌*◌, ◌<�
 use Rattle.std.proofs.lemmas.Bool.{cases_lt}
 use Rattle.std.proofs.lemmas.List.{append-nil, length-append, take_all, take_at}
 use Rattle.image_builder.proofs.FirstCells.{fewer_cells, header_in_front, length-front_of, read_in_front}
-use Rattle.image_builder.proofs.Reading.{AreRead, begins_fewer, begins_read, split_same}
+use Rattle.image_builder.proofs.Reading.{AreRead, begins_fewer, begins_read, front_read, layout_read, listing_read, split_same}
 use Rattle.image_builder.proofs.Wrong.{whole_bank}
 use Rattle.image_builder.specs.Cells.{AreCells, bytes_in, front_of}
 use Rattle.image_builder.specs.Feeding.{Feeding, IsFront, IsRefusedPiece}
@@ -134,9 +134,15 @@ pub header_fed : (e : Election) (header numbers reaches : List ℕ) (ballots : L
 header_fed e header numbers reaches ballots part parts whole =
     ap (λ header. take 32 (fed_of e header numbers ballots part)) (whole_header e header numbers reaches ballots part parts (omega (arith, whole))) ∙ header_in_front e numbers ballots part
 
-pub image_fed : (e : Election) (header numbers reaches : List ℕ) (ballots : List Ballot) (part : List ℕ) → IsElection e → AreParts e header numbers reaches ballots part → length (fed_of e header numbers ballots part) ≡ bank_size e
-    → fed_of e header numbers ballots part ≡ image_of e ballots
-image_fed e header numbers reaches ballots part election parts whole =
+-- all cells of a bank that was fed whole were read
+record IsWhole (e : Election) (header numbers : List ℕ) (ballots : List Ballot) (part : List ℕ) : Type 0 where
+  same : fed_of e header numbers ballots part ≡ front_of e numbers ballots ++ part
+  long : length (front_of e numbers ballots ++ part) ≡ bank_size e
+  read : AreRead e (front_of e numbers ballots ++ part) (cell_count e) numbers ballots
+
+whole_fed : (e : Election) (header numbers reaches : List ℕ) (ballots : List Ballot) (part : List ℕ) → IsElection e → AreParts e header numbers reaches ballots part → length (fed_of e header numbers ballots part) ≡ bank_size e
+    → IsWhole e header numbers ballots part
+whole_fed e header numbers reaches ballots part election parts whole =
     let bank = front_of e numbers ballots ++ part in
     let size = cell_size e in
     let place = length numbers in
@@ -146,8 +152,26 @@ image_fed e header numbers reaches ballots part election parts whole =
     let few : place < cell_count e + 1 = fewer_cells place (cell_count e + 1) size (omega (arith, long, sum, parts.short)) in
     let many : cell_count e < place + 1 = fewer_cells (cell_count e) (place + 1) size (omega (arith, long, sum, parts.short)) in
     let all : place ≡ cell_count e = omega (arith, few, many) in
-    let read = read_in_front e numbers reaches ballots part election parts.cells in
-    same ∙ whole_bank e bank numbers ballots election long (header_in_front e numbers ballots part) (subst (λ (p : ℕ). AreRead e bank p numbers ballots) all read)
+    record {
+      same = same;
+      long = long;
+      read = subst (λ (p : ℕ). AreRead e bank p numbers ballots) all (read_in_front e numbers reaches ballots part election parts.cells);
+    }
+
+pub image_fed : (e : Election) (header numbers reaches : List ℕ) (ballots : List Ballot) (part : List ℕ) → IsElection e → AreParts e header numbers reaches ballots part → length (fed_of e header numbers ballots part) ≡ bank_size e
+    → fed_of e header numbers ballots part ≡ image_of e ballots
+image_fed e header numbers reaches ballots part election parts whole =
+    let fed = whole_fed e header numbers reaches ballots part election parts whole in
+    fed.same ∙ whole_bank e (front_of e numbers ballots ++ part) numbers ballots election fed.long (header_in_front e numbers ballots part) fed.read
+
+-- and its cells are the layout of its ballots
+pub cells_fed : (e : Election) (header numbers reaches : List ℕ) (ballots : List Ballot) (part : List ℕ) → IsElection e → AreParts e header numbers reaches ballots part → length (fed_of e header numbers ballots part) ≡ bank_size e
+    → numbers ≡ cells_of e ballots
+cells_fed e header numbers reaches ballots part election parts whole =
+    let bank = front_of e numbers ballots ++ part in
+    let fed = whole_fed e header numbers reaches ballots part election parts whole in
+    let layout = layout_read e ballots election (listing_read e bank (cell_count e) numbers ballots fed.read) in
+    sym (front_read e bank (cell_count e) numbers ballots election (omega arith) fed.read) ∙ take_all (cell_count e) (cells_of e ballots) (omega (arith, layout.size))
 
 -- ---- under one name for the election
 

@@ -1,5 +1,5 @@
 -- The bytes of an image, piece by piece.
-use Rattle.std.proofs.Common.{◌≡◌, ℕ, zero, suc, ◌+◌, ◌*◌, ◌<◌, ◌≤◌, ⊎_elim, List, [], ◌∷◌, ◌++◌, length, get_or, take, drop, replicate, Some, None, refl, sym, ap, ◌∙◌, arith}
+use Rattle.std.proofs.Common.{◌≡◌, ℕ, zero, suc, ◌+◌, ◌*◌, ◌<◌, ◌≤◌, ⊎_elim, List, [], ◌∷◌, ◌++◌, length, get_or, take, drop, replicate, Some, None, refl, sym, ap, subst, ◌∙◌, arith}
 use Rattle.std.proofs.Math.Seq.{take-add, drop-cons}
 use Rattle.std.proofs.lemmas.List.{length-append, length-take, length-drop, length-replicate, length-take-le, take_at, take-append-le, drop-append-le, drop_at, drop-drop}
 use Rattle.std.proofs.lemmas.List.Concat.{flat_map-cons}
@@ -7,7 +7,8 @@ use Rattle.std.proofs.lemmas.List.Elements.{All-contains}
 use Rattle.std.specs.List.{All, flat_map}
 use Rattle.std.specs.Int.{to_be_bytes, w32}
 use Rattle.std.specs.Option.{option_map_or}
-use Rattle.body_store.proofs.BallotSets.{MayHold, has_room}
+use Rattle.body_store.proofs.BallotSets.{MayHold, has_room, may_hold_set}
+use Rattle.body_store.specs.Contents.{Contents, IsStored}
 use borrow.Rule.Slice.PartMut.{put_mid, post_of}
 use Rattle.layout_def.proofs.LaidOut.{layout_of_is}
 use Rattle.ballot_record.proofs.Lookups.{option_cases, found_in}
@@ -72,6 +73,12 @@ length-header_of e = refl
 
 pub length-cells_of : (e : Election) (ballots : List Ballot) → IsElection e → MayHold e ballots → length (cells_of e ballots) ≡ cell_count e
 length-cells_of e ballots election held = let layout = layout_of_is _ _ _ _ (has_room e ballots election held) in layout.size
+
+-- those of a store
+pub stored_cells : (e : Election) (store : Contents) → e ≡ store.election → IsStored store → length (cells_of e store.ballots) ≡ cell_count e
+stored_cells e store own stored =
+    let Counted : Election → Type 0 = λ (e : Election). length (cells_of e store.ballots) ≡ cell_count e in
+    subst Counted (sym own) (length-cells_of store.election store.ballots stored.election (may_hold_set store.election store.ballots stored.set stored.within_limit))
 
 pub length-image_of : (e : Election) (ballots : List Ballot) → IsElection e → MayHold e ballots → length (image_of e ballots) ≡ bank_size e
 length-image_of e ballots election held =

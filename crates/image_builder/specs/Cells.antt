@@ -1,5 +1,5 @@
 -- The first cells of a bank, as they are kept once they were read.
-use Rattle.std.specs.Prelude.{◌≡◌, ℕ, ◌-◌, List, ◌++◌, All, flat_map, length}
+use Rattle.std.specs.Prelude.{◌≡◌, ℕ, ◌-◌, ◌≤◌, List, ◌++◌, All, flat_map, length, vec_capacity}
 use Rattle.body_store.specs.Contents.{ballots_of}
 use Rattle.image_builder.specs.Feeding.{Completes}
 use Rattle.image_builder.specs.Reaches.{AreReaches}
@@ -7,7 +7,7 @@ use Rattle.image_builder.specs.Reading.{IsRefusedBank}
 use Rattle.image_builder.specs.declared.cells.CellsRead.{CellsRead}
 use Rattle.image_builder.specs.declared.read.ImageFault.{ImageFault}
 use Rattle.store_spec.specs.Ballot.{Ballot, IsValid, IsWithinLimit, numbers_of}
-use Rattle.store_spec.specs.Election.{Election}
+use Rattle.store_spec.specs.Election.{Election, cell_count}
 use Rattle.store_spec.specs.Home.{home_in}
 use Rattle.store_spec.specs.Image.{cell_bytes, header_of}
 use Rattle.store_spec.specs.Layout.{IsOrdered, numbers_in}
@@ -22,6 +22,12 @@ pub record AreCells (e : Election) (numbers reaches : List ℕ) (ballots : List 
 
 abbrev pub AreKept : Election → CellsRead → Type 0
 AreKept e cells = AreCells e cells.numbers.items cells.reaches.items (ballots_of cells.records.items)
+
+-- room for all cells of a bank, and for as many records as a store may hold
+pub record HasSpace (e : Election) (cells : CellsRead) : Type 0 where
+  pub numbers : cell_count e ≤ vec_capacity cells.numbers
+  pub reaches : cell_count e ≤ vec_capacity cells.reaches
+  pub records : e.limit ≤ vec_capacity cells.records
 
 -- the bytes of cells with these numbers
 abbrev pub bytes_in : Election → List ℕ → List Ballot → List ℕ

@@ -1,7 +1,7 @@
 -- How a reader keeps what it was fed: a header, or a part of one; cells; and the part of a cell.
 use Rattle.std.specs.Prelude.{◌≡◌, ℕ, ◌<◌, ◌≤◌, List, [], ◌++◌, length}
 use Rattle.body_store.specs.Contents.{ballots_of}
-use Rattle.image_builder.specs.Cells.{AreCells, bytes_in}
+use Rattle.image_builder.specs.Cells.{AreCells, HasSpace, bytes_in}
 use Rattle.image_builder.specs.Feeding.{Feeding}
 use Rattle.image_builder.specs.declared.reader.ImageReader.TheInside.{Inside}
 use Rattle.store_spec.specs.Ballot.{Ballot}
@@ -25,5 +25,6 @@ pub record AreParts (e : Election) (header numbers reaches : List ℕ) (ballots 
   pub short : length part < cell_size e
   pub within : length (fed_of e header numbers ballots part) ≤ bank_size e
 
-abbrev pub IsKept : Inside → Type 0
-IsKept a = AreParts a.election a.header a.cells.numbers.items a.cells.reaches.items (ballots_of a.cells.records.items) a.part.items
+pub record IsKept (a : Inside) : Type 0 where
+  pub parts : AreParts a.election a.header a.cells.numbers.items a.cells.reaches.items (ballots_of a.cells.records.items) a.part.items
+  pub room : HasSpace a.election a.cells

@@ -1,10 +1,10 @@
 //! The cells of a bank, judged in their order as their bytes come.
 
 ghost use Rattle.body_store.specs.Contents.{ballots_of};
-ghost use Rattle.image_builder.specs.Cells.{AreKept, IsRefusedAt, kept_front};
+ghost use Rattle.image_builder.specs.Cells.{AreKept, HasSpace, IsRefusedAt, kept_front};
 ghost use Rattle.image_builder.specs.Feeding.{IsRefusedPiece};
 ghost use Rattle.image_builder.specs.Reaches.{AreReaches, IsReach};
-ghost use Rattle.std.specs.Prelude.{◌≡◌, ◌+◌, ◌<◌, ◌≤◌, ◌↔◌, ◌++◌, [], ◌∷◌, length, IfOk, IfErr, IfSome, IsSome, OnOk};
+ghost use Rattle.std.specs.Prelude.{◌≡◌, ◌+◌, ◌<◌, ◌≤◌, ◌↔◌, ◌++◌, [], ◌∷◌, length, replicate, vec_len, vec_capacity, IfOk, IfErr, IfSome, IsSome, IsTrue, OnOk};
 ghost use Rattle.store_spec.specs.Election.{IsElection, bank_size, cell_count, cell_size};
 ghost use Rattle.store_spec.specs.Home.{home_in};
 ghost use Rattle.store_spec.specs.Layout.{MayStand};
@@ -27,11 +27,12 @@ pub fn no_cells(alloc: Global, election: &Election) -> Result<CellsRead, AllocEr
     ensures numbers { IfOk result (λ cells. cells.numbers.items ≡ []) }
     ensures reaches { IfOk result (λ cells. cells.reaches.items ≡ []) }
     ensures records { IfOk result (λ cells. cells.records.items ≡ []) }
+    ensures wide { IfOk result (HasSpace election.now) }
 {
     Ok(CellsRead {
         numbers: Vec::with_capacity(alloc, election.cells())?,
         reaches: Vec::with_capacity(alloc, election.cells())?,
-        records: Vec::new(alloc),
+        records: Vec::with_capacity(alloc, election.limit() as usize)?,
     })
 }
 
@@ -45,10 +46,12 @@ pub fn read_cells(
 ) -> Result<(), ImageFault>
     requires election { IsElection election.now }
     requires kept { AreKept election.now cells.old }
+    requires wide { HasSpace election.now cells.old }
     requires short { length part.old.items < cell_size election.now }
     requires within { length (kept_front election.now cells.old ++ part.old.items ++ bytes.now)
         ≤ bank_size election.now }
     ensures kept { OnOk result (AreKept election.now cells.new) }
+    ensures wide { OnOk result (HasSpace election.now cells.new) }
     ensures short { OnOk result (length part.new.items < cell_size election.now) }
     ensures fed { OnOk result (kept_front election.now cells.new ++ part.new.items
         ≡ kept_front election.now cells.old ++ part.old.items ++ bytes.now) }
@@ -88,9 +91,11 @@ fn read_whole_cells<'a>(
 ) -> Result<&'a [u8], ImageFault>
     requires election { IsElection election.now }
     requires kept { AreKept election.now cells.old }
+    requires wide { HasSpace election.now cells.old }
     requires within { length (kept_front election.now cells.old ++ bytes.now)
         ≤ bank_size election.now }
     ensures kept { OnOk result (AreKept election.now cells.new) }
+    ensures wide { OnOk result (HasSpace election.now cells.new) }
     ensures short { IfOk result (λ rest. length rest.now < cell_size election.now) }
     ensures fed { IfOk result (λ rest. kept_front election.now cells.new ++ rest.now
         ≡ kept_front election.now cells.old ++ bytes.now) }
@@ -107,13 +112,37 @@ fn read_whole_cells<'a>(
     Ok(rest)
 }
 
-/// Reads one cell more.
+/// Reads one cell more. Most are empty.
 fn read_cell(cells: &mut CellsRead, bytes: &[u8], election: &Election) -> Result<(), ImageFault>
     requires election { IsElection election.now }
     requires size { length bytes.now ≡ cell_size election.now }
     requires kept { AreKept election.now cells.old }
+    requires wide { HasSpace election.now cells.old }
     requires room { length cells.old.numbers.items < cell_count election.now }
     ensures kept { OnOk result (AreKept election.now cells.new) }
+    ensures wide { OnOk result (HasSpace election.now cells.new) }
+    ensures fed { OnOk result
+        (kept_front election.now cells.new ≡ kept_front election.now cells.old ++ bytes.now) }
+    ensures refused { IfErr result
+        (IsRefusedAt election.now (kept_front election.now cells.old ++ bytes.now)) }
+{
+    if is_blank(bytes) {
+        let place = cells.numbers.len();
+        add(cells, 0, place);
+        return Ok(());
+    }
+    judge_cell(cells, bytes, election)
+}
+
+/// Reads one cell more, whatever stands in it.
+fn judge_cell(cells: &mut CellsRead, bytes: &[u8], election: &Election) -> Result<(), ImageFault>
+    requires election { IsElection election.now }
+    requires size { length bytes.now ≡ cell_size election.now }
+    requires kept { AreKept election.now cells.old }
+    requires wide { HasSpace election.now cells.old }
+    requires room { length cells.old.numbers.items < cell_count election.now }
+    ensures kept { OnOk result (AreKept election.now cells.new) }
+    ensures wide { OnOk result (HasSpace election.now cells.new) }
     ensures fed { OnOk result
         (kept_front election.now cells.new ≡ kept_front election.now cells.old ++ bytes.now) }
     ensures refused { IfErr result
@@ -122,7 +151,7 @@ fn read_cell(cells: &mut CellsRead, bytes: &[u8], election: &Election) -> Result
     let place = cells.numbers.len();
     match take_cell(bytes, election) {
         CellRead::Empty => {
-            add(cells, 0, place)?;
+            add(cells, 0, place);
             Ok(())
         }
         CellRead::Held(record) => {
@@ -133,24 +162,67 @@ fn read_cell(cells: &mut CellsRead, bytes: &[u8], election: &Election) -> Result
             else {
                 return Err(ImageFault::Damaged { cell: place as u32 });
             };
-            cells.records.push(record)?;
-            add(cells, record.number, reach)?;
+            let number = record.number;
+            cells.records.push_reserved(record);
+            add(cells, number, reach);
             Ok(())
         }
         CellRead::Bad => Err(ImageFault::Damaged { cell: place as u32 }),
     }
 }
 
-fn add(cells: &mut CellsRead, number: u64, reach: usize) -> Result<(), AllocError>
-    ensures numbers { OnOk result
-        (cells.new.numbers.items ≡ cells.old.numbers.items ++ number ∷ []) }
-    ensures reaches { OnOk result
-        (cells.new.reaches.items ≡ cells.old.reaches.items ++ reach ∷ []) }
-    ensures records { cells.new.records ≡ cells.old.records }
+/// Whether all of these bytes are 0. It may miss it where they are not as many as a cell has.
+fn is_blank(bytes: &[u8]) -> bool
+    ensures { IsTrue result → bytes.now ≡ replicate (length bytes.now) 0 }
 {
-    cells.numbers.push(number)?;
-    cells.reaches.push(reach)?;
-    Ok(())
+    let mut rest = bytes;
+    while let Some(behind) = past_zeros(rest) {
+        rest = behind;
+    }
+    ends_in_zeros(rest)
+}
+
+/// What follows the first eight bytes, where these are 0.
+fn past_zeros(bytes: &[u8]) -> Option<&[u8]>
+    ensures { IfSome result (λ rest. bytes.now ≡ replicate 8 0 ++ rest.now) }
+{
+    match bytes {
+        [a, b, c, d, e, f, g, h, rest @ ..]
+            if (*a == 0)
+                & (*b == 0)
+                & (*c == 0)
+                & (*d == 0)
+                & (*e == 0)
+                & (*f == 0)
+                & (*g == 0)
+                & (*h == 0) => { Some(rest) }
+        _ => None,
+    }
+}
+
+/// Whether these are as many zeros as stand behind the last eight bytes of an empty cell.
+fn ends_in_zeros(bytes: &[u8]) -> bool
+    ensures { IsTrue result → bytes.now ≡ replicate (length bytes.now) 0 }
+{
+    match bytes {
+        [a] => *a == 0,
+        [a, b, c, d, e] => (*a == 0) & (*b == 0) & (*c == 0) & (*d == 0) & (*e == 0),
+        _ => false,
+    }
+}
+
+/// Puts a number and its reach behind those so far. There is room for them.
+fn add(cells: &mut CellsRead, number: u64, reach: usize)
+    requires numbers { vec_len cells.old.numbers < vec_capacity cells.old.numbers }
+    requires reaches { vec_len cells.old.reaches < vec_capacity cells.old.reaches }
+    ensures numbers { cells.new.numbers.items ≡ cells.old.numbers.items ++ number ∷ [] }
+    ensures reaches { cells.new.reaches.items ≡ cells.old.reaches.items ++ reach ∷ [] }
+    ensures records { cells.new.records ≡ cells.old.records }
+    ensures number_room { vec_capacity cells.new.numbers ≡ vec_capacity cells.old.numbers }
+    ensures reach_room { vec_capacity cells.new.reaches ≡ vec_capacity cells.old.reaches }
+{
+    cells.numbers.push_reserved(number);
+    cells.reaches.push_reserved(reach);
 }
 
 /// How far back these cells hold greater numbers than one that is to stand in the cell after them. `None` where it may

@@ -11,7 +11,7 @@ ghost use Rattle.store_spec.specs.Image.{IsImageOf, header_of};
 use crate::cells::{CellsRead, no_cells, read_cells};
 use crate::read::{HeaderPart, ImageFault, check_header};
 use crate::write::HEADER_BYTES;
-use ballot_record::Election;
+use ballot_record::{Election, MAX_CONTESTS};
 use body_store::Closed;
 use outside_io::Memory;
 use std::alloc::Global;
@@ -100,7 +100,13 @@ impl ImageReader {
         ensures stored { IfOk result IsStored }
         ensures header { take header_size self.fed ≡ header_of election.now }
     {
-        Closed::from_records(alloc, election, self.cells.records)
+        prove!(election.contests() <= MAX_CONTESTS);
+        let CellsRead {
+            numbers,
+            records,
+            ..
+        } = self.cells;
+        Closed::from_cells(alloc, election, records, numbers)
     }
 }
 

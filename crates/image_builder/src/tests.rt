@@ -72,7 +72,7 @@ fn no_ballots(rt: HostRuntime) {
     assert_eq!(rt; read.len(), 0);
     let scratch = Scratch::new(rt.alloc(), &election).expect(&rt, "memory");
     assert_eq!(rt; scratch.found.len(), PAGE_BYTES);
-    assert_eq!(rt; scratch.made.len(), PAGE_BYTES);
+    assert_eq!(rt; scratch.made.len(), bytes.len());
 }
 
 #[test]

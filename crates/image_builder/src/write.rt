@@ -1,9 +1,9 @@
 //! The image of a store, as a whole or a part of it.
 
-ghost use Rattle.std.specs.Prelude.{◌≡◌, ℕ, ◌+◌, ◌-◌, ◌*◌, ◌≤◌, ◌<◌, List, take, drop, length, flat_map, replicate, IfOk, IsPermutation};
+ghost use Rattle.std.specs.Prelude.{◌≡◌, ℕ, ◌+◌, ◌-◌, ◌*◌, ◌≤◌, ◌<◌, List, take, drop, length, flat_map, replicate, slice_index, IfOk, IsPermutation, vec_capacity};
 ghost use Rattle.body_store.specs.Contents.{IsStored};
 ghost use Rattle.store_spec.specs.Ballot.{Ballot};
-ghost use Rattle.store_spec.specs.Election.{IsElection, bank_size, cell_size};
+ghost use Rattle.store_spec.specs.Election.{IsElection, bank_size, cell_count, cell_size};
 ghost use Rattle.store_spec.specs.Image.{cell_bytes, cells_of, header_of, image_of};
 
 use ballot_record::Election;
@@ -16,10 +16,12 @@ use std::alloc::Global;
 pub const HEADER_BYTES: usize = 32;
 
 /// The most bytes of a cell: a number, a style and the mark sets of sixteen contests.
-const MAX_CELL_BYTES: usize = 73;
+pub const MAX_CELL_BYTES: usize = 73;
 
 /// How many bytes are cleared at once, so that they are still near when the ballots are written over them.
 const BLOCK_BYTES: usize = 1024;
+
+const BLOCK: [u8; BLOCK_BYTES] = [0; BLOCK_BYTES];
 
 const MARK: [u8; 8] = *b"HIBSTORE";
 
@@ -34,9 +36,25 @@ pub fn image(alloc: Global, closed: &Closed, election: &Election) -> Result<Vec<
     ensures any_order { (ballots : List Ballot) → IsPermutation ballots closed.now.ballots
         → IfOk result (λ bank. bank.items ≡ image_of election.now ballots) }
 {
-    let mut bank = vec![in alloc; 0; election.bank_bytes()]?;
+    let end = election.bank_bytes();
+    let mut bank = Vec::with_capacity(alloc, end)?;
+    lengthen(&mut bank, end);
     image_part(closed, election, 0, &mut bank);
     Ok(bank)
+}
+
+/// Makes bytes so many: those behind are cut off, or zeros are put behind them, many at once. There is room for them.
+pub fn lengthen(bytes: &mut Vec<u8>, end: usize)
+    requires room { end ≤ vec_capacity bytes.old }
+    ensures long { length bytes.new.items ≡ end }
+    ensures wide { vec_capacity bytes.old ≤ vec_capacity bytes.new }
+{
+    bytes.truncate(end);
+    while bytes.len() < end {
+        let count = BLOCK_BYTES.min(end - bytes.len());
+        let fits = bytes.extend_from_slice(&BLOCK[..count]).is_ok();
+        prove!(fits);
+    }
 }
 
 /// Writes the part of the image of a store that begins at a byte and is as long as `out`.
@@ -48,25 +66,18 @@ pub fn image_part(closed: &Closed, election: &Election, from: usize, out: &mut [
     ensures whole { length (image_of election.now closed.now.ballots) ≡ bank_size election.now }
     ensures stored { IsStored closed.now }
 {
+    prove!(closed.len() <= election.limit() as usize);
     prove!(out.len() <= election.bank_bytes() - from);
-    let cells = closed.cells();
     let mut done = 0;
     while done < out.len() {
-        done += put_piece(closed, election, cells, from + done, &mut out[done..]);
+        done += put_piece(closed, election, from + done, &mut out[done..]);
     }
 }
 
 /// Writes what stands in the header, or in a cell, from a byte of the image on. It answers how many bytes it wrote.
-fn put_piece(
-    closed: &Closed,
-    election: &Election,
-    cells: &[u64],
-    at: usize,
-    out: &mut [u8],
-) -> usize
+fn put_piece(closed: &Closed, election: &Election, at: usize, out: &mut [u8]) -> usize
     requires own { election.now ≡ closed.now.election }
     requires stored { IsStored closed.now }
-    requires held { cells.now ≡ cells_of election.now closed.now.ballots }
     requires within { at < bank_size election.now }
     requires some_room { 0 < length out.old }
     ensures progress { 0 < result }
@@ -78,92 +89,85 @@ fn put_piece(
         return put_from(&header(election), at, out);
     }
     let size = election.cell_bytes();
-    let (place, within) = ((at - HEADER_BYTES) / size, (at - HEADER_BYTES) % size);
+    let (cell, within) = ((at - HEADER_BYTES) / size, (at - HEADER_BYTES) % size);
     if within == 0 && size <= out.len() {
-        return put_cells(closed, election, &cells[place..], out);
+        return put_cells(closed, election, cell, out);
     }
-    put_cell_from(closed, election, cells[place], within, out)
+    put_cell_from(closed, election, cell, within, out)
 }
 
-/// Writes the first of some cells, as many as a block has and there is room for. It answers how many bytes they have.
-fn put_cells(closed: &Closed, election: &Election, cells: &[u64], out: &mut [u8]) -> usize
+/// Writes some cells from one on, as many as a block has and there is room for. It answers how many bytes they have.
+fn put_cells(closed: &Closed, election: &Election, first: usize, out: &mut [u8]) -> usize
     requires own { election.now ≡ closed.now.election }
     requires stored { IsStored closed.now }
-    requires some { 0 < length cells.now }
+    requires there { first < cell_count election.now }
     requires some_room { cell_size election.now ≤ length out.old }
     ensures progress { 0 < result }
     ensures within_room { result ≤ length out.old }
     ensures bytes { take result out.new
-        ≡ take result (flat_map (cell_bytes election.now closed.now.ballots) cells.now) }
+        ≡ take result (flat_map (cell_bytes election.now closed.now.ballots)
+        (drop first (cells_of election.now closed.now.ballots))) }
 {
     let size = election.cell_bytes();
-    let count = cells.len().min(out.len().min(BLOCK_BYTES) / size);
-    put_block(closed, election, &cells[..count], &mut out[..count * size]);
+    let count = (election.cells() - first).min(out.len().min(BLOCK_BYTES) / size);
+    put_block(closed, election, first, count, &mut out[..count * size]);
     count * size
 }
 
-/// Writes these cells of a store. All are empty at first, and those with a number are then written over.
-fn put_block(closed: &Closed, election: &Election, cells: &[u64], out: &mut [u8])
+/// Writes so many cells of a store from one on. All are empty at first, and those with a number are then written over.
+fn put_block(closed: &Closed, election: &Election, first: usize, count: usize, out: &mut [u8])
     requires own { election.now ≡ closed.now.election }
     requires stored { IsStored closed.now }
-    requires room { length out.old ≡ length cells.now * cell_size election.now }
-    ensures { out.new
-        ≡ flat_map (cell_bytes election.now closed.now.ballots) cells.now }
+    requires there { first + count ≤ cell_count election.now }
+    requires room { length out.old ≡ count * cell_size election.now }
+    ensures { out.new ≡ flat_map (cell_bytes election.now closed.now.ballots)
+        (take count (drop first (cells_of election.now closed.now.ballots))) }
 {
     let size = election.cell_bytes();
     out.fill(0);
-    for place in 0..cells.len() {
+    for place in 0..count {
         let at = place * size;
-        put_cell(closed, election, cells[place], &mut out[at..at + size]);
+        put_cell(closed, election, first + place, &mut out[at..at + size]);
     }
 }
 
-/// Writes the cell of the ballot with this number from one of its bytes on. It answers how many bytes it wrote.
+/// Writes a cell of a store from one of its bytes on. It answers how many bytes it wrote.
 fn put_cell_from(
     closed: &Closed,
     election: &Election,
-    number: u64,
+    cell: usize,
     from: usize,
     out: &mut [u8],
 ) -> usize
     requires own { election.now ≡ closed.now.election }
     requires stored { IsStored closed.now }
+    requires there { cell < cell_count election.now }
     requires within { from < cell_size election.now }
     requires some_room { 0 < length out.old }
     ensures progress { 0 < result }
     ensures within_room { result ≤ length out.old }
     ensures within_cell { from + result ≤ cell_size election.now }
     ensures bytes { take result out.new
-        ≡ take result (drop from (cell_bytes election.now closed.now.ballots number)) }
+        ≡ take result (drop from (cell_bytes election.now closed.now.ballots
+        (slice_index (cells_of election.now closed.now.ballots) cell))) }
 {
     let size = election.cell_bytes();
-    let mut cell = [0; MAX_CELL_BYTES];
-    put_cell(closed, election, number, &mut cell[..size]);
-    put_from(&cell[..size], from, out)
+    let mut bytes = [0; MAX_CELL_BYTES];
+    put_cell(closed, election, cell, &mut bytes[..size]);
+    put_from(&bytes[..size], from, out)
 }
 
-/// Writes the cell of the ballot with this number over the zeros of an empty one. 0 is no ballot's number.
-fn put_cell(closed: &Closed, election: &Election, number: u64, out: &mut [u8])
+/// Writes a cell of a store over the zeros of an empty one.
+fn put_cell(closed: &Closed, election: &Election, cell: usize, out: &mut [u8])
     requires own { election.now ≡ closed.now.election }
     requires stored { IsStored closed.now }
+    requires there { cell < cell_count election.now }
     requires blank { out.old ≡ replicate (cell_size election.now) 0 }
-    ensures { out.new ≡ cell_bytes election.now closed.now.ballots number }
+    ensures { out.new ≡ cell_bytes election.now closed.now.ballots
+        (slice_index (cells_of election.now closed.now.ballots) cell) }
 {
-    if number != 0 {
-        put_ballot(closed, election, number, out);
-    }
-}
-
-/// Writes the cell of the ballot with this number, or zeros where none has it.
-fn put_ballot(closed: &Closed, election: &Election, number: u64, out: &mut [u8])
-    requires own { election.now ≡ closed.now.election }
-    requires stored { IsStored closed.now }
-    requires room { length out.old ≡ cell_size election.now }
-    ensures { out.new ≡ cell_bytes election.now closed.now.ballots number }
-{
-    match closed.record_of(number) {
-        Some(record) => record.put_cell(election, out),
-        None => out.fill(0),
+    if let Some(record) = closed.record_in(cell) {
+        record.put_cell(election, out);
     }
 }
 

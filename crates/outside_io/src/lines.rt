@@ -105,13 +105,39 @@ fn first_end(bytes: &[u8]) -> Option<usize>
     bytes.iter().position(|byte| *byte == LINE_END)
 }
 
+// What follows the first eight bytes, where no line ends among them.
+#[tactic(auto, unfolding(store_spec::specs::Input::first_width))]
+fn past_eight(bytes: &[u8]) -> Option<&[u8]>
+    ensures { IfSome result (λ rest. (first_width bytes.now ≡ 8 + first_width rest.now)
+        × (length bytes.now ≡ 8 + length rest.now)) }
+{
+    match bytes {
+        [a, b, c, d, e, f, g, h, rest @ ..]
+            if (*a != LINE_END)
+                & (*b != LINE_END)
+                & (*c != LINE_END)
+                & (*d != LINE_END)
+                & (*e != LINE_END)
+                & (*f != LINE_END)
+                & (*g != LINE_END)
+                & (*h != LINE_END) => { Some(rest) }
+        _ => None,
+    }
+}
+
 // How many bytes stand before the first line end, or in all where there is none.
 fn line_width(bytes: &[u8]) -> usize
     ensures { result ≡ first_width bytes.now }
 {
-    match first_end(bytes) {
-        Some(place) => place,
-        None => bytes.len(),
+    let mut rest = bytes;
+    let mut before = 0;
+    while let Some(after) = past_eight(rest) {
+        rest = after;
+        before += 8;
+    }
+    match first_end(rest) {
+        Some(place) => before + place,
+        None => before + rest.len(),
     }
 }
 

@@ -99,7 +99,7 @@ pub item_does : (e : Election) (n : ℕ) (set : List Ballot) (tab : ℕ) (item :
     → effect ≡ queued_effect n (in_phase now set) place
     → Does e n (in_phase phase set) (item_line tab item) phase effect
 item_does e n set tab (items.Cast r) (Casts lists) place now effect into is =
-    waits_does n set Casts lists tab (ballot r) place now effect into is
+    waits_does n set Casts lists tab (ballot r.now) place now effect into is
 item_does e n set tab (items.Cast r) Closed place now effect into is = other_does n set Closed place now effect into is
 item_does e n set tab (items.Cast r) (Withdraws lists) place now effect into is =
     other_does n set (Withdraws lists) place now effect into is

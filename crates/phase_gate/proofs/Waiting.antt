@@ -4,7 +4,7 @@ use Rattle.std.proofs.lemmas.List.{length-map, length-replicate, length-set}
 use Rattle.std.proofs.lemmas.List.Elements.{All-get_or, All-push, All-replicate, All-set}
 use Rattle.ballot_record.specs.Record.{ballot}
 use Rattle.phase_gate.specs.Standing.{AreLists, MayWait}
-use Rattle.phase_gate.specs.Work.{CanWait, GoesInto, IsOther, WaitsIn}
+use Rattle.phase_gate.specs.Work.{CanWait, GoesInto, IsOther, WaitsIn, item_line}
 use Rattle.phase_gate.specs.declared.work.Item.{Item}
 use Rattle.phase_gate.specs.declared.work.Item.TheVariants as items
 use Rattle.phase_gate.specs.declared.work.Queued.{Queued}
@@ -12,7 +12,7 @@ use Rattle.phase_gate.specs.declared.work.Queued.TheVariants.{Waits, NoList, Oth
 use Rattle.store_spec.specs.Ballot.{Ballot, IsValid}
 use Rattle.store_spec.specs.Election.{Election}
 use Rattle.store_spec.specs.ScriptLine as line
-use Rattle.store_spec.specs.ScriptLine.{IsTab}
+use Rattle.store_spec.specs.ScriptLine.{IsTab, Says}
 use Rattle.store_spec.specs.ScriptLine.Work.{Casting, Withdrawing, Finding}
 use Rattle.store_spec.specs.Session.{Phase, opened, queued}
 use Rattle.store_spec.specs.Session.Phase.{Closed, Casts, Withdraws, Finds}
@@ -107,9 +107,9 @@ pub item_may_wait : (e : Election) (phase : Phase) (tab : ℕ) (item : Item) (pl
     → CanWait e item → MayWait e phase → GoesInto phase tab item place now → MayWait e now
 item_may_wait e (Casts lists) tab (items.Cast r) place now first valid wait into =
     let (are, all) = wait.casts lists refl in
-    waits_may_wait e Casts lists tab (ballot r) place now wait
-    (λ within. casts_may_wait e (queued lists tab (ballot r)) (queued_are_lists lists tab (ballot r) are)
-    (valid_with_others e lists tab (ballot r) first within valid all))
+    waits_may_wait e Casts lists tab (ballot r.now) place now wait
+    (λ within. casts_may_wait e (queued lists tab (ballot r.now)) (queued_are_lists lists tab (ballot r.now) are)
+    (valid_with_others e lists tab (ballot r.now) first within valid all))
     into
 item_may_wait e Closed tab (items.Cast r) place now first can wait into = other_may_wait e Closed place now wait into
 item_may_wait e (Withdraws lists) tab (items.Cast r) place now first can wait into =
@@ -134,3 +134,10 @@ item_may_wait e (Casts lists) tab (items.Find k) place now first can wait into =
     other_may_wait e (Casts lists) place now wait into
 item_may_wait e (Withdraws lists) tab (items.Find k) place now first can wait into =
     other_may_wait e (Withdraws lists) place now wait into
+
+-- an item of a line can wait
+pub item_can_wait : (e : Election) (bytes : List ℕ) (tab : ℕ) (item : Item) → Says e bytes (item_line tab item)
+    → IsTab tab × CanWait e item
+item_can_wait e bytes tab (items.Cast r) says = (says.0, says.3.valid)
+item_can_wait e bytes tab (items.Withdraw k) says = (says.0, tt)
+item_can_wait e bytes tab (items.Find k) says = (says.0, tt)

@@ -10,6 +10,8 @@ use Rattle.phase_gate.specs.declared.work.Queued.{Queued}
 use Rattle.phase_gate.specs.declared.work.Queued.TheVariants.{Waits, NoList, OtherPhase}
 use Rattle.phase_gate.specs.declared.work.Work.{Work}
 use Rattle.phase_gate.specs.declared.work.Work.TheVariants as works
+use Rattle.script_lines.specs.declared.line.Line.{Line}
+use Rattle.script_lines.specs.declared.line.Line.TheVariants as lines
 use Rattle.store_spec.specs.Ballot.{Ballot, IsValid}
 use Rattle.store_spec.specs.Election.{Election}
 use Rattle.store_spec.specs.ScriptLine as line
@@ -29,13 +31,20 @@ kind_of kinds.Finding = line.Work.Finding
 
 -- the line that brings an item for list number `tab`
 abbrev pub item_line : ℕ → Item → line.ScriptLine
-item_line tab (items.Cast r) = line.ScriptLine.Cast tab (ballot r)
+item_line tab (items.Cast r) = line.ScriptLine.Cast tab (ballot r.now)
 item_line tab (items.Withdraw number) = line.ScriptLine.Withdraw tab number
 item_line tab (items.Find number) = line.ScriptLine.Find tab number
 
+-- a line that brings no item
+abbrev pub IsCommand : Line → Type 0
+IsCommand (lines.Cast tab r) = ⊥
+IsCommand (lines.Withdraw tab number) = ⊥
+IsCommand (lines.Find tab number) = ⊥
+IsCommand other = ⊤
+
 -- a ballot that is to be cast is valid
 abbrev pub CanWait : Election → Item → Type 0
-CanWait e (items.Cast r) = IsValid e (ballot r)
+CanWait e (items.Cast r) = IsValid e (ballot r.now)
 CanWait e (items.Withdraw number) = ⊤
 CanWait e (items.Find number) = ⊤
 
@@ -62,6 +71,6 @@ FindsInto (Finds lists) tab number place now = WaitsIn Finds lists tab number pl
 FindsInto phase tab number place now = IsOther phase place now
 
 abbrev pub GoesInto : Phase → ℕ → Item → Queued → Phase → Type 0
-GoesInto phase tab (items.Cast r) place now = CastsInto phase tab (ballot r) place now
+GoesInto phase tab (items.Cast r) place now = CastsInto phase tab (ballot r.now) place now
 GoesInto phase tab (items.Withdraw number) place now = WithdrawsInto phase tab number place now
 GoesInto phase tab (items.Find number) place now = FindsInto phase tab number place now

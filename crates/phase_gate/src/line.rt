@@ -3,7 +3,7 @@
 ghost use Rattle.std.specs.Prelude.{◌≡◌, ℕ, [], List, IfOk, Some, false, string_bytes};
 ghost use Rattle.phase_gate.specs.Gate.{effect_of, queued_effect, state_of, IsNamed};
 ghost use Rattle.phase_gate.specs.Telling.{HasNoEnd, Tells, as_told};
-ghost use Rattle.phase_gate.specs.Work.{CanWait, item_line, kind_of, phase_of};
+ghost use Rattle.phase_gate.specs.Work.{CanWait, IsCommand, item_line, kind_of, phase_of};
 ghost use Rattle.script_lines.specs.Line.{script_line};
 ghost use Rattle.store_spec.specs.ScriptLine.{IsTab, Says};
 ghost use Rattle.store_spec.specs.ScriptLine.{ScriptLine as said};
@@ -13,7 +13,7 @@ use crate::closing::{close_casting, close_finding, close_withdrawing};
 use crate::gate::{Answer, Gate, Phase, Task};
 use crate::telling::Telling;
 use crate::text::{push_count, tell_opening, tell_refusal};
-use crate::work::{Item, Kind, Queued, Work};
+use crate::work::{Item, Kind, Queued, Work, item_of};
 use outside_io::{Memory, Turns};
 use script_lines::{Line, read_script_line};
 use std::alloc::Global;
@@ -50,30 +50,56 @@ impl Gate {
         ensures election { IfOk result (λ answer. answer.gate.closed.election ≡ self.closed.election) }
     {
         match read_script_line(line, self.closed.election()) {
-            Some(said) => self.perform(rt, alloc, said, index, turns, telling, reply),
+            Some(said) => self.perform(rt, alloc, &said, index, turns, telling, reply),
             None => self.refuse(index, "malformed", telling, reply),
         }
     }
 
-    /// Does what a line says.
+    /// Does what a line says. Nearly all lines bring an item, for which the others make no room.
     fn perform<R: Threads + Sync, T: Turns>(
         self,
         rt: &R,
         alloc: Global,
-        line: Line,
+        line: &Line,
         index: u64,
         turns: &T,
         telling: Telling,
         reply: &mut String,
     ) -> Result<Answer, Memory>
-        requires said { (bytes : List ℕ) × Says self.closed.election bytes (script_line line) }
+        requires said { (bytes : List ℕ) × Says self.closed.election bytes (script_line line.now) }
         requires nothing { string_bytes reply.old ≡ [] }
         ensures does { IfOk result (λ answer. Tells telling
-            (Does self.closed.election index (state_of self) (script_line line) (phase_of self.work))
+            (Does self.closed.election index (state_of self) (script_line line.now) (phase_of self.work))
             (effect_of answer (string_bytes reply.new))) }
         ensures election { IfOk result (λ answer. answer.gate.closed.election ≡ self.closed.election) }
     {
-        match line {
+        match item_of(line) {
+            Some((tab, item)) => self.wait(tab, item, index, telling, reply),
+            None => self.command(rt, alloc, line, index, turns, telling, reply),
+        }
+    }
+
+    /// Does what a line says that brings no item.
+    #[inline(never)]
+    fn command<R: Threads + Sync, T: Turns>(
+        self,
+        rt: &R,
+        alloc: Global,
+        line: &Line,
+        index: u64,
+        turns: &T,
+        telling: Telling,
+        reply: &mut String,
+    ) -> Result<Answer, Memory>
+        requires command { IsCommand line.now }
+        requires said { (bytes : List ℕ) × Says self.closed.election bytes (script_line line.now) }
+        requires nothing { string_bytes reply.old ≡ [] }
+        ensures does { IfOk result (λ answer. Tells telling
+            (Does self.closed.election index (state_of self) (script_line line.now) (phase_of self.work))
+            (effect_of answer (string_bytes reply.new))) }
+        ensures election { IfOk result (λ answer. answer.gate.closed.election ≡ self.closed.election) }
+    {
+        match *line {
             Line::OpenCast { tabs } => self.open(alloc, Kind::Casting, tabs, index, telling, reply),
             Line::OpenWithdraw { tabs } => self.open(
                 alloc,
@@ -84,24 +110,17 @@ impl Gate {
                 reply,
             ),
             Line::OpenFind { tabs } => self.open(alloc, Kind::Finding, tabs, index, telling, reply),
-            Line::Cast { tab, ballot } => self.wait(tab, Item::Cast(ballot), index, telling, reply),
             Line::CastInvalid { .. } => self.cast_invalid(index, telling, reply),
-            Line::Withdraw { tab, number } => self.wait(
-                tab,
-                Item::Withdraw(number),
-                index,
-                telling,
-                reply,
-            ),
-            Line::Find { tab, number } => self.wait(tab, Item::Find(number), index, telling, reply),
             Line::Close => self.close(rt, alloc, index, turns, telling, reply),
             Line::Checkpoint => self.checkpoint(index, telling, reply),
             Line::Tally => self.tally(index, telling, reply),
             Line::Export => self.export(index, telling, reply),
+            Line::Cast { .. } | Line::Withdraw { .. } | Line::Find { .. } => unreachable!(),
         }
     }
 
     /// Does nothing, and says why.
+    #[inline(never)]
     fn refuse(
         self,
         index: u64,
@@ -120,6 +139,7 @@ impl Gate {
     }
 
     /// Does nothing: the line does not belong to the phase.
+    #[inline(never)]
     fn refuse_phase(
         self,
         index: u64,
@@ -186,7 +206,7 @@ impl Gate {
     fn wait(
         self,
         tab: u8,
-        item: Item,
+        item: Item<'_>,
         index: u64,
         telling: Telling,
         reply: &mut String,
@@ -195,12 +215,12 @@ impl Gate {
         requires item { CanWait self.closed.election item }
         requires nothing { string_bytes reply.old ≡ [] }
         ensures does { IfOk result (λ answer. Tells telling (Does self.closed.election index
-            (state_of self) (item_line tab item) (phase_of self.work))
+            (state_of self) (item_line tab item.entry) (phase_of self.work))
             (effect_of answer (string_bytes reply.new))) }
         ensures election { IfOk result (λ answer. answer.gate.closed.election ≡ self.closed.election) }
     {
-        let Gate { closed, work } = self;
-        let (work, queued) = work.wait(tab, item)?;
+        let Gate { closed, mut work } = self;
+        let queued = work.wait(tab, item)?;
         Gate { closed, work }.queued(queued, index, telling, reply)
     }
 

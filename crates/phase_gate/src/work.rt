@@ -1,12 +1,14 @@
 //! A phase, and what waits for its close.
 
-ghost use Rattle.std.specs.Prelude.{◌≡◌, ℕ, ◌≤◌, ◌++◌, [], IfOk, codes, map, replicate};
+ghost use Rattle.std.specs.Prelude.{◌≡◌, ℕ, ◌≤◌, ◌++◌, [], IfOk, codes, map, replicate, MatchOption};
 ghost use Rattle.ballot_record.specs.Record as records;
-ghost use Rattle.phase_gate.specs.Work.{CastsInto, FindsInto, GoesInto, WaitsIn, WithdrawsInto, kind_of, phase_of};
+ghost use Rattle.phase_gate.specs.Work.{CastsInto, FindsInto, GoesInto, IsCommand, WaitsIn, WithdrawsInto, item_line, kind_of, phase_of};
+ghost use Rattle.script_lines.specs.Line.{script_line};
 ghost use Rattle.store_spec.specs.Session.{last_reply, opened, phase_text};
 
 use ballot_record::Record;
 use outside_io::Memory;
+use script_lines::Line;
 use std::alloc::Global;
 
 /// A phase, and a list for each tabulator of what waits for its close.
@@ -27,10 +29,10 @@ pub enum Kind {
 }
 
 /// What is to be done at the close of a phase.
-#[derive(Clone, Copy, Debug, PartialEq, Eq)]
-pub enum Item {
+#[derive(Clone, Copy)]
+pub enum Item<'a> {
     /// This ballot is to be cast.
-    Cast(Record),
+    Cast(&'a Record),
     /// The ballot of this number is to be withdrawn.
     Withdraw(u64),
     /// The ballot of this number is to be looked for.
@@ -97,10 +99,10 @@ impl Work {
         }
     }
 
-    /// The phase in which an item waits in the list of this number.
-    pub fn wait(self, tab: u8, item: Item) -> Result<(Work, Queued), Memory>
+    /// Lets an item wait in the list of this number.
+    pub fn wait(&mut self, tab: u8, item: Item<'_>) -> Result<Queued, Memory>
         requires { 1 ≤ tab }
-        ensures { IfOk result (λ x. GoesInto (phase_of self) tab item x.1 (phase_of x.0)) }
+        ensures { IfOk result (λ queued. GoesInto (phase_of self.old) tab item.entry queued (phase_of self.new)) }
     {
         match item {
             Item::Cast(ballot) => self.cast(tab, ballot),
@@ -109,48 +111,52 @@ impl Work {
         }
     }
 
-    /// The phase in which a ballot waits to be cast.
-    fn cast(self, tab: u8, ballot: Record) -> Result<(Work, Queued), Memory>
+    /// Lets a ballot wait to be cast.
+    fn cast(&mut self, tab: u8, ballot: &Record) -> Result<Queued, Memory>
         requires { 1 ≤ tab }
-        ensures { IfOk result (λ x. CastsInto (phase_of self) tab (records.ballot ballot) x.1
-            (phase_of x.0)) }
+        ensures { IfOk result (λ queued. CastsInto (phase_of self.old) tab (records.ballot ballot.now) queued
+            (phase_of self.new)) }
     {
         match self {
-            Work::Casting(mut lists) => {
-                let queued = queue(&mut lists, tab, ballot)?;
-                Ok((Work::Casting(lists), queued))
-            }
-            other => Ok((other, Queued::OtherPhase)),
+            Work::Casting(lists) => queue(lists, tab, *ballot),
+            _ => Ok(Queued::OtherPhase),
         }
     }
 
-    /// The phase in which a number waits to be withdrawn.
-    fn withdraw(self, tab: u8, number: u64) -> Result<(Work, Queued), Memory>
+    /// Lets a number wait to be withdrawn.
+    fn withdraw(&mut self, tab: u8, number: u64) -> Result<Queued, Memory>
         requires { 1 ≤ tab }
         ensures { IfOk result
-            (λ x. WithdrawsInto (phase_of self) tab number x.1 (phase_of x.0)) }
+            (λ queued. WithdrawsInto (phase_of self.old) tab number queued (phase_of self.new)) }
     {
         match self {
-            Work::Withdrawing(mut lists) => {
-                let queued = queue(&mut lists, tab, number)?;
-                Ok((Work::Withdrawing(lists), queued))
-            }
-            other => Ok((other, Queued::OtherPhase)),
+            Work::Withdrawing(lists) => queue(lists, tab, number),
+            _ => Ok(Queued::OtherPhase),
         }
     }
 
-    /// The phase in which a number waits to be looked for.
-    fn find(self, tab: u8, number: u64) -> Result<(Work, Queued), Memory>
+    /// Lets a number wait to be looked for.
+    fn find(&mut self, tab: u8, number: u64) -> Result<Queued, Memory>
         requires { 1 ≤ tab }
-        ensures { IfOk result (λ x. FindsInto (phase_of self) tab number x.1 (phase_of x.0)) }
+        ensures { IfOk result
+            (λ queued. FindsInto (phase_of self.old) tab number queued (phase_of self.new)) }
     {
         match self {
-            Work::Finding(mut lists) => {
-                let queued = queue(&mut lists, tab, number)?;
-                Ok((Work::Finding(lists), queued))
-            }
-            other => Ok((other, Queued::OtherPhase)),
+            Work::Finding(lists) => queue(lists, tab, number),
+            _ => Ok(Queued::OtherPhase),
         }
+    }
+}
+
+/// What is to be done for a line at the close of a phase, and in the list of which number, where it is for a list.
+pub fn item_of(line: &Line) -> Option<(u8, Item<'_>)>
+    ensures { MatchOption result (IsCommand line.now) (λ x. script_line line.now ≡ item_line x.0 x.1) }
+{
+    match line {
+        Line::Cast { tab, ballot } => Some((*tab, Item::Cast(ballot))),
+        Line::Withdraw { tab, number } => Some((*tab, Item::Withdraw(*number))),
+        Line::Find { tab, number } => Some((*tab, Item::Find(*number))),
+        _ => None,
     }
 }
 

@@ -4,7 +4,7 @@ use Rattle.std.proofs.lemmas.Bool.{cases_eq}
 use Rattle.checkpoint.specs.Renewal.{IsRenewed, IsHalfRenewed}
 use Rattle.image_builder.proofs.Held.{medium_parts, one_held, parts_medium}
 use Rattle.image_builder.proofs.MediumParts.{AreBoth}
-use Rattle.recovery.specs.Canonical.{IsReadAs}
+use Rattle.recovery.specs.Canonical.{IsReadAs, IsReadFrom}
 use Rattle.store_spec.specs.Ballot.{Ballot}
 use Rattle.store_spec.specs.Election.{Election, IsElection}
 use Rattle.store_spec.specs.Image.{IsImageOf, image_of}
@@ -21,6 +21,10 @@ module _ (e : Election) (set : List Ballot) where
 
   made_image : (bank other : List ℕ) → IsImageOf e bank set → other ≡ image_of e set → IsImageOf e other set
   made_image bank other image is = record { set = image.set; within_limit = image.within_limit; bytes = is }
+
+  -- the bank that is read, by its bytes
+  pub read_as : (bank : Bank) (bytes made : List ℕ) → IsReadFrom e bytes bank → bank_of e bank bytes ≡ made → IsImageOf e made set → IsReadAs e bytes bank set
+  read_as bank bytes made from is image = record { from = from; image = same_image made (bank_of e bank bytes) image is }
 
   -- while the other bank is renewed from it, the medium holds that set
   pub half_holds : (bank : Bank) (bytes c : List ℕ) → IsReadAs e bytes bank set → IsHalfRenewed e (other_bank bank) (image_of e set) bytes c → HoldsSet e c set
@@ -69,15 +73,15 @@ module _ (e : Election) (set : List Ballot) where
   agreeing_medium B bytes read opened agrees = absurd (read.from.chosen.0 opened)
 
   -- it agrees in the medium of any set
-  module _ (bank : Bank) (bytes : List ℕ) (other : List Ballot) (election : IsElection e) (is : IsMediumOf e bytes other) where
-    both : AreBoth e (image_of e other) bytes
-    both = medium_parts e bytes other election is
+  module _ (bank : Bank) (bytes : List ℕ) (election : IsElection e) (is : IsMediumOf e bytes set) where
+    both : AreBoth e (image_of e set) bytes
+    both = medium_parts e bytes set election is
 
     pub medium_open : IsOpen e (other_bank bank) bytes
     medium_open = both.gates (other_bank bank)
 
-    pub medium_agrees : IsReadAs e bytes bank set → bank_of e (other_bank bank) bytes ≡ image_of e set
-    medium_agrees read = both.banks (other_bank bank) ∙ sym (both.banks bank) ∙ read.image.bytes
+    pub medium_agrees : bank_of e (other_bank bank) bytes ≡ bank_of e bank bytes
+    medium_agrees = both.banks (other_bank bank) ∙ sym (both.banks bank)
 
   -- what holds the set holds what the bytes hold
   pub holds_the_same : (bytes c : List ℕ) → IsElection e → HoldsSet e bytes set → HoldsSet e c set → HoldsTheSame e bytes c

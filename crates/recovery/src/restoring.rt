@@ -1,20 +1,23 @@
 //! Recovery.
 
-ghost use Rattle.std.specs.Prelude.{◌≡◌, ◌≤◌, ◌↔◌, ℕ, List, Some, is_some, IsErrOf, IsTrue, IfErr, IfOk, IfSome, OnOk};
+ghost use Rattle.std.specs.Prelude.{◌≡◌, ◌≤◌, ◌↔◌, ℕ, List, length, Some, is_some, IsErrOf, IsTrue, IfErr, IfOk, IfSome, OnOk};
 ghost use Rattle.std.specs.Option.{ForSome};
-ghost use Rattle.bank_medium.specs.Banks.{bank_named};
+ghost use Rattle.bank_medium.specs.Banks.{bank_named, bytes_of};
 ghost use Rattle.body_store.specs.Contents.{IsStored};
 ghost use Rattle.outside_io.specs.Told.{AsTold};
-ghost use Rattle.recovery.specs.Canonical.{IsReadAs};
+ghost use Rattle.image_builder.specs.Page.{page_size};
+ghost use Rattle.recovery.specs.Canonical.{IsReadFrom};
 ghost use Rattle.recovery.specs.ReadsOnly.{ReadsOnly};
 ghost use Rattle.recovery.specs.Refused.{IsRefusedMedium, IsUnchangedAt};
 ghost use Rattle.store_spec.specs.Ballot.{Ballot};
 ghost use Rattle.store_spec.specs.Disk.{IsSettled, LeavesOnly, SyncsFirst};
+ghost use Rattle.store_spec.specs.Election.{IsElection, bank_size};
 ghost use Rattle.store_spec.specs.Fault.{CountsFault, CountsFaultIf};
+ghost use Rattle.store_spec.specs.Image.{IsImageOf};
 ghost use Rattle.store_spec.specs.Medium.{HoldsSet, HoldsTheSame, IsMediumOf, IsOpen, other_bank};
 
 use crate::fault::RecoverFault;
-use crate::look::{choose, is_image, read_bank};
+use crate::look::{choose, has_bytes, read_bank};
 use ballot_record::Election;
 use bank_medium::{Bank, settle};
 use body_store::Closed;
@@ -91,33 +94,46 @@ fn restore<D: Disk>(
         (D.faults disk.old) (D.faults disk.new) }
 {
     let (bank, open_too) = choose(disk, election)?;
-    let closed = read_bank(alloc, disk, election, bank, &mut scratch.found)?;
-    make_canonical(disk, &closed, election, bank, open_too, scratch)?;
+    scratch.fit(election);
+    let closed = read_bank(alloc, disk, election, bank, &mut scratch.made)?;
+    make_canonical(
+        disk,
+        election,
+        bank,
+        open_too,
+        &scratch.made,
+        &mut scratch.found,
+    )?;
     Ok(closed)
 }
 
-/// Makes the other bank and its gate agree with the bank from which a store was read.
+/// Makes the other bank and its gate agree with the bank that was read, which has these bytes.
 fn make_canonical<D: Disk>(
     disk: &mut D,
-    closed: &Closed,
     election: &Election,
     bank: Bank,
     open_too: bool,
-    scratch: &mut Scratch,
+    made: &[u8],
+    found: &mut [u8],
 ) -> Result<(), Failed>
-    requires own { election.now ≡ closed.now.election }
+    requires election { IsElection election.now }
+    requires whole { length made.now ≡ bank_size election.now }
+    requires found_page { length found.old ≡ page_size }
     requires settled { IsSettled D.seen D.calls D.may_leave disk.old }
     requires read { ForSome (D.seen disk.old)
-        (λ bytes. IsReadAs election.now bytes (bank_named bank) closed.now.ballots) }
+        (λ bytes. IsReadFrom election.now bytes (bank_named bank)) }
+    requires bytes { ForSome (D.seen disk.old)
+        (λ bytes. bytes_of election.now bank bytes ≡ made.now) }
     requires gate { ForSome (D.seen disk.old)
         (λ bytes. IsTrue open_too ↔ IsOpen election.now (other_bank (bank_named bank)) bytes) }
-    ensures medium { OnOk result (AsTold D.seen disk.old disk.new
-        (λ _ bytes. IsMediumOf election.now bytes closed.now.ballots)) }
+    ensures medium { (set : List Ballot) → IsImageOf election.now made.now set
+        → OnOk result (AsTold D.seen disk.old disk.new
+        (λ _ bytes. IsMediumOf election.now bytes set)) }
     ensures settled { OnOk result (IsSettled D.seen D.calls D.may_leave disk.new) }
     ensures told { is_some (D.seen disk.new) ≡ is_some (D.seen disk.old) }
-    ensures any_moment { (bytes : List ℕ) → D.seen disk.old ≡ Some bytes
-        → LeavesOnly D.calls D.may_leave disk.old disk.new
-        (λ c. HoldsSet election.now c closed.now.ballots) }
+    ensures any_moment { (bytes : List ℕ) (set : List Ballot) → D.seen disk.old ≡ Some bytes
+        → IsImageOf election.now made.now set
+        → LeavesOnly D.calls D.may_leave disk.old disk.new (λ c. HoldsSet election.now c set) }
     ensures canonical { (bytes : List ℕ) (set : List Ballot) → D.seen disk.old ≡ Some bytes
         → IsMediumOf election.now bytes set
         → ReadsOnly D.seen D.calls D.may_leave disk.old disk.new }
@@ -126,19 +142,12 @@ fn make_canonical<D: Disk>(
 {
     let other = other_of(bank);
     if !open_too {
-        return fill_bank(disk, closed, election, other, scratch);
+        return fill_bank(disk, election, other, made, found);
     }
-    if is_image(
-        disk,
-        closed,
-        election,
-        other,
-        &mut scratch.found,
-        &mut scratch.made,
-    )? {
+    if has_bytes(disk, election, other, made, found)? {
         return Ok(());
     }
-    renew_bank(disk, closed, election, other, scratch)
+    renew_bank(disk, election, other, made, found)
 }
 
 /// The other bank.

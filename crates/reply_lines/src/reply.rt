@@ -1,9 +1,10 @@
-ghost use Rattle.std.specs.Prelude.{◌≡◌, List, ℕ};
+ghost use Rattle.std.specs.Prelude.{◌≡◌, ◌≤◌, List, length, ℕ};
 ghost use Rattle.reply_lines.specs.Words.{met_text};
 ghost use Rattle.step_core.specs.CastCore.{met_of};
 ghost use Rattle.step_core.specs.WithdrawCore.{reply_of};
 ghost use Rattle.store_spec.specs.Session.{find_text, withdraw_text};
 
+use crate::lines::MAX_WORD;
 use step_core::{CastMet, WithdrawReply};
 
 /// A reply with a word of its own.
@@ -13,7 +14,8 @@ pub trait Reply {
 
     /// The word.
     fn word(&self) -> &'static str
-        ensures { result.now ≡ word self.now };
+        ensures word { result.now ≡ word self.now }
+        ensures short { length result.now ≤ MAX_WORD };
 }
 
 impl Reply for CastMet {

@@ -5,7 +5,7 @@ use Rattle.std.specs.Prelude.{MatchOption}
 use Rattle.script_lines.proofs.Decimals.{one_tab}
 use Rattle.script_lines.specs.Line.{script_line}
 use Rattle.script_lines.specs.declared.line.Line.{Line}
-use Rattle.script_lines.specs.Words.{IsItem, IsNoItem, IsNotUpTo, LacksWork}
+use Rattle.script_lines.specs.Words.{IsItem, IsNoItem, IsNotUpTo, LacksTab, LacksWork}
 use Rattle.store_spec.specs.BallotLine.{IsRecordLine}
 use Rattle.store_spec.specs.Election.{Election}
 use Rattle.store_spec.specs.ScriptLine.{IsTab, Says, ScriptLine, Work, item_text, work_text}
@@ -43,6 +43,12 @@ item_front e bytes Export item says = absurd item
 -- with no work there is no line for a list
 pub no_work : (e : Election) (bytes : List ℕ) → LacksWork bytes → IsNoItem e bytes
 no_work e bytes none line item says = let front = item_front e bytes line item says in none front.0 (decimal front.1 ++ 32 ∷ front.2) front.4
+
+-- with a work and no tabulator behind it there is none either
+pub no_tab : (e : Election) (w : Work) (behind : List ℕ) → LacksTab behind → IsNoItem e (work_text w ++ 32 ∷ behind)
+no_tab e w behind none line item says =
+    let front = item_front e (work_text w ++ 32 ∷ behind) line item says in
+    none front.1 front.2 front.3 (one_work w front.0 behind (decimal front.1 ++ 32 ∷ front.2) front.4).1
 
 -- what is behind the work and what is behind the tabulator, as one text
 pub item_named : (v w : Work) (bytes behind rest : List ℕ) (tab : ℕ) → bytes ≡ work_text v ++ 32 ∷ behind → v ≡ w → behind ≡ decimal tab ++ 32 ∷ rest → bytes ≡ item_text w tab rest

@@ -2,11 +2,15 @@
 use Rattle.std.proofs.Common.{◌≡◌, ℕ, ◌+◌, ◌^◌, ◌<◌, ◌≤◌, List, ◌∷◌, ◌++◌, get_or, length, refl, sym, ap, subst, ◌∙◌, arith, length-append}
 use Rattle.std.proofs.lemmas.Fmt.{decimal_injective, length-decimal-le}
 use Rattle.std.specs.Fmt.{decimal}
+use Rattle.std.specs.Prelude.{IfNone, IfSome, MatchOption, Option, None, Some}
 use Rattle.ballot_record.proofs.LineLaws.{one_ballot, short_lines}
-use Rattle.script_lines.proofs.Forms.{one_item, one_work}
+use Rattle.script_lines.proofs.Forms.{no_work, one_item, one_work}
+use Rattle.script_lines.specs.Line.{script_line}
+use Rattle.script_lines.specs.declared.line.Line.{Line}
+use Rattle.script_lines.specs.Words.{IsNoCommand, LacksWork}
 use Rattle.store_spec.specs.BallotLine.{Spells}
 use Rattle.store_spec.specs.Election.{Election}
-use Rattle.store_spec.specs.ScriptLine.{IsTab, Says, ScriptLine, Work, item_text, open_text, work_text}
+use Rattle.store_spec.specs.ScriptLine.{IsMalformed, IsTab, Says, ScriptLine, Work, item_text, open_text, work_text}
 use Rattle.store_spec.specs.ScriptLine.ScriptLine.{Open, Cast, CastInvalid, Withdraw, Find, Close, Checkpoint, Tally, Export}
 use Rattle.store_spec.specs.ScriptLine.Work.{Casting, Withdrawing, Finding}
 
@@ -74,6 +78,14 @@ by_form e bytes a b form x y = absurd (omega arith)
 -- a line says one thing
 pub one_meaning : (e : Election) (bytes : List ℕ) (a b : ScriptLine) → Says e bytes a → Says e bytes b → a ≡ b
 one_meaning e bytes a b x y = by_form e bytes a b (sym (fourth_byte e bytes a x) ∙ fourth_byte e bytes b y) x y
+
+-- ---- what a line says that names no work
+
+pub command_meant : (e : Election) (bytes : List ℕ) (read : Option Line) → LacksWork bytes
+    → MatchOption read (IsNoCommand bytes) (λ l. (e : Election) → Says e bytes (script_line l))
+    → IfSome read (λ l. Says e bytes (script_line l)) × IfNone read (IsMalformed e bytes)
+command_meant e bytes None none told = (tt, λ line says. told e line (λ item. no_work e bytes none line item says) says)
+command_meant e bytes (Some l) none told = (told e, tt)
 
 -- ---- how long a line is
 

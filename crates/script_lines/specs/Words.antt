@@ -16,6 +16,10 @@ work works.Casting = Casting
 work works.Withdrawing = Withdrawing
 work works.Finding = Finding
 
+-- a word does not stand first
+abbrev pub LacksWord : List ℕ → List ℕ → Type 0
+LacksWord word bytes = (rest : List ℕ) → bytes ≢ word ++ rest
+
 -- no work stands first, with a space behind it
 abbrev pub LacksWork : List ℕ → Type 0
 LacksWork bytes = (w : definition.Work) (rest : List ℕ) → bytes ≢ work_text w ++ space ∷ rest
@@ -43,3 +47,7 @@ IsItem other = ⊥
 -- the bytes say nothing that is for one of the lists
 abbrev pub IsNoItem : Election → List ℕ → Type 0
 IsNoItem e bytes = (line : ScriptLine) → IsItem line → ¬ Says e bytes line
+
+-- the bytes say nothing that is for none of the lists
+abbrev pub IsNoCommand : List ℕ → Type 0
+IsNoCommand bytes = (e : Election) (line : ScriptLine) → ¬ IsItem line → ¬ Says e bytes line

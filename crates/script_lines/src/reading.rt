@@ -1,12 +1,12 @@
-ghost use Rattle.std.specs.Prelude.{IfNone, IfSome, MatchOption};
-ghost use Rattle.store_spec.specs.BallotLine.{IsRecordLine};
-ghost use Rattle.store_spec.specs.ScriptLine.{IsMalformed, IsTab, Says, item_text};
+ghost use Rattle.std.specs.Prelude.{◌++◌, ◌∷◌, IfNone, IfSome, MatchOption};
+ghost use Rattle.store_spec.specs.BallotLine.{IsRecordLine, space};
+ghost use Rattle.store_spec.specs.ScriptLine.{IsMalformed, IsTab, Says, item_text, work_text};
 ghost use Rattle.store_spec.specs.Election as definition;
 ghost use Rattle.script_lines.specs.Line.{script_line};
-ghost use Rattle.script_lines.specs.Words.{IsNoItem, IsNoOpening, work};
+ghost use Rattle.script_lines.specs.Words.{IsNoCommand, IsNoItem, IsNoOpening, work};
 
 use crate::Line;
-use crate::words::{MAX_TABS, Work, take_tab, take_work, whole_number};
+use crate::words::{MAX_TABS, Work, after_word, take_tab, take_work, whole_number};
 use ballot_record::{Election, LineFault, read_line};
 
 /// What a line says that opens a phase.
@@ -14,7 +14,7 @@ fn read_open(line: &[u8]) -> Option<Line>
     ensures { MatchOption result (IsNoOpening line.now)
         (λ l. (e : definition.Election) → Says e line.now (script_line l)) }
 {
-    let (work, rest) = take_work(line.strip_prefix(b"open ")?)?;
+    let (work, rest) = take_work(after_word(line, b"open ")?)?;
     let tabs = whole_number(rest, MAX_TABS)? as u8;
     match work {
         Work::Casting => Some(Line::OpenCast { tabs }),
@@ -36,30 +36,10 @@ fn read_cast(tab: u8, bytes: &[u8], election: &Election) -> Option<Line>
     }
 }
 
-/// What a line says that is for one of the lists.
-fn read_item(line: &[u8], election: &Election) -> Option<Line>
-    ensures { MatchOption result (IsNoItem election.now line.now)
-        (λ l. Says election.now line.now (script_line l)) }
-{
-    let (work, rest) = take_work(line)?;
-    let (tab, rest) = take_tab(rest)?;
-    match work {
-        Work::Casting => read_cast(tab, rest, election),
-        Work::Withdrawing => {
-            let number = whole_number(rest, u64::MAX)?;
-            Some(Line::Withdraw { tab, number })
-        }
-        Work::Finding => {
-            let number = whole_number(rest, u64::MAX)?;
-            Some(Line::Find { tab, number })
-        }
-    }
-}
-
-/// What a line of a script says under an election, and `None` where it is malformed.
-pub fn read_script_line(line: &[u8], election: &Election) -> Option<Line>
-    ensures said { IfSome result (λ l. Says election.now line.now (script_line l)) }
-    ensures malformed { IfNone result (IsMalformed election.now line.now) }
+/// What a line says that is for none of the lists.
+fn read_command(line: &[u8]) -> Option<Line>
+    ensures { MatchOption result (IsNoCommand line.now)
+        (λ l. (e : definition.Election) → Says e line.now (script_line l)) }
 {
     if line == b"close".as_slice() {
         return Some(Line::Close);
@@ -73,8 +53,37 @@ pub fn read_script_line(line: &[u8], election: &Election) -> Option<Line>
     if line == b"export".as_slice() {
         return Some(Line::Export);
     }
-    if let Some(opening) = read_open(line) {
-        return Some(opening);
+    read_open(line)
+}
+
+/// What a line says that is for one of the lists: it names this work, and goes on so behind a space.
+fn read_item(named: Work, behind: &[u8], election: &Election) -> Option<Line>
+    ensures { MatchOption result
+        (IsNoItem election.now (work_text (work named) ++ space ∷ behind.now))
+        (λ l. Says election.now (work_text (work named) ++ space ∷ behind.now) (script_line l)) }
+{
+    let (tab, rest) = take_tab(behind)?;
+    match named {
+        Work::Casting => read_cast(tab, rest, election),
+        Work::Withdrawing => {
+            let number = whole_number(rest, u64::MAX)?;
+            Some(Line::Withdraw { tab, number })
+        }
+        Work::Finding => {
+            let number = whole_number(rest, u64::MAX)?;
+            Some(Line::Find { tab, number })
+        }
     }
-    read_item(line, election)
+}
+
+/// What a line of a script says under an election, and `None` where it is malformed. Nearly all lines are for a list, so
+/// that is looked at first.
+pub fn read_script_line(line: &[u8], election: &Election) -> Option<Line>
+    ensures said { IfSome result (λ l. Says election.now line.now (script_line l)) }
+    ensures malformed { IfNone result (IsMalformed election.now line.now) }
+{
+    match take_work(line) {
+        Some((work, behind)) => read_item(work, behind, election),
+        None => read_command(line),
+    }
 }

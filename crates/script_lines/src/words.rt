@@ -2,7 +2,7 @@ ghost use Rattle.std.specs.Prelude.{◌≡◌, ◌≤◌, ◌++◌, ◌∷◌, M
 ghost use Rattle.std.specs.Fmt.{decimal};
 ghost use Rattle.store_spec.specs.BallotLine.{space};
 ghost use Rattle.store_spec.specs.ScriptLine.{IsTab, work_text};
-ghost use Rattle.script_lines.specs.Words.{IsNotUpTo, LacksTab, LacksWork, work};
+ghost use Rattle.script_lines.specs.Words.{IsNotUpTo, LacksTab, LacksWord, LacksWork, work};
 
 use ballot_record::take_number;
 
@@ -20,18 +20,36 @@ pub enum Work {
     Finding,
 }
 
+/// What follows a word, where it stands first. A word is some bytes, which are compared here and not in a loop of a
+/// call.
+#[inline(always)]
+pub fn after_word<'a>(bytes: &'a [u8], word: &[u8]) -> Option<&'a [u8]>
+    ensures { MatchOption result (LacksWord word.now bytes.now)
+        (λ rest. bytes.now ≡ word.now ++ rest.now) }
+{
+    if bytes.len() < word.len() {
+        return None;
+    }
+    'word: for at in 0..word.len() {
+        if bytes[at] != word[at] {
+            return None;
+        }
+    }
+    Some(&bytes[word.len()..])
+}
+
 /// The work that is named first, with a space behind it, and the bytes after that.
 pub fn take_work(bytes: &[u8]) -> Option<(Work, &[u8])>
     ensures { MatchOption result (LacksWork bytes.now)
         (λ x. bytes.now ≡ work_text (work x.0) ++ space ∷ x.1.now) }
 {
-    if let Some(rest) = bytes.strip_prefix(b"cast ") {
+    if let Some(rest) = after_word(bytes, b"cast ") {
         return Some((Work::Casting, rest));
     }
-    if let Some(rest) = bytes.strip_prefix(b"withdraw ") {
+    if let Some(rest) = after_word(bytes, b"withdraw ") {
         return Some((Work::Withdrawing, rest));
     }
-    if let Some(rest) = bytes.strip_prefix(b"find ") {
+    if let Some(rest) = after_word(bytes, b"find ") {
         return Some((Work::Finding, rest));
     }
     None
@@ -43,7 +61,7 @@ pub fn take_tab(bytes: &[u8]) -> Option<(u8, &[u8])>
         (λ x. IsTab x.0 × (bytes.now ≡ decimal x.0 ++ space ∷ x.1.now)) }
 {
     let (tab, rest) = take_number(bytes, MAX_TABS)?;
-    let rest = rest.strip_prefix(b" ")?;
+    let rest = after_word(rest, b" ")?;
     Some((tab as u8, rest))
 }
 

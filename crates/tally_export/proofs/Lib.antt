@@ -1,4 +1,5 @@
 pub mod Adding
+pub mod AnyOrder
 pub mod Counting
 pub mod Placing
 pub mod Texts

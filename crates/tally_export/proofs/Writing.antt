@@ -5,9 +5,6 @@ use Rattle.std.proofs.lemmas.List.{take-append-le, take_all, drop_all, get_or-ma
 use Rattle.std.proofs.Math.Seq.{take-append-add}
 use Rattle.std.specs.Option.{option_map}
 use Rattle.std.specs.Prelude.{All, OnErr, map}
-use Rattle.ballot_record.specs.Record.{ballot}
-use Rattle.ballot_record.specs.declared.record.Record.{Record}
-use Rattle.body_store.specs.Contents.{ballots_of}
 use Rattle.outside_io.specs.Stream.{TakesAll, TakesSome}
 use Rattle.store_spec.specs.Ballot.{Ballot, IsValid}
 use Rattle.store_spec.specs.BallotLine.{record_line}
@@ -45,16 +42,15 @@ takes_some a b c x y z one two =
 
 -- ---- an export
 
--- the lines of the records that are left
-abbrev pub lines_left : Election → List Record → List ℕ
-lines_left e records = lines_text (map (record_line e) (ballots_of records))
+-- the lines of the ballots that are left
+abbrev pub lines_left : Election → List Ballot → List ℕ
+lines_left e ballots = lines_text (map (record_line e) ballots)
 
-next_line : (e : Election) (records : List Record) (i : ℕ) (d : Record) → i < length records
-    → lines_left e (drop i records) ≡ (record_line e (ballot (get_or records i d)) ++ 10 ∷ []) ++ lines_left e
-    (drop (i + 1) records)
-next_line e records i d within =
-    let next : drop i records ≡ get_or records i d ∷ drop (i + 1) records = rw (add-one, drop-cons records i d) refl in
-    ap (lines_left e) next
+next_line : (e : Election) (ballots : List Ballot) (i : ℕ) (b : Ballot) → i < length ballots → get_or ballots i b ≡ b
+    → lines_left e (drop i ballots) ≡ (record_line e b ++ 10 ∷ []) ++ lines_left e (drop (i + 1) ballots)
+next_line e ballots i b within is =
+    let next : drop i ballots ≡ get_or ballots i b ∷ drop (i + 1) ballots = rw (add-one, drop-cons ballots i b) refl in
+    ap (lines_left e) next ∙ ap (λ b. lines_left e (b ∷ drop (i + 1) ballots)) is
 
 -- a sink took the front of a whole text, behind which stand what is gathered and what is left
 pub record IsWritten (before now : Option (List ℕ)) (gathered left whole : List ℕ) : Type 0 where
@@ -81,16 +77,15 @@ line_gathered before now gathered more line left whole written is = record {
       ∙ ap (λ text. written.front ++ text) (append_assoc gathered line left) ∙ written.rest;
 }
 
--- the line of the next record was gathered
-pub record_gathered : (e : Election) (records : List Record) (i : ℕ) (d : Record) (before now : Option (List ℕ))
-    (gathered more whole : List ℕ) → i < length records
-    → IsWritten before now gathered (lines_left e (drop i records)) whole
-    → more ≡ gathered ++ (record_line e (ballot (get_or records i d)) ++ 10 ∷ [])
-    → IsWritten before now more (lines_left e (drop (i + 1) records)) whole
-record_gathered e records i d before now gathered more whole within written is =
-    line_gathered before now gathered more (record_line e (ballot (get_or records i d)) ++ 10 ∷ [])
-    (lines_left e (drop (i + 1) records)) whole
-    (subst (λ left. IsWritten before now gathered left whole) (next_line e records i d within) written) is
+-- the line of the next ballot was gathered
+pub ballot_gathered : (e : Election) (ballots : List Ballot) (i : ℕ) (b : Ballot) (before now : Option (List ℕ))
+    (gathered more whole : List ℕ) → i < length ballots → get_or ballots i b ≡ b
+    → IsWritten before now gathered (lines_left e (drop i ballots)) whole
+    → more ≡ gathered ++ (record_line e b ++ 10 ∷ [])
+    → IsWritten before now more (lines_left e (drop (i + 1) ballots)) whole
+ballot_gathered e ballots i b before now gathered more whole within at written is =
+    line_gathered before now gathered more (record_line e b ++ 10 ∷ []) (lines_left e (drop (i + 1) ballots)) whole
+    (subst (λ left. IsWritten before now gathered left whole) (next_line e ballots i b within at) written) is
 
 -- what was gathered was written
 pub gathered_written : (before now after : Option (List ℕ)) (gathered none left whole : List ℕ)
@@ -127,21 +122,26 @@ front_written before now gathered left whole written =
     subst (λ text. TakesSome before text now) written.rest
     (takes_front before now written.front (gathered ++ left) written.taken)
 
--- past the last record no line is left
-pub no_line_left : (e : Election) (records : List Record) (i : ℕ) → length records ≤ i
-    → lines_left e (drop i records) ≡ []
-no_line_left e records i end = ap (lines_left e) (drop_all i records end)
+-- past the last ballot no line is left
+pub no_line_left : (e : Election) (ballots : List Ballot) (i : ℕ) → length ballots ≤ i
+    → lines_left e (drop i ballots) ≡ []
+no_line_left e ballots i end = ap (lines_left e) (drop_all i ballots end)
 
--- each record of a store is valid
-pub valid_at : (e other : Election) (ballots : List Ballot) (records : List Record) (i : ℕ) (d : Record) → other ≡ e
-    → ballots_of records ≡ ballots → All (IsValid other) ballots → i < length records
-    → IsValid e (ballot (get_or records i d))
-valid_at e other ballots records i d same are valid within =
-    let each : All (IsValid e) (ballots_of records) =
-    subst (λ e. All (IsValid e) (ballots_of records)) same
-    (subst (λ ballots. All (IsValid other) ballots) (sym are) valid) in
-    subst (IsValid e) (get_or-map ballot records i d (ballot d) within)
-    (each i (ballot d) (omega (arith, length-map records ballot)))
+-- what is listed for a ballot
+pub listed_at : {X : Type 0} (f : X → Ballot) (listed : List X) (ballots : List Ballot) (i : ℕ) (d : X)
+    → map f listed ≡ ballots → i < length listed
+    → (i < length ballots) × (get_or ballots i (f (get_or listed i d)) ≡ f (get_or listed i d))
+listed_at f listed ballots i d are within =
+    let as_many : length ballots ≡ length listed = ap length (sym are) ∙ length-map listed f in (
+      omega arith,
+      ap (λ bs. get_or bs i (f (get_or listed i d))) (sym are) ∙ get_or-map f listed i d (f (get_or listed i d)) within,
+    )
+
+-- each ballot of a store is valid
+pub valid_at : (e other : Election) (ballots : List Ballot) (i : ℕ) (b : Ballot) → other ≡ e
+    → All (IsValid other) ballots → (i < length ballots) × (get_or ballots i b ≡ b) → IsValid e b
+valid_at e other ballots i b same valid at =
+    subst (λ (e : Election). IsValid e b) same (subst (IsValid other) at.1 (valid i b at.0))
 
 -- what holds holds on a failure
 pub on_failure : {E : Type 0} (answer : Result (Unit {0}) E) (P : Type 0) → P → OnErr answer P

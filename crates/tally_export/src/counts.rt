@@ -26,15 +26,18 @@ pub struct Counts {
     pub over: u64,
 }
 
-/// Counts each choice of a mark set.
+/// Counts each choice of a mark set, in one step a mark.
 fn add_choices(counts: &mut [u64], set: u32)
-    requires few { length counts.old ≤ 32 }
+    requires each { length counts.old ≡ CHOICES }
     requires room { (c : ℕ) → c < length counts.old → slice_index counts.old c < 2 ^ 63 }
     ensures { (c : ℕ) → c < length counts.old
         → slice_index counts.new c ≡ slice_index counts.old c + bit_at set c }
 {
-    for (choice, count) in counts.iter_mut().enumerate() {
-        *count += u64::from(set >> choice & 1);
+    let mut rest = set;
+    while rest != 0 {
+        let choice = rest.trailing_zeros();
+        counts[choice as usize] += 1;
+        rest &= !(1 << choice);
     }
 }
 

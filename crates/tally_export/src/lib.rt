@@ -4,6 +4,7 @@
 mod contests;
 mod counts;
 mod fault;
+pub mod laws;
 mod lines;
 mod text;
 mod threads;

@@ -51,9 +51,9 @@ pub fn export<K: Sink>(
     ensures fault { CountsFaultIf (result ≡ Err PutFault.WriteFault)
         (K.faults out.old) (K.faults out.new) }
 {
-    let records = closed.records();
-    let mut text = first_line(alloc, records.len())?;
-    'records: for record in records {
+    let listed = closed.in_order(alloc)?;
+    let mut text = first_line(alloc, listed.len())?;
+    'records: for record in &listed {
         put_ballot(record, election, &mut text)?;
         if text.len() > FULL {
             out.write_all(&text)?;

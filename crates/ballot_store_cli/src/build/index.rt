@@ -27,7 +27,8 @@ fn slot_of(number: u64) -> usize
     ensures slot { result ≡ slot_of number }
     ensures at_most { result < SLOTS }
 {
-    (number.wrapping_mul(MULTIPLIER) >> 47) as usize
+    let mixed = number ^ (number >> 32);
+    (mixed.wrapping_mul(MULTIPLIER) >> 47) as usize
 }
 
 /// Whether the number of the record at a place has this slot.

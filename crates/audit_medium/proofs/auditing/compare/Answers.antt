@@ -1,26 +1,37 @@
+use Rattle.std.proofs.Common.{◌≡◌, ℕ, List, Option, subst}
+use Rattle.std.specs.Prelude.{IfSome}
 use Rattle.bank_medium.specs.Banks.{bank_named}
 use Rattle.audit_medium.proofs.Comparing.{bank_told, canonical_told, gate_told}
 use Rattle.recovery.proofs.Differences.{none_of}
-use Rattle.recovery.proofs.Paging.{stored_election}
+use Rattle.recovery.specs.Differing.{IsFirstDifference}
+use Rattle.store_spec.specs.Ballot.{Ballot}
+use Rattle.store_spec.specs.Election.{Election}
+use Rattle.store_spec.specs.Image.{image_of}
+use Rattle.store_spec.specs.Medium.{Bank, bank_of}
 use Rattle.audit_medium.proofs.auditing.compare.Goals as goal
+
+-- the bytes of the bank that was read are the image of the set
+agrees : (e : Election) (set : List Ballot) (other : Bank) (made : List ℕ) (first : Option ℕ) (seen : Option (List ℕ)) → made ≡ image_of e set
+    → IfSome seen (λ bytes. IsFirstDifference (bank_of e other bytes) made first) → IfSome seen (λ bytes. IsFirstDifference (bank_of e other bytes) (image_of e set) first)
+agrees e set other made first seen is differs = subst (λ (xs : List ℕ). IfSome seen (λ bytes. IsFirstDifference (bank_of e other bytes) xs first)) is differs
 
 pub returns-in-Some-clause-audited : goal.returns-in-Some-clause-audited
 returns-in-Some-clause-audited g c =
     let e = c.args.election.now in
     let store = c.args.closed.now in
-    bank_told e store.ballots (stored_election e store c.requires.own c.first_difference.ensures.stored) (bank_named c.args.bank) (bank_named c.other_of-other.result) c.other_of-other.ensures c.in_ok-first.first
-    (g.D.Disk.seen c.args.disk.now) c.in-Some.at c.bank_place.result c.in-Some.is c.bank_place.ensures.place c.requires.read c.in_ok-first.ensures.difference
+    bank_told e store.ballots c.requires.election (bank_named c.args.bank) (bank_named c.other_of-other.result) c.other_of-other.ensures c.in_ok-first.first
+    (g.D.Disk.seen c.args.disk.now) c.in-Some.at c.bank_place.result c.in-Some.is c.bank_place.ensures.place c.requires.read (agrees e store.ballots (bank_named c.other_of-other.result) c.args.made.now c.in_ok-first.first (g.D.Disk.seen c.args.disk.now) c.requires.image c.in_ok-first.ensures.difference)
 
 pub returns-then-open_too-clause-audited : goal.returns-then-open_too-clause-audited
 returns-then-open_too-clause-audited g c =
     let e = c.args.election.now in
     let store = c.args.closed.now in
-    canonical_told e store.ballots (stored_election e store c.requires.own c.first_difference.ensures.stored) (bank_named c.args.bank) (bank_named c.other_of-other.result) c.other_of-other.ensures c.in_ok-first.first
-    (g.D.Disk.seen c.args.disk.now) c.args.open_too c.len-held.result (none_of c.in_ok-first.first c.in_default.not-Some) c.if-open_too.true c.len-held.ensures.count c.requires.read c.requires.gate c.in_ok-first.ensures.difference
+    canonical_told e store.ballots c.requires.election (bank_named c.args.bank) (bank_named c.other_of-other.result) c.other_of-other.ensures c.in_ok-first.first
+    (g.D.Disk.seen c.args.disk.now) c.args.open_too c.len-held.result (none_of c.in_ok-first.first c.in_default.not-Some) c.if-open_too.true c.len-held.ensures.count c.requires.read c.requires.gate (agrees e store.ballots (bank_named c.other_of-other.result) c.args.made.now c.in_ok-first.first (g.D.Disk.seen c.args.disk.now) c.requires.image c.in_ok-first.ensures.difference)
 
 pub returns-clause-audited : goal.returns-clause-audited
 returns-clause-audited g c =
     let e = c.args.election.now in
     let store = c.args.closed.now in
-    gate_told e store.ballots (stored_election e store c.requires.own c.first_difference.ensures.stored) (bank_named c.args.bank) (bank_named c.other_of-other.result) c.other_of-other.ensures c.in_ok-first.first
-    (g.D.Disk.seen c.args.disk.now) c.args.open_too c.gate_place-place.result (none_of c.in_ok-first.first c.in_default.not-Some) c.if-open_too.false c.gate_place-place.ensures c.requires.read c.requires.gate c.in_ok-first.ensures.difference
+    gate_told e store.ballots c.requires.election (bank_named c.args.bank) (bank_named c.other_of-other.result) c.other_of-other.ensures c.in_ok-first.first
+    (g.D.Disk.seen c.args.disk.now) c.args.open_too c.gate_place-place.result (none_of c.in_ok-first.first c.in_default.not-Some) c.if-open_too.false c.gate_place-place.ensures c.requires.read c.requires.gate (agrees e store.ballots (bank_named c.other_of-other.result) c.args.made.now c.in_ok-first.first (g.D.Disk.seen c.args.disk.now) c.requires.image c.in_ok-first.ensures.difference)

@@ -1,28 +1,83 @@
-use Rattle.std.proofs.Common.{◌≡◌, List, subst, sym, ap, ◌∙◌, rules}
-use Rattle.body_store.proofs.BallotSets.{stored_without}
+use Rattle.std.proofs.Common.{◌≡◌, ◌≤◌, ℕ, List, length, sym, ap, ◌∙◌, subst, subst₂}
+use Rattle.std.proofs.lemmas.Result.{IfOk-weaker}
+use Rattle.ballot_record.specs.declared.record.Record.{Record}
 use Rattle.body_store.proofs.Closed.without.Goals as goal
-use Rattle.body_store.specs.Contents.{Contents, IsStored, ballots_of, ballots_without}
-use Rattle.body_store.specs.Kept.{contents_of}
-use Rattle.store_spec.specs.Ballot.{Ballot}
-use Rattle.store_spec.specs.Election.{Election}
+use Rattle.body_store.proofs.Keeping.{IsRest, few_records, kept_records, once_in, rest_is}
+use Rattle.body_store.proofs.BallotSets.{MayHold}
+use Rattle.body_store.specs.Contents.{Contents, ballots_of, ballots_without}
+use Rattle.body_store.specs.Kept.{IsKept, contents_of}
+use Rattle.body_store.specs.Places.{HoldsOnce}
+use Rattle.body_store.specs.declared.Closed.TheInside.{Inside}
+use Rattle.store_spec.specs.Ballot.{Ballot, numbers_of}
+use Rattle.store_spec.specs.Election.{Election, IsElection}
 use Rattle.store_spec.specs.Image.{cells_of}
 
-pub invariant_of-result : goal.invariant_of-result
-invariant_of-result c =
+abbrev contents : Election → List Ballot → Contents
+contents e ballots = record { election = e; ballots = ballots }
+
+own_election : (e : Election) (a : Inside) (store : Contents) → contents_of a ≡ store → e ≡ store.election
+    → a.election.value ≡ e
+own_election e a store view own = ap (λ (store : Contents). store.election) view ∙ sym own
+
+leaving : (e : Election) (a : Inside) (store : Contents) (numbers : List ℕ) (first rest : List Record)
+    (cells : List ℕ) → contents_of a ≡ store → e ≡ store.election → IsKept a
+    → first ≡ a.records.items → ballots_of rest ≡ ballots_without (ballots_of first) numbers → cells ≡ cells_of e
+    (ballots_without store.ballots numbers)
+    → IsRest e a.records.items numbers rest cells
+leaving e a store numbers first rest cells view own kept same left laid =
+    rest_is e a.records.items numbers rest cells
+    (subst (λ (e : Election). MayHold e (ballots_of a.records.items)) (own_election e a store view own)
+    (kept_records a kept))
+    (left ∙ ap (λ rs. ballots_without (ballots_of rs) numbers) same)
+    (laid ∙ ap (λ (store : Contents). cells_of e (ballots_without store.ballots numbers)) (sym view))
+
+pub of_all-requires-clause-few : goal.of_all-requires-clause-few
+of_all-requires-clause-few c =
+    let e = c.args.election.now in
+    let is = leaving e c.self.inside c.args.self.now c.args.numbers.now c.deref.result.now
+    c.in_ok-records.records.items c.args.cells.items c.self.view_is c.requires.own c.self.invariant
+    c.deref.ensures.value c.in_ok-records.ensures c.requires.layout in
+    let election : IsElection e = subst (λ (e : Election). IsElection e)
+    (own_election e c.self.inside c.args.self.now c.self.view_is c.requires.own) c.self.invariant.stored.election in
+    subst (λ (rs : List Record). length rs ≤ 32768) (sym c.deref-2.ensures.value)
+    (few_records e c.in_ok-records.records.items election is.held)
+
+pub of_all-requires-clause-cells : goal.of_all-requires-clause-cells
+of_all-requires-clause-cells c =
+    let e = c.args.election.now in
+    let is = leaving e c.self.inside c.args.self.now c.args.numbers.now c.deref.result.now
+    c.in_ok-records.records.items c.args.cells.items c.self.view_is c.requires.own c.self.invariant
+    c.deref.ensures.value c.in_ok-records.ensures c.requires.layout in
+    let election : IsElection e = subst (λ (e : Election). IsElection e)
+    (own_election e c.self.inside c.args.self.now c.self.view_is c.requires.own) c.self.invariant.stored.election in
+    subst₂ (λ rs cells. HoldsOnce (numbers_of (ballots_of rs)) cells) (sym c.deref-2.ensures.value)
+    (sym c.deref-3.ensures.value)
+    (once_in e c.in_ok-records.records.items c.args.cells.items election is.held is.laid)
+
+pub kept-requires-clause-listing : goal.kept-requires-clause-listing
+kept-requires-clause-listing c =
+    (leaving c.args.election.now c.self.inside c.args.self.now c.args.numbers.now c.deref.result.now
+    c.in_ok-records.records.items c.args.cells.items c.self.view_is c.requires.own c.self.invariant
+    c.deref.ensures.value c.in_ok-records.ensures c.requires.layout).held.listing
+
+pub kept-requires-clause-within_limit : goal.kept-requires-clause-within_limit
+kept-requires-clause-within_limit c =
+    (leaving c.args.election.now c.self.inside c.args.self.now c.args.numbers.now c.deref.result.now
+    c.in_ok-records.records.items c.args.cells.items c.self.view_is c.requires.own c.self.invariant
+    c.deref.ensures.value c.in_ok-records.ensures c.requires.layout).held.within_limit
+
+pub kept-requires-clause-layout : goal.kept-requires-clause-layout
+kept-requires-clause-layout c =
+    (leaving c.args.election.now c.self.inside c.args.self.now c.args.numbers.now c.deref.result.now
+    c.in_ok-records.records.items c.args.cells.items c.self.view_is c.requires.own c.self.invariant
+    c.deref.ensures.value c.in_ok-records.ensures c.requires.layout).laid
+
+pub returns : goal.returns
+returns c =
     let e = c.args.election.now in
     let numbers = c.args.numbers.now in
-    let own : c.deref.result.now ≡ c.self.inside.records.items = search rules in
-    let left : ballots_of c.in_ok-records.records.items ≡ ballots_without (ballots_of c.self.inside.records.items) numbers =
-    c.in_ok-records.ensures ∙ ap (λ rs. ballots_without (ballots_of rs) numbers) own in
-    let here : ballots_of c.in_ok-records.records.items ≡ ballots_without c.args.self.now.ballots numbers =
-    left ∙ ap (λ (store : Contents). ballots_without store.ballots numbers) c.self.view_is in
-    let election : c.self.inside.election.value ≡ e = ap (λ (store : Contents). store.election) c.self.view_is ∙ sym c.requires.own in
-    let held : c.in_ok-own.own.value ≡ e = c.in_ok-own.ensures.ok in
-    record {
-      stored =
-          subst (λ (f : Election). IsStored (record { election = f; ballots = ballots_of c.in_ok-records.records.items })) (sym held)
-          (subst (λ (bs : List Ballot). IsStored (record { election = e; ballots = bs })) (sym left)
-          (subst (λ (f : Election). IsStored (record { election = f; ballots = ballots_without (ballots_of c.self.inside.records.items) numbers })) election
-          (stored_without (contents_of c.self.inside) numbers c.self.invariant.stored)));
-      cells = c.requires.layout ∙ ap (cells_of e) (sym here) ∙ ap (λ (f : Election). cells_of f (ballots_of c.in_ok-records.records.items)) (sym held);
-    }
+    let is = leaving e c.self.inside c.args.self.now numbers c.deref.result.now c.in_ok-records.records.items
+    c.args.cells.items c.self.view_is c.requires.own c.self.invariant c.deref.ensures.value c.in_ok-records.ensures
+    c.requires.layout in
+    let set = is.set ∙ ap (λ (store : Contents). ballots_without store.ballots numbers) c.self.view_is in
+    IfOk-weaker c.kept.result _ _ (λ store same. same ∙ ap (λ bs. contents e bs) set) c.kept.ensures.contents

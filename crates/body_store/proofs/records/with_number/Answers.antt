@@ -1,42 +1,65 @@
-use Rattle.std.proofs.Common.{◌≡◌, ◌<◌, ◌≤◌, ⊎_elim, Some, get_or, length, sym, ap, ◌∙◌, arith, rules}
-use Rattle.body_store.proofs.Lookups.{ballot_found, ballot_missing, cmp_equal, cmp_less, cmp_greater, cmp_rises}
-use Rattle.body_store.proofs.Numbers.{no_record, rise_from_ascending}
-use Rattle.ballot_record.proofs.BallotNumbers.{no_ballot}
-use Rattle.body_store.proofs.records.with_number.Goals as goal
-use Rattle.body_store.specs.Contents.{ballots_of}
+use Rattle.std.proofs.Common.{◌≡◌, ℕ, List, Option, None, Some, Bor, refl, sym, ap, ◌∙◌, subst}
+use Rattle.std.specs.List.{Contains}
+use Rattle.std.specs.Option.{option_map}
 use Rattle.ballot_record.specs.Record.{ballot}
-use Rattle.std.proofs.lemmas.Bool.{cases_lt}
-use Rattle.std.proofs.lemmas.List.{get_or-map, length-map}
-use Rattle.std.proofs.lemmas.List.Sorted.{answers_always}
-use Rattle.std.specs.List.Sorted.{IsNonDecreasingBy}
-use Rattle.std.specs.Ordering.{nat_cmp, ordering_index}
+use Rattle.ballot_record.specs.declared.record.Record.{Record}
+use Rattle.body_store.proofs.BallotSets.{held_layout, numbered}
+use Rattle.body_store.proofs.Lookups.{none_found, none_of_zero}
+use Rattle.body_store.specs.Contents.{ballots_of}
+use Rattle.layout_def.proofs.OrderedCells.{place_within}
+use Rattle.store_spec.specs.Ballot.{ballot_of}
+use Rattle.store_spec.specs.Home.{home_of}
+use Rattle.store_spec.specs.Image.{cells_of}
+use Rattle.store_spec.specs.Layout.{IsOrdered}
+use Rattle.body_store.proofs.records.with_number.Goals as goal
 
-pub returns-in-Ok : goal.returns-in-Ok
-returns-in-Ok c =
-    let equal = c.in-Ok.ensures.position (λ r. r.number) (answers_always _ _ _ (λ f a r g h. search rules)) in
-    let records = c.args.records.now in
-    let place = c.in-Ok.place in
-    let within : place < length records = c.in-Ok.ensures.bound in
-    let at : get_or (ballots_of records) place no_ballot ≡ ballot (get_or records place no_record) = get_or-map ballot records place no_record no_ballot within in
-    let number = cmp_equal _ _ (equal no_record) in
-    ap Some (sym at)
-    ∙ ballot_found (ballots_of records) c.args.number place c.requires (let size = length-map records ballot in omega arith) (ap (λ b. b.number) at ∙ number)
+pub returns-then-number-eq0 : goal.returns-then-number-eq0
+returns-then-number-eq0 c =
+    let ballots = ballots_of c.args.records.now in
+    none_of_zero ballots (numbered c.args.election.now ballots
+    (record { listing = c.requires.listing; within_limit = c.requires.within_limit }))
+    ∙ ap (ballot_of ballots) (sym c.if-number-eq0.true)
 
-pub returns-in-Err : goal.returns-in-Err
-returns-in-Err c =
-    let apart = c.in-Err.ensures.position (λ r. r.number) (answers_always _ _ _ (λ f a r g h. search rules)) in
-    let records = c.args.records.now in
-    let size = length-map records ballot in
-    let up = rise_from_ascending records c.requires in
-    let rises : IsNonDecreasingBy (λ r. ordering_index (nat_cmp r.number c.args.number)) records = λ i j d le within.
-    cmp_rises _ _ c.args.number (up i j d le within) in
-    let parts = apart rises in
-    ballot_missing (ballots_of records) c.args.number
-    (λ k lt.
-    let within : k < length records = omega arith in
-    let at = get_or-map ballot records k no_record no_ballot within in
-    λ e.
-    let here = sym (ap (λ b. b.number) at) ∙ e in
-    ⊎_elim (λ (before : k < c.in-Err.field-0). cmp_less _ _ (parts.0 k no_record (omega arith) before) here)
-    (λ (after : c.in-Err.field-0 ≤ k). cmp_greater _ _ (parts.1 k no_record after within) here)
-    (cases_lt k c.in-Err.field-0))
+pub place_of-requires-clause-ordered : goal.place_of-requires-clause-ordered
+place_of-requires-clause-ordered c =
+    let e = c.args.election.now in
+    let laid = held_layout e (ballots_of c.args.records.now) c.order_of.ensures.election
+    (record { listing = c.requires.listing; within_limit = c.requires.within_limit }) in
+    subst (λ (cells : List ℕ). IsOrdered (home_of c.order_of.result.bits c.order_of.result.salt) cells)
+    (sym c.requires.layout)
+    (subst (λ (b : ℕ). IsOrdered (home_of b c.order_of.result.salt) (cells_of e (ballots_of c.args.records.now)))
+    (sym c.order_of.ensures.bits)
+    (subst (λ (s : ℕ). IsOrdered (home_of e.bits s) (cells_of e (ballots_of c.args.records.now)))
+    (sym c.order_of.ensures.salt) laid.ordered))
+
+pub returns-in_err-cell : goal.returns-in_err-cell
+returns-in_err-cell c =
+    let e = c.args.election.now in
+    let ballots = ballots_of c.args.records.now in
+    let laid = held_layout e ballots c.order_of.ensures.election
+    (record { listing = c.requires.listing; within_limit = c.requires.within_limit }) in
+    ap (option_map ballot) c.from_residual.ensures
+    ∙ none_found ballots c.args.number
+    (λ among. c.in_err-cell.ensures
+    (subst (λ (cells : List ℕ). Contains cells c.args.number) (sym c.requires.layout)
+    (laid.exactly.each c.args.number among)))
+
+pub in_cell-requires : goal.in_cell-requires
+in_cell-requires c = record {
+  within = place_within c.args.cells.now c.in_ok-cell.cell (λ z. c.if-number-eq0.false (sym c.in_ok-cell.ensures ∙ z));
+  places = c.requires.places;
+  listing = numbered c.args.election.now (ballots_of c.args.records.now)
+      (record { listing = c.requires.listing; within_limit = c.requires.within_limit });
+}
+
+copied_ballot : (found : Option (Bor Record))
+    → option_map ballot (option_map (λ x. x.now) found) ≡ option_map (λ held. ballot held.now) found
+copied_ballot None = refl
+copied_ballot (Some x) = refl
+
+pub returns : goal.returns
+returns c =
+    ap (option_map ballot) c.copied.ensures
+    ∙ copied_ballot c.in_cell.result
+    ∙ c.in_cell.ensures
+    ∙ ap (ballot_of (ballots_of c.args.records.now)) c.in_ok-cell.ensures

@@ -1,25 +1,22 @@
 use Rattle.std.proofs.Common.{◌≡◌, ◌∙◌, arith}
-use Rattle.checkpoint.proofs.Pages.{on_ok, pages_begin, stored_fits}
+use Rattle.checkpoint.proofs.Pages.{on_ok, pages_begin}
 use Rattle.checkpoint.proofs.Starting.{banks_told}
 use Rattle.checkpoint.proofs.fresh.write_banks.Goals as goal
 use Rattle.crash_disk.proofs.Moments.{goes_on_same, joined}
 use Rattle.store_spec.specs.Election.{bank_size}
-use Rattle.store_spec.specs.Image.{image_of}
 use Rattle.store_spec.specs.Medium.{IsUnused}
 
 pub write_each_page-requires-2-clause-begins : goal.write_each_page-requires-2-clause-begins
 write_each_page-requires-2-clause-begins g c y is =
     let e = c.args.election.now in
-    let fits = stored_fits e c.args.closed.now c.requires.own c.write_each_page.ensures.stored in
-    let here = pages_begin (g.D.Disk.seen c.write_each_page.new.disk) (g.D.Disk.seen c.args.disk.now) (image_of e c.args.closed.now.ballots) 0 (bank_size e) fits.long (λ x _. omega arith) c.in_ok-write_each_page.ensures.written y is in
+    let here = pages_begin (g.D.Disk.seen c.write_each_page.new.disk) (g.D.Disk.seen c.args.disk.now) c.args.made.now 0 (bank_size e) c.requires.whole (λ x _. omega arith) c.in_ok-write_each_page.ensures.written y is in
     omega (arith, here)
 
 pub returns-clause-written : goal.returns-clause-written
 returns-clause-written g c =
     let e = c.args.election.now in
-    let fits = stored_fits e c.args.closed.now c.requires.own c.write_each_page.ensures.stored in
     on_ok (g.D.Disk.seen c.settle.new.disk ≡ g.D.Disk.seen c.write_each_page-2.new.disk) c.settle.result c.settle.ensures.same_bytes
-    (λ same. same ∙ banks_told (g.D.Disk.seen c.write_each_page-2.new.disk) (g.D.Disk.seen c.write_each_page.new.disk) (g.D.Disk.seen c.args.disk.now) (image_of e c.args.closed.now.ballots) (bank_size e) fits.long c.in_ok-write_each_page.ensures.written c.in_ok-write_each_page-2.ensures.written)
+    (λ same. same ∙ banks_told (g.D.Disk.seen c.write_each_page-2.new.disk) (g.D.Disk.seen c.write_each_page.new.disk) (g.D.Disk.seen c.args.disk.now) c.args.made.now (bank_size e) c.requires.whole c.in_ok-write_each_page.ensures.written c.in_ok-write_each_page-2.ensures.written)
 
 pub returns-clause-any_moment : goal.returns-clause-any_moment
 returns-clause-any_moment g c =

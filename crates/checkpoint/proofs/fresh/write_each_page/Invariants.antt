@@ -2,14 +2,13 @@ use Rattle.std.proofs.Common.{◌≡◌, ◌-◌, ◌≤◌, take}
 use Rattle.std.specs.Prelude.{option_map}
 use Rattle.bank_medium.specs.Banks.{place_of}
 use Rattle.store_spec.specs.Disk.{overwritten, LeavesOnly}
-use Rattle.store_spec.specs.Image.{image_of}
 use Rattle.store_spec.specs.Medium.{IsUnused}
 use Rattle.checkpoint.proofs.fresh.write_each_page.Given as goal
 
 abbrev pub invariant-loop-at : goal.invariant-loop-at
 invariant-loop-at g l = record {
   few : l.at ≤ l.end;
-  written : g.D.Disk.seen l.disk ≡ option_map (overwritten (place_of l.election l.bank) (take l.at (image_of l.election l.closed.ballots))) (g.D.Disk.seen l.fn.disk);
+  written : g.D.Disk.seen l.disk ≡ option_map (overwritten (place_of l.election l.bank) (take l.at l.made)) (g.D.Disk.seen l.fn.disk);
   unused : LeavesOnly g.D.Disk.calls g.D.Disk.may_leave l.fn.disk l.disk (IsUnused l.election);
   no_fault : g.D.Disk.faults l.disk ≡ g.D.Disk.faults l.fn.disk;
 }

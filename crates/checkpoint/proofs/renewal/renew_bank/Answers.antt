@@ -8,19 +8,18 @@ use Rattle.checkpoint.proofs.renewal.renew_bank.Goals as goal
 use Rattle.checkpoint.specs.Renewal.{IsRenewed}
 use Rattle.outside_io.specs.Told.{IfTold}
 use Rattle.store_spec.specs.Disk.{overwritten}
-use Rattle.store_spec.specs.Image.{image_of}
 use Rattle.store_spec.specs.Medium.{closed_gate}
 
 pub returns-in_err-close_gate-clause-any_moment : goal.returns-in_err-close_gate-clause-any_moment
 returns-in_err-close_gate-clause-any_moment g c old sees =
     let e = c.args.election.now in
-    run_closing g.D.Disk.calls g.D.Disk.may_leave e (bank_named c.args.bank) (image_of e c.args.closed.now.ballots) old (c.requires.size old sees) c.args.disk.now c.close_gate.new.disk (c.requires.opened old sees) (c.close_gate.ensures.any_moment old sees)
+    run_closing g.D.Disk.calls g.D.Disk.may_leave e (bank_named c.args.bank) c.args.made.now old (c.requires.size old sees) c.args.disk.now c.close_gate.new.disk (c.requires.opened old sees) (c.close_gate.ensures.any_moment old sees)
 
 pub returns-clause-any_moment : goal.returns-clause-any_moment
 returns-clause-any_moment g c old sees =
     let e = c.args.election.now in
     let bank = bank_named c.args.bank in
-    let image = image_of e c.args.closed.now.ballots in
+    let image = c.args.made.now in
     let long = c.requires.size old sees in
     let closing = run_closing g.D.Disk.calls g.D.Disk.may_leave e bank image old long c.args.disk.now c.close_gate.new.disk (c.requires.opened old sees) (c.close_gate.ensures.any_moment old sees) in
     let sees_shut = c.in_ok-close_gate.ensures.written ∙ ap (option_map (overwritten (gate_of e c.args.bank) (closed_gate ∷ []))) sees in
@@ -30,7 +29,7 @@ pub returns-clause-renewed : goal.returns-clause-renewed
 returns-clause-renewed g c =
     let e = c.args.election.now in
     let bank = bank_named c.args.bank in
-    let image = image_of e c.args.closed.now.ballots in
+    let image = c.args.made.now in
     on_ok (IfTold (g.D.Disk.seen c.close_gate.new.disk) (g.D.Disk.seen c.fill_bank.new.disk) (IsRenewed e bank image)) c.fill_bank.result c.fill_bank.ensures.renewed
     (λ filled. record {
       told = filled.told ∙ c.close_gate.ensures.told;

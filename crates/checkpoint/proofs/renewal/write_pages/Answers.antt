@@ -1,20 +1,17 @@
-use Rattle.std.proofs.Common.{◌≡◌, ◌+◌, ◌≤◌, length, take, sym, ◌∙◌, ap, arith}
-use Rattle.std.proofs.lemmas.List.{length-take}
-use Rattle.std.specs.Prelude.{option_map, slice_range}
+use Rattle.std.proofs.Common.{◌+◌, ◌≤◌, length, take, ◌∙◌, arith}
 use Rattle.bank_medium.specs.Banks.{bank_named, place_of}
-use Rattle.checkpoint.proofs.Pages.{page_next, stored_fits, unread_told, whole_pages, written_told}
+use Rattle.checkpoint.proofs.Pages.{page_next, unread_told, whole_pages, written_told}
 use Rattle.checkpoint.proofs.Renewing.{bank_within}
 use Rattle.checkpoint.proofs.renewal.write_pages.Goals as goal
 use Rattle.crash_disk.proofs.Moments.{joined}
 use Rattle.store_spec.specs.Disk.{overwritten, IsTorn}
 use Rattle.store_spec.specs.Election.{bank_size}
-use Rattle.store_spec.specs.Image.{image_of}
 
 pub renew_page-requires-clause-unread : goal.renew_page-requires-clause-unread
 renew_page-requires-clause-unread g c =
     let e = c.args.election.now in
     unread_told g.D.Disk.calls g.D.Disk.may_leave g.D.Disk.seen e c.args.bank c.args.disk.now c.loop-at.disk (g.met.D.Disk.crash_images_told c.loop-at.disk)
-    (written_told (g.D.Disk.seen c.loop-at.disk) (g.D.Disk.seen c.args.disk.now) (overwritten (place_of e c.args.bank) (take c.loop-at.at (image_of e c.args.closed.now.ballots))) c.loop-at.invariant.written)
+    (written_told (g.D.Disk.seen c.loop-at.disk) (g.D.Disk.seen c.args.disk.now) (overwritten (place_of e c.args.bank) (take c.loop-at.at c.args.made.now)) c.loop-at.invariant.written)
     c.requires.closed c.loop-at.invariant.torn
 
 pub returns-in_err-renew_page-clause-any_moment : goal.returns-in_err-renew_page-clause-any_moment
@@ -28,15 +25,11 @@ loop-at-preserved g c =
     let p = place_of e c.args.bank in
     let at = c.loop-at.at in
     let count = c.min-count.result in
-    let image = image_of e c.args.closed.now.ballots in
-    let fits = stored_fits e c.args.closed.now c.requires.own c.election.ensures.stored in
-    let end : c.bank_bytes-end.result ≡ bank_size e = c.bank_bytes-end.ensures.size ∙ ap bank_size (c.election.ensures.election ∙ sym c.requires.own) in
-    let within : at + count ≤ length image = omega (arith, end, fits.long, c.min-count.ensures, c.loop-at-test.true) in
-    let long : length (take count c.loop-at.made) ≡ count = omega (arith, length-take count c.loop-at.made, c.loop-at.auto.made, c.requires.made_page, c.min-count.ensures) in
-    let here = c.in_ok-renew_page.ensures.written ∙ ap (λ j. option_map (overwritten (p + at) (slice_range image at (at + j))) (g.D.Disk.seen c.loop-at.disk)) long in
+    let image = c.args.made.now in
+    let within : at + count ≤ length image = omega (arith, c.min-count.ensures, c.loop-at-test.true) in
     record {
       few = omega (arith, c.min-count.ensures, c.loop-at-test.true);
-      written = page_next (g.D.Disk.seen c.renew_page.new.disk) (g.D.Disk.seen c.loop-at.disk) (g.D.Disk.seen c.args.disk.now) image p at count within (λ x is. omega (arith, c.requires.size x is, bank_within e (bank_named c.args.bank))) c.loop-at.invariant.written here;
+      written = page_next (g.D.Disk.seen c.renew_page.new.disk) (g.D.Disk.seen c.loop-at.disk) (g.D.Disk.seen c.args.disk.now) image p at count within (λ x is. omega (arith, c.requires.size x is, bank_within e (bank_named c.args.bank))) c.loop-at.invariant.written c.in_ok-renew_page.ensures.written;
       torn = λ old sees.
           let so_far = c.loop-at.invariant.torn old sees in
           joined g.D.Disk.calls g.D.Disk.may_leave c.args.disk.now c.loop-at.disk c.renew_page.new.disk (IsTorn p (bank_size e) old) so_far (c.renew_page.ensures.any_moment old so_far.now);
@@ -47,7 +40,5 @@ loop-at-preserved g c =
 pub returns-clause-written : goal.returns-clause-written
 returns-clause-written g c =
     let e = c.args.election.now in
-    let fits = stored_fits e c.args.closed.now c.requires.own c.election.ensures.stored in
-    let end : c.bank_bytes-end.result ≡ bank_size e = c.bank_bytes-end.ensures.size ∙ ap bank_size (c.election.ensures.election ∙ sym c.requires.own) in
-    let all : bank_size e ≤ c.loop-at.at = omega (arith, end, c.loop-at-test.false) in
-    whole_pages (g.D.Disk.seen c.loop-at.disk) (g.D.Disk.seen c.args.disk.now) (image_of e c.args.closed.now.ballots) (place_of e c.args.bank) c.loop-at.at (bank_size e) fits.long all c.loop-at.invariant.written
+    let all : bank_size e ≤ c.loop-at.at = omega (arith, c.requires.whole, c.loop-at-test.false) in
+    whole_pages (g.D.Disk.seen c.loop-at.disk) (g.D.Disk.seen c.args.disk.now) c.args.made.now (place_of e c.args.bank) c.loop-at.at (bank_size e) c.requires.whole all c.loop-at.invariant.written

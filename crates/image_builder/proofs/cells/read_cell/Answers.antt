@@ -1,64 +1,17 @@
-use Rattle.std.proofs.Common.{◌≡◌, ℕ, ◌<◌, ◌≤◌, List, ◌∷◌, [], ◌++◌, length, refl, sym, ap, subst, ◌∙◌, arith}
-use Rattle.std.proofs.lemmas.Bool.{false≢true}
-use Rattle.std.proofs.lemmas.List.{length-map, map_push}
-use Rattle.ballot_record.specs.Record.{ballot}
+use Rattle.std.proofs.Common.{◌≡◌, ℕ, List, ◌∷◌, [], ◌++◌, length, replicate, ap, ◌∙◌, arith}
 use Rattle.body_store.specs.Contents.{ballots_of}
-use Rattle.image_builder.proofs.FirstCells.{Goes, ballot_next, empty_next, next_as, wrong_next}
-use Rattle.image_builder.proofs.Reaches.{reach_as}
-use Rattle.image_builder.proofs.Wrong.{bad_bytes, misplaced, stands_at, stands_behind, too_many}
+use Rattle.image_builder.proofs.FirstCells.{empty_next, next_as}
 use Rattle.image_builder.proofs.cells.read_cell.Goals as goal
-use Rattle.image_builder.specs.Cells.{IsRefusedAt, front_of}
-use Rattle.image_builder.specs.declared.read.ImageFault.TheVariants.{Damaged}
-use Rattle.store_spec.specs.Home.{home_in}
-use Rattle.store_spec.specs.Layout.{MayStand}
+use Rattle.image_builder.specs.Cells.{front_of}
+use Rattle.store_spec.specs.Election.{Election, cell_size}
+use Rattle.store_spec.specs.Image.{IsEmptyCell}
 
-pub returns-in-Bad-clause-refused : goal.returns-in-Bad-clause-refused
-returns-in-Bad-clause-refused c =
-    let e = c.args.election.now in
-    let numbers = c.args.cells.now.numbers.items in
-    let ballots = ballots_of c.args.cells.now.records.items in
-    let bytes = c.args.bytes.now in
-    let at : c.len-place.result ≡ length numbers = omega (arith, c.len-place.ensures) in
-    let bad = c.in-Bad.ensures.bad.0 refl in
-    subst (λ (place : ℕ). IsRefusedAt e (front_of e numbers ballots ++ bytes) (Damaged place)) (sym at)
-    (wrong_next e numbers c.args.cells.now.reaches.items ballots bytes c.requires.election c.requires.kept c.requires.size c.requires.room
-    (λ (bank : List ℕ) (goes : Goes e numbers ballots bytes bank).
-    bad_bytes e bank (length numbers) numbers ballots c.requires.election c.requires.room goes.read
-    (λ empty. bad.0 (sym goes.cell ∙ empty)) (λ b valid is. bad.1 b (valid, sym goes.cell ∙ is))))
+-- as many zeros as a cell has bytes
+blank_cell : (e : Election) (bytes : List ℕ) → length bytes ≡ cell_size e → bytes ≡ replicate (length bytes) 0 → IsEmptyCell e bytes
+blank_cell e bytes long zeros = zeros ∙ ap (λ n. replicate n 0) long
 
-pub returns-then-len-limit-clause-refused : goal.returns-then-len-limit-clause-refused
-returns-then-len-limit-clause-refused c =
-    let e = c.args.election.now in
-    let numbers = c.args.cells.now.numbers.items in
-    let records = c.args.cells.now.records.items in
-    let ballots = ballots_of records in
-    let bytes = c.args.bytes.now in
-    let at : c.len-place.result ≡ length numbers = omega (arith, c.len-place.ensures) in
-    let held = (c.in-Held.ensures.held c.in-Held.record).0 refl in
-    let full : e.limit ≤ length ballots = omega (arith, c.if-len-limit.true, c.limit.ensures.limit, c.len.ensures, length-map records ballot) in
-    subst (λ (place : ℕ). IsRefusedAt e (front_of e numbers ballots ++ bytes) (Damaged place)) (sym at)
-    (wrong_next e numbers c.args.cells.now.reaches.items ballots bytes c.requires.election c.requires.kept c.requires.size c.requires.room
-    (λ (bank : List ℕ) (goes : Goes e numbers ballots bytes bank).
-    too_many e bank (length numbers) numbers ballots (ballot c.in-Held.record) c.requires.election c.requires.room goes.read held.0 (goes.cell ∙ held.1) full))
-
-pub returns-in_default-clause-refused : goal.returns-in_default-clause-refused
-returns-in_default-clause-refused c =
-    let e = c.args.election.now in
-    let numbers = c.args.cells.now.numbers.items in
-    let ballots = ballots_of c.args.cells.now.records.items in
-    let bytes = c.args.bytes.now in
-    let at : c.len-place.result ≡ length numbers = omega (arith, c.len-place.ensures) in
-    let held = (c.in-Held.ensures.held c.in-Held.record).0 refl in
-    let b = ballot c.in-Held.record in
-    let may_not : ¬ MayStand (home_in e) numbers b.number (length numbers) =
-    λ may. false≢true (c.in_default.ensures.stands.1 (stands_behind (home_in e) c.deref.result.now numbers b.number (length numbers) c.deref.ensures.value refl may)) in
-    subst (λ (place : ℕ). IsRefusedAt e (front_of e numbers ballots ++ bytes) (Damaged place)) (sym at)
-    (wrong_next e numbers c.args.cells.now.reaches.items ballots bytes c.requires.election c.requires.kept c.requires.size c.requires.room
-    (λ (bank : List ℕ) (goes : Goes e numbers ballots bytes bank).
-    misplaced e bank (length numbers) numbers ballots b c.requires.election c.requires.room goes.read held.0 (goes.cell ∙ held.1) may_not))
-
-pub returns-in_ok-add-in-Empty-clause-kept : goal.returns-in_ok-add-in-Empty-clause-kept
-returns-in_ok-add-in-Empty-clause-kept c =
+pub returns-then-is_blank-clause-kept : goal.returns-then-is_blank-clause-kept
+returns-then-is_blank-clause-kept c =
     let e = c.args.election.now in
     let cells = c.args.cells.now in
     let numbers = cells.numbers.items in
@@ -66,14 +19,14 @@ returns-in_ok-add-in-Empty-clause-kept c =
     let ballots = ballots_of cells.records.items in
     let at : c.len-place.result ≡ length numbers = omega (arith, c.len-place.ensures) in
     let now = c.add.new.cells in
-    let is = c.in_ok-add-in-Empty.ensures in
+    let is = c.add.ensures in
     let next = next_as e (front_of e numbers ballots) c.args.bytes.now (numbers ++ 0 ∷ []) now.numbers.items (reaches ++ length numbers ∷ []) now.reaches.items ballots (ballots_of now.records.items)
-    (empty_next e numbers reaches ballots c.args.bytes.now c.requires.election c.requires.kept c.requires.size (c.in-Empty.ensures.empty.0 refl))
+    (empty_next e numbers reaches ballots c.args.bytes.now c.requires.election c.requires.kept c.requires.size (blank_cell e c.args.bytes.now c.requires.size (c.is_blank.ensures c.if-is_blank.true)))
     is.numbers (is.reaches ∙ ap (λ place. reaches ++ place ∷ []) at) (ap (λ v. ballots_of v.items) is.records) in
     next.cells
 
-pub returns-in_ok-add-in-Empty-clause-fed : goal.returns-in_ok-add-in-Empty-clause-fed
-returns-in_ok-add-in-Empty-clause-fed c =
+pub returns-then-is_blank-clause-fed : goal.returns-then-is_blank-clause-fed
+returns-then-is_blank-clause-fed c =
     let e = c.args.election.now in
     let cells = c.args.cells.now in
     let numbers = cells.numbers.items in
@@ -81,52 +34,8 @@ returns-in_ok-add-in-Empty-clause-fed c =
     let ballots = ballots_of cells.records.items in
     let at : c.len-place.result ≡ length numbers = omega (arith, c.len-place.ensures) in
     let now = c.add.new.cells in
-    let is = c.in_ok-add-in-Empty.ensures in
+    let is = c.add.ensures in
     let next = next_as e (front_of e numbers ballots) c.args.bytes.now (numbers ++ 0 ∷ []) now.numbers.items (reaches ++ length numbers ∷ []) now.reaches.items ballots (ballots_of now.records.items)
-    (empty_next e numbers reaches ballots c.args.bytes.now c.requires.election c.requires.kept c.requires.size (c.in-Empty.ensures.empty.0 refl))
+    (empty_next e numbers reaches ballots c.args.bytes.now c.requires.election c.requires.kept c.requires.size (blank_cell e c.args.bytes.now c.requires.size (c.is_blank.ensures c.if-is_blank.true)))
     is.numbers (is.reaches ∙ ap (λ place. reaches ++ place ∷ []) at) (ap (λ v. ballots_of v.items) is.records) in
-    next.fed
-
-pub returns-in_ok-add-in-Held-clause-kept : goal.returns-in_ok-add-in-Held-clause-kept
-returns-in_ok-add-in-Held-clause-kept c =
-    let e = c.args.election.now in
-    let cells = c.args.cells.now in
-    let numbers = cells.numbers.items in
-    let reaches = cells.reaches.items in
-    let ballots = ballots_of cells.records.items in
-    let bytes = c.args.bytes.now in
-    let record_read = c.in-Held.record in
-    let b = ballot record_read in
-    let from = c.in-Some.reach in
-    let held = (c.in-Held.ensures.held record_read).0 refl in
-    let room : length ballots < e.limit = omega (arith, c.if-len-limit.false, c.limit.ensures.limit, c.len.ensures, length-map cells.records.items ballot) in
-    let may = stands_at (home_in e) c.deref.result.now numbers b.number (length numbers) c.deref.ensures.value refl (c.in-Some.ensures.stands.0 refl) in
-    let reach = reach_as numbers c.deref.result.now b.number from c.in-Some.ensures.reach c.deref.ensures.value in
-    let now = c.add-in-Held.new.cells in
-    let is = c.in_ok-add-in-Held.ensures in
-    let next = next_as e (front_of e numbers ballots) bytes (numbers ++ b.number ∷ []) now.numbers.items (reaches ++ from ∷ []) now.reaches.items (ballots ++ b ∷ []) (ballots_of now.records.items)
-    (ballot_next e numbers reaches ballots b from bytes c.requires.election c.requires.kept c.requires.size held.0 held.1 may room reach)
-    is.numbers is.reaches (ap (λ v. ballots_of v.items) is.records ∙ ap ballots_of c.in_ok-push-in-Held.ensures.items ∙ map_push ballot cells.records.items record_read) in
-    next.cells
-
-pub returns-in_ok-add-in-Held-clause-fed : goal.returns-in_ok-add-in-Held-clause-fed
-returns-in_ok-add-in-Held-clause-fed c =
-    let e = c.args.election.now in
-    let cells = c.args.cells.now in
-    let numbers = cells.numbers.items in
-    let reaches = cells.reaches.items in
-    let ballots = ballots_of cells.records.items in
-    let bytes = c.args.bytes.now in
-    let record_read = c.in-Held.record in
-    let b = ballot record_read in
-    let from = c.in-Some.reach in
-    let held = (c.in-Held.ensures.held record_read).0 refl in
-    let room : length ballots < e.limit = omega (arith, c.if-len-limit.false, c.limit.ensures.limit, c.len.ensures, length-map cells.records.items ballot) in
-    let may = stands_at (home_in e) c.deref.result.now numbers b.number (length numbers) c.deref.ensures.value refl (c.in-Some.ensures.stands.0 refl) in
-    let reach = reach_as numbers c.deref.result.now b.number from c.in-Some.ensures.reach c.deref.ensures.value in
-    let now = c.add-in-Held.new.cells in
-    let is = c.in_ok-add-in-Held.ensures in
-    let next = next_as e (front_of e numbers ballots) bytes (numbers ++ b.number ∷ []) now.numbers.items (reaches ++ from ∷ []) now.reaches.items (ballots ++ b ∷ []) (ballots_of now.records.items)
-    (ballot_next e numbers reaches ballots b from bytes c.requires.election c.requires.kept c.requires.size held.0 held.1 may room reach)
-    is.numbers is.reaches (ap (λ v. ballots_of v.items) is.records ∙ ap ballots_of c.in_ok-push-in-Held.ensures.items ∙ map_push ballot cells.records.items record_read) in
     next.fed

@@ -5,11 +5,7 @@ use Rattle.image_builder.proofs.Images.{length-image_of, written_more}
 use Rattle.image_builder.proofs.write.image_part.Goals as goal
 use Rattle.body_store.proofs.BallotSets.{MayHold, may_hold_set}
 use Rattle.store_spec.specs.Election.{Election, IsElection}
-use Rattle.store_spec.specs.Image.{cells_of, image_of}
-
-pub put_piece-done-requires-clause-held : goal.put_piece-done-requires-clause-held
-put_piece-done-requires-clause-held c =
-    c.cells-cells.ensures.cells ∙ ap (λ (e : Election). cells_of e c.args.closed.now.ballots) (sym c.requires.own)
+use Rattle.store_spec.specs.Image.{image_of}
 
 pub loop-done-preserved : goal.loop-done-preserved
 loop-done-preserved c =
@@ -26,6 +22,6 @@ pub returns-clause-whole : goal.returns-clause-whole
 returns-clause-whole c =
     let e = c.args.election.now in
     let ballots = c.args.closed.now.ballots in
-    let stored = c.cells-cells.ensures.stored in
+    let stored = c.len.ensures.stored in
     let own = sym c.requires.own in
     length-image_of e ballots (subst (λ (e : Election). IsElection e) own stored.election) (subst (λ (e : Election). MayHold e ballots) own (may_hold_set c.args.closed.now.election ballots stored.set stored.within_limit))

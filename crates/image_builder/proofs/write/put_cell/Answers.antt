@@ -1,12 +1,18 @@
-use Rattle.std.proofs.Common.{◌≡◌, sym, ap, ◌∙◌}
-use Rattle.image_builder.proofs.Images.{cell_of_zero}
+use Rattle.std.proofs.Common.{◌≡◌, ℕ, Some, option_map, slice_index, sym, subst, ap, ◌∙◌}
+use Rattle.std.proofs.lemmas.List.Elements.{All-contains}
+use Rattle.ballot_record.specs.Record.{ballot}
+use Rattle.ballot_record.proofs.Lookups.{found_in}
 use Rattle.image_builder.proofs.write.put_cell.Goals as goal
-use Rattle.store_spec.specs.Image.{cell_bytes}
+use Rattle.store_spec.specs.Ballot.{IsValid, ballot_of}
+use Rattle.store_spec.specs.Election.{Election}
+use Rattle.store_spec.specs.Image.{cells_of}
 
-pub returns-else-number-ne0 : goal.returns-else-number-ne0
-returns-else-number-ne0 c =
+pub put_cell-requires-clause-valid : goal.put_cell-requires-clause-valid
+put_cell-requires-clause-valid c =
     let store = c.args.closed.now in
-    let zero_number : c.args.number ≡ 0 = c.if-number-ne0.false in
-    c.requires.blank
-    ∙ sym (cell_of_zero c.args.election.now store.election store.ballots c.requires.stored.set.valid)
-    ∙ ap (cell_bytes c.args.election.now store.ballots) (sym zero_number)
+    let held = ballot c.in-Some.record.now in
+    let number : ℕ = slice_index (cells_of store.election store.ballots) c.args.cell in
+    let found : ballot_of store.ballots number ≡ Some held = sym c.record_in.ensures ∙ ap (option_map (λ held. ballot held.now)) c.in-Some.is in
+    let there = found_in store.ballots number held found in
+    subst (λ (e : Election). IsValid e held) (sym c.requires.own)
+    (All-contains (IsValid store.election) store.ballots held c.requires.stored.set.valid there.0)

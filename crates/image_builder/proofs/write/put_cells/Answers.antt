@@ -3,12 +3,12 @@ use Rattle.std.proofs.Math.Nat.{le-div_iff_mul-le}
 use Rattle.std.proofs.lemmas.List.{length-take-le, take-append-drop, take_at}
 use Rattle.std.proofs.lemmas.List.Concat.{flat_map-append}
 use Rattle.image_builder.proofs.write.put_cells.Goals as goal
-use Rattle.store_spec.specs.Image.{cell_bytes}
+use Rattle.store_spec.specs.Image.{cell_bytes, cells_of}
 
 pub returns-clause-bytes : goal.returns-clause-bytes
 returns-clause-bytes c =
     let f = cell_bytes c.args.election.now c.args.closed.now.ballots in
-    let cells = c.args.cells.now in
+    let cells = drop c.args.first (cells_of c.args.election.now c.args.closed.now.ballots) in
     let out = c.args.out.now in
     let count = c.min-count.result in
     let n = count * c.cell_bytes-size.result in

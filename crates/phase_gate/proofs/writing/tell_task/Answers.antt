@@ -1,5 +1,5 @@
-use Rattle.std.proofs.Common.{OnErr, OnOk, subst, sym}
-use Rattle.outside_io.specs.Stream.{TakesAll, TakesSome}
+use Rattle.std.proofs.Common.{OnOk, subst, sym}
+use Rattle.outside_io.specs.Stream.{TakesAll}
 use Rattle.phase_gate.proofs.writing.tell_task.Goals as goal
 use Rattle.phase_gate.specs.Gate.{told_at}
 use Rattle.phase_gate.specs.declared.gate.Task.{Task}

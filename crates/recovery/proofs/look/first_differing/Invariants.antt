@@ -3,4 +3,4 @@ use Rattle.recovery.proofs.look.first_differing.Given as goal
 
 -- the bytes so far are the same
 abbrev pub invariant-loop-place : goal.invariant-loop-place
-invariant-loop-place l = take l.place l.found ≡ take l.place l.made
+invariant-loop-place l = take l.place l.found ≡ take l.place l.page

@@ -1,9 +1,13 @@
-use Rattle.std.proofs.Common.{◌≡◌, ◌+◌, ◌<◌, get_or, length, map, arith, sym, ap, ◌∙◌}
+use Rattle.std.proofs.Common.{◌≡◌, ◌+◌, ◌<◌, get_or, length, map, take, arith, sym, ap, refl, ◌∙◌}
 use Rattle.std.proofs.lemmas.List.{get_or-map, length-map}
+use Rattle.std.proofs.lemmas.Str.{IsUtf8-nil}
 use Rattle.std.specs.Prelude.{string_bytes}
-use Rattle.reply_lines.proofs.Texts.{next_reply, one_written}
+use Rattle.reply_lines.proofs.Texts.{next_reply, one_gathered}
 use Rattle.store_spec.specs.Session.{reply_line}
 use Rattle.reply_lines.proofs.lines.push_replies.Goals as goal
+
+pub replies-init : goal.replies-init
+replies-init g c = (omega arith, IsUtf8-nil, refl)
 
 pub replies-preserved : goal.replies-preserved
 replies-preserved g c =
@@ -14,5 +18,14 @@ replies-preserved g c =
     let within : at < length words = omega (arith, length-map replies word) in
     let here : at < length replies = omega arith in
     let reply = c.index-replies-at.result in
-    let is : get_or words at c.word.result.now ≡ c.word.result.now = get_or-map word replies at reply c.word.result.now here ∙ ap word (sym c.index-replies-at.is) ∙ sym c.word.ensures in
-    one_written (string_bytes c.replies.text) (reply_line c.args.list (at + 1) c.word.result.now) (string_bytes c.push_reply.new.text) _ _ _ c.replies.invariant (next_reply c.args.list words at c.word.result.now within is) c.in_ok-push_reply.ensures
+    let is : get_or words at c.word.result.now ≡ c.word.result.now =
+    get_or-map word replies at reply c.word.result.now here ∙ ap word (sym c.index-replies-at.is)
+    ∙ sym c.word.ensures.word in (
+      c.put_reply-filled.ensures.within,
+      c.put_reply-filled.ensures.utf8,
+      one_gathered (string_bytes c.replies.text) (take c.replies.filled c.replies.block)
+          (string_bytes c.make_room.new.text) (take c.in_ok-free.free c.replies.block)
+          (reply_line c.args.list (at + 1) c.word.result.now) (take c.put_reply-filled.result c.put_reply-filled.new.block) _ _ _
+          c.replies.invariant.2 c.in_ok-free.ensures.text c.put_reply-filled.ensures.text
+          (next_reply c.args.list words at c.word.result.now within is),
+    )

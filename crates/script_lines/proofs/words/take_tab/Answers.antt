@@ -1,6 +1,4 @@
-use Rattle.std.proofs.Common.{None, Some, [], ◌∷◌, sym, arith, lit<}
-use Rattle.std.proofs.lemmas.Slice.Eq.{strip_prefix_is}
-use Rattle.std.proofs.lemmas.Bool.Decides.{Decides-eqb}
+use Rattle.std.proofs.Common.{sym, arith, lit<}
 use Rattle.ballot_record.proofs.LineNumbers.{number_takes}
 use Rattle.script_lines.proofs.Decimals.{lacks_number, lacks_space, tab_read}
 use Rattle.script_lines.proofs.words.take_tab.Goals as goal
@@ -11,8 +9,7 @@ returns-in_err-tab c = rw c.from_residual.ensures (lacks_number c.args.bytes.now
 pub returns-in_err-rest : goal.returns-in_err-rest
 returns-in_err-rest c =
     rw c.from_residual-in_err-rest.ensures
-    (lacks_space c.args.bytes.now c.in_ok-tab.tab c.in_ok-tab.rest.now c.in_ok-tab.ensures
-    (strip_prefix_is Decides-eqb c.in_ok-tab.rest.now (32 ∷ []) None c.in_err-rest.ensures.cases))
+    (lacks_space c.args.bytes.now c.in_ok-tab.tab c.in_ok-tab.rest.now c.in_ok-tab.ensures c.in_err-rest.ensures)
 
 pub overflow_cast-result : goal.overflow_cast-result
 overflow_cast-result c =
@@ -21,5 +18,4 @@ overflow_cast-result c =
 
 pub returns : goal.returns
 returns c =
-    tab_read c.args.bytes.now c.in_ok-tab.tab c.in_ok-tab.rest.now c.in_ok-rest.rest.now c.in_ok-tab.ensures
-    (strip_prefix_is Decides-eqb c.in_ok-tab.rest.now (32 ∷ []) (Some c.in_ok-rest.rest) c.in_ok-rest.ensures.cases)
+    tab_read c.args.bytes.now c.in_ok-tab.tab c.in_ok-tab.rest.now c.in_ok-rest.rest.now c.in_ok-tab.ensures c.in_ok-rest.ensures

@@ -1,7 +1,7 @@
 use Rattle.std.proofs.Common.{◌≡◌, ℕ, List, Result, Ok, Err, IfOk, length, sym, ap, subst, ◌∙◌}
 use Rattle.std.specs.List.Sorted.{IsPermutation}
 use Rattle.body_store.specs.Contents.{Contents, IsStored, ballots_of}
-use Rattle.image_builder.proofs.Fed.{IsOwn, image_fed, own_parts}
+use Rattle.image_builder.proofs.Fed.{IsOwn, cells_fed, image_fed, own_parts}
 use Rattle.image_builder.proofs.Listings.{image_of-IsPermutation}
 use Rattle.image_builder.proofs.Reading.{listing_ordered}
 use Rattle.image_builder.proofs.reader.ImageReader.finish.Goals as goal
@@ -29,16 +29,25 @@ image_told : {E : Type 0} (e : Election) (header numbers reaches : List ℕ) (ba
 image_told e header numbers reaches ballots part fed (Ok store) own whole same order stored = image_held e header numbers reaches ballots part fed store own whole same order stored
 image_told e header numbers reaches ballots part fed (Err memory) own whole same order stored = tt
 
-pub from_records-requires-clause-listing : goal.from_records-requires-clause-listing
-from_records-requires-clause-listing c =
+pub from_cells-requires-clause-listing : goal.from_cells-requires-clause-listing
+from_cells-requires-clause-listing c =
     let e = c.args.election.now in
     let kept = c.self.inside in
     let cells = kept.cells in
     let ballots = ballots_of cells.records.items in
-    let own = own_parts e kept.election kept.header cells.numbers.items cells.reaches.items ballots kept.part.items c.args.self c.self.view_is c.requires.own c.self.invariant in
+    let own = own_parts e kept.election kept.header cells.numbers.items cells.reaches.items ballots kept.part.items c.args.self c.self.view_is c.requires.own c.self.invariant.parts in
     let read = own.parts.cells in
     let held = listing_ordered e cells.numbers.items ballots read.ordered read.same read.valid read.few in
     held.listing
+
+pub from_cells-requires-clause-layout : goal.from_cells-requires-clause-layout
+from_cells-requires-clause-layout c =
+    let e = c.args.election.now in
+    let kept = c.self.inside in
+    let cells = kept.cells in
+    let ballots = ballots_of cells.records.items in
+    let own = own_parts e kept.election kept.header cells.numbers.items cells.reaches.items ballots kept.part.items c.args.self c.self.view_is c.requires.own c.self.invariant.parts in
+    cells_fed e kept.header cells.numbers.items cells.reaches.items ballots kept.part.items c.contests.ensures.valid own.parts (ap length own.fed_so_far ∙ c.requires.whole)
 
 pub returns-clause-image : goal.returns-clause-image
 returns-clause-image c =
@@ -46,6 +55,6 @@ returns-clause-image c =
     let kept = c.self.inside in
     let cells = kept.cells in
     let ballots = ballots_of cells.records.items in
-    let own = own_parts e kept.election kept.header cells.numbers.items cells.reaches.items ballots kept.part.items c.args.self c.self.view_is c.requires.own c.self.invariant in
-    let made = c.from_records.ensures in
-    image_told e kept.header cells.numbers.items cells.reaches.items ballots kept.part.items c.args.self.fed c.from_records.result own c.requires.whole made.election made.same made.stored
+    let own = own_parts e kept.election kept.header cells.numbers.items cells.reaches.items ballots kept.part.items c.args.self c.self.view_is c.requires.own c.self.invariant.parts in
+    let made = c.from_cells.ensures in
+    image_told e kept.header cells.numbers.items cells.reaches.items ballots kept.part.items c.args.self.fed c.from_cells.result own c.requires.whole made.election made.same made.stored

@@ -1,15 +1,20 @@
-use Rattle.std.proofs.Common.{All, map, ap, string_bytes, subst, sym}
-use Rattle.body_store.specs.Contents.{ballots_of}
+use Rattle.std.proofs.Common.{◌≡◌, List, ℕ, All, Vec, Global, map, ap, string_bytes, subst, sym}
+use Rattle.ballot_record.specs.declared.record.Record.{Record}
+use Rattle.body_store.specs.Contents.{Contents, ballots_of}
 use Rattle.phase_gate.proofs.Phases.{close_closed}
 use Rattle.phase_gate.proofs.Told.{tells}
 use Rattle.phase_gate.proofs.Waiting.{all_valid, are_lists}
 use Rattle.phase_gate.proofs.gate.Gate.close.Goals as goal
+use Rattle.phase_gate.proofs.gate.Gate.close.Goals.{in-Casting+in_ok-closed-in-Casting, in-Withdrawing+in_ok-closed-in-Withdrawing, in-Finding+in_ok-close_finding-in-Finding}
 use Rattle.phase_gate.specs.Gate.{effect_of, state_of}
+use Rattle.phase_gate.specs.Telling.{Tells}
+use Rattle.phase_gate.specs.declared.telling.Telling.{Telling}
 use Rattle.phase_gate.specs.Work.{phase_of}
 use Rattle.store_spec.specs.Ballot.{IsValid}
 use Rattle.store_spec.specs.Election.{Election}
 use Rattle.store_spec.specs.ScriptLine.ScriptLine.{Close}
-use Rattle.store_spec.specs.Session.{Does, stays, wrong_phase}
+use Rattle.store_spec.specs.Session.{ClosesCasting, ClosesFinding, ClosesWithdrawing, Does, Effect, Phase, State, begun, replies, stays, wrong_phase}
+use Rattle.store_spec.specs.Session.Phase.{Casts, Finds, Withdraws}
 
 pub close_casting-requires-clause-lists : goal.close_casting-requires-clause-lists
 close_casting-requires-clause-lists g c κs within =
@@ -44,3 +49,48 @@ returns-in-Closed-clause-does g c =
     (λ answer. effect_of answer (string_bytes c.refuse_phase.new.reply))
     (close_closed self.closed.election c.args.index (state_of self) (phase_of self.work) (ap phase_of c.in-Closed.is))
     c.refuse_phase.ensures.stays
+
+-- what was told at the close of a phase, as it stands in the gate
+close_told : (telling : Telling) (e : Election) (n : ℕ) (s : State) (now phase : Phase) → phase ≡ now
+    → (text put : List ℕ) → put ≡ text → (after store : Contents) → store ≡ after
+    → Tells telling (Does e n s Close now) (replies text (begun after.ballots))
+    → Tells telling (Does e n s Close phase) (replies put (begun store.ballots))
+close_told telling e n s now phase same text put is after store held told =
+    let at_phase = subst (λ (p : Phase). Tells telling (Does e n s Close p) (replies text (begun after.ballots))) (sym same) told in
+    let at_text = subst (λ (t : List ℕ). Tells telling (Does e n s Close phase) (replies t (begun after.ballots))) (sym is) at_phase in
+    subst (λ (c : Contents). Tells telling (Does e n s Close phase) (replies put (begun c.ballots))) (sym held) at_text
+
+pub returns-clause-does : goal.returns-clause-does
+returns-clause-does g c =
+    let self = c.args.self in
+    let telling = c.args.telling in
+    let own = self.closed.election in
+    let Did : Effect → Type 0 = Does own c.args.index (state_of self) Close (phase_of self.work) in
+    let same = c.election.ensures.election in
+    let ballots = self.closed.ballots in
+    let casts = λ (list : Vec Record Global). ballots_of list.items in
+    let numbers = λ (list : Vec ℕ Global). list.items in
+    let told : Tells telling Did (replies (string_bytes c.match-work.reply) (begun c.match-work.closed.ballots)) = elim c.match-work.branch [
+      | in-Casting+in_ok-closed-in-Casting w ↦
+          let own_lists : List (Vec Record Global) = w.in-Casting.lists.items in
+          let text = string_bytes w.close_casting.new.reply in
+          let after = w.in_ok-closed-in-Casting.closed in
+          let Closes : Election → List (Vec Record Global) → Type 0 = λ e lists. Tells telling (ClosesCasting e ballots (map casts lists)) (replies text (begun after.ballots)) in
+          let of_own = subst (λ e. Closes e w.deref.result.now) same w.in_ok-closed-in-Casting.ensures.closes in
+          let listed : Closes own own_lists = subst (λ lists. Closes own lists) w.deref.ensures.value of_own in
+          close_told telling own c.args.index (state_of self) (Casts (map casts own_lists)) (phase_of self.work) (ap phase_of w.in-Casting.is) text (string_bytes c.match-work.reply) (ap string_bytes w.reply-is) after c.match-work.closed w.closed-is listed
+      | in-Withdrawing+in_ok-closed-in-Withdrawing w ↦
+          let own_lists : List (Vec ℕ Global) = w.in-Withdrawing.lists.items in
+          let text = string_bytes w.close_withdrawing.new.reply in
+          let after = w.in_ok-closed-in-Withdrawing.closed in
+          let Closes : List (Vec ℕ Global) → Type 0 = λ lists. Tells telling (ClosesWithdrawing ballots (map numbers lists)) (replies text (begun after.ballots)) in
+          let listed : Closes own_lists = subst Closes w.deref-in-Withdrawing.ensures.value w.in_ok-closed-in-Withdrawing.ensures.closes in
+          close_told telling own c.args.index (state_of self) (Withdraws (map numbers own_lists)) (phase_of self.work) (ap phase_of w.in-Withdrawing.is) text (string_bytes c.match-work.reply) (ap string_bytes w.reply-is) after c.match-work.closed w.closed-is listed
+      | in-Finding+in_ok-close_finding-in-Finding w ↦
+          let own_lists : List (Vec ℕ Global) = w.in-Finding.lists.items in
+          let text = string_bytes w.close_finding.new.reply in
+          let Closes : List (Vec ℕ Global) → Type 0 = λ lists. Tells telling (ClosesFinding ballots (map numbers lists)) (replies text (begun ballots)) in
+          let listed : Closes own_lists = subst Closes w.deref-in-Finding.ensures.value w.in_ok-close_finding-in-Finding.ensures.closes in
+          close_told telling own c.args.index (state_of self) (Finds (map numbers own_lists)) (phase_of self.work) (ap phase_of w.in-Finding.is) text (string_bytes c.match-work.reply) (ap string_bytes w.reply-is) self.closed c.match-work.closed w.closed-is listed
+    ] in
+    subst (λ answer. Tells telling Did (effect_of answer (string_bytes c.match-work.reply))) (sym c.of.ensures) told

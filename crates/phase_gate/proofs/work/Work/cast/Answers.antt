@@ -1,15 +1,22 @@
 use Rattle.std.proofs.Common.{map, ap}
+use Rattle.std.proofs.lemmas.Result.{IfOk-weaker}
 use Rattle.ballot_record.specs.Record.{ballot}
 use Rattle.body_store.specs.Contents.{ballots_of}
 use Rattle.phase_gate.proofs.Queues.{casts_into, waits_as}
 use Rattle.phase_gate.proofs.work.Work.cast.Goals as goal
-use Rattle.phase_gate.specs.Work.{phase_of}
+use Rattle.phase_gate.specs.Work.{CastsInto, WaitsIn, phase_of}
+use Rattle.store_spec.specs.Session.Phase.{Casts}
 
-pub returns-in_ok-queued-in-Casting : goal.returns-in_ok-queued-in-Casting
-returns-in_ok-queued-in-Casting c =
+pub returns-in-Casting : goal.returns-in-Casting
+returns-in-Casting c =
     let old = c.in-Casting.lists.items in
     let new = c.queue.new.lists.items in
-    let place = c.in_ok-queued-in-Casting.queued in
-    casts_into (phase_of c.args.self) (map (λ list. ballots_of list.items) old)
-    (map (λ list. ballots_of list.items) new) c.args.tab (ballot c.args.ballot) place (ap phase_of c.in-Casting.is)
-    (waits_as ballot (λ list. list.items) old new c.args.tab c.args.ballot place c.in_ok-queued-in-Casting.ensures)
+    let b = c.args.ballot.now in
+    IfOk-weaker c.queue.result
+    (λ place. WaitsIn (λ now. now) (map (λ list. list.items) old) c.args.tab b place (map (λ list. list.items) new))
+    (λ place. CastsInto (phase_of c.args.self.now) c.args.tab (ballot b) place
+    (Casts (map (λ list. ballots_of list.items) new)))
+    (λ place waits. casts_into (phase_of c.args.self.now) (map (λ list. ballots_of list.items) old)
+    (map (λ list. ballots_of list.items) new) c.args.tab (ballot b) place (ap phase_of c.in-Casting.is)
+    (waits_as ballot (λ list. list.items) old new c.args.tab b place waits))
+    c.queue.ensures

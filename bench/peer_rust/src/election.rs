@@ -1,0 +1,301 @@
+//! The election, the record line and the record's cell bytes.
+//! A record is kept as its cell bytes ("row") from the moment its line is read.
+
+use crate::json::{self, Json};
+
+pub const MAX_ROW: usize = 9 + 4 * 16;
+const GOLDEN: u64 = 0x9E37_79B9_7F4A_7C15;
+
+pub struct Election {
+    pub choices: Vec<u8>,
+    pub allowed: Vec<u8>,
+    pub styles: Vec<u32>,
+    /// masks[(style - 1) * contests + k]: the choices that may be marked, 0 off the style
+    pub masks: Vec<u32>,
+    pub limit: usize,
+    pub order: Order,
+    /// bytes of a cell
+    pub row: usize,
+    pub cells: usize,
+    pub bank: usize,
+}
+
+#[derive(Clone, Copy)]
+pub struct Order {
+    pub bits: u8,
+    pub salt: u64,
+}
+
+impl Order {
+    #[inline(always)]
+    pub fn home(&self, v: u64) -> usize {
+        let m = (v ^ self.salt).wrapping_mul(GOLDEN);
+        ((m >> 1) >> (63 - self.bits as u32)) as usize
+    }
+}
+
+#[derive(Clone, Copy, PartialEq, Debug)]
+pub enum LineFault {
+    Malformed,
+    Invalid,
+}
+
+impl Election {
+    pub fn contests(&self) -> usize {
+        self.choices.len()
+    }
+
+    pub fn medium(&self) -> u64 {
+        2 * self.bank as u64 + 2
+    }
+
+    pub fn header(&self) -> [u8; 32] {
+        let mut h = [0u8; 32];
+        h[..8].copy_from_slice(b"HIBSTORE");
+        h[9] = 1;
+        h[10] = self.order.bits;
+        h[11] = self.contests() as u8;
+        h[12..16].copy_from_slice(&(self.limit as u32).to_be_bytes());
+        h[16..24].copy_from_slice(&self.order.salt.to_be_bytes());
+        h
+    }
+
+    pub fn read(bytes: &[u8]) -> Option<Election> {
+        let Json::Object(top) = json::read(bytes)? else { return None };
+        if top.len() != 5 {
+            return None;
+        }
+        let get = |name: &str| top.iter().find(|(k, _)| k == name).map(|(_, v)| v);
+        let Json::Array(contests) = get("contests")? else { return None };
+        let Json::Array(styles) = get("styles")? else { return None };
+        let limit = whole(get("limit")?, 1, 32_768)? as usize;
+        let bits = whole(get("bits")?, 0, 16)? as u8;
+        let Json::Text(salt) = get("salt")? else { return None };
+        if salt.len() != 16 || !salt.bytes().all(|b| matches!(b, b'0'..=b'9' | b'a'..=b'f')) {
+            return None;
+        }
+        let salt = u64::from_str_radix(salt, 16).ok()?;
+        if contests.is_empty() || contests.len() > 16 || styles.is_empty() || styles.len() > 255 {
+            return None;
+        }
+        let mut choices = Vec::new();
+        let mut allowed = Vec::new();
+        for c in contests {
+            let Json::Object(c) = c else { return None };
+            if c.len() != 2 {
+                return None;
+            }
+            let get = |name: &str| c.iter().find(|(k, _)| k == name).map(|(_, v)| v);
+            let n = whole(get("choices")?, 1, 32)?;
+            choices.push(n as u8);
+            allowed.push(whole(get("allowed")?, 1, n)? as u8);
+        }
+        let mut sets = Vec::new();
+        for s in styles {
+            let Json::Array(s) = s else { return None };
+            if s.is_empty() {
+                return None;
+            }
+            let (mut set, mut last) = (0u32, 0);
+            for k in s {
+                let k = whole(k, last + 1, choices.len() as u64)?;
+                set |= 1 << (k - 1);
+                last = k;
+            }
+            sets.push(set);
+        }
+        let mut masks = Vec::new();
+        for set in &sets {
+            for (k, n) in choices.iter().enumerate() {
+                masks.push(if set >> k & 1 == 1 { u32::MAX >> (32 - *n as u32) } else { 0 });
+            }
+        }
+        let row = 9 + 4 * choices.len();
+        let cells = (1usize << bits) + limit;
+        Some(Election {
+            choices,
+            allowed,
+            styles: sets,
+            masks,
+            limit,
+            order: Order { bits, salt },
+            row,
+            cells,
+            bank: 32 + cells * row,
+        })
+    }
+
+    /// Are these cell bytes, whose number is not 0, those of a valid record?
+    pub fn valid_row(&self, row: &[u8]) -> bool {
+        let style = row[8] as usize;
+        if style == 0 || style > self.styles.len() {
+            return false;
+        }
+        let masks = &self.masks[(style - 1) * self.contests()..style * self.contests()];
+        row[9..].chunks_exact(4).zip(masks).all(|(b, m)| u32::from_be_bytes([b[0], b[1], b[2], b[3]]) & !m == 0)
+    }
+
+    /// Reads a record line and puts the record's cell bytes at the front of `row`.
+    #[inline]
+    pub fn read_record(&self, line: &[u8], row: &mut [u8; MAX_ROW]) -> Result<u64, LineFault> {
+        use LineFault::*;
+        let mut at = 0;
+        let number = decimal(line, &mut at).ok_or(Malformed)?;
+        if line.get(at) != Some(&b' ') {
+            return Err(Malformed);
+        }
+        at += 1;
+        let style = decimal(line, &mut at).ok_or(Malformed)?;
+        if style > 255 || line.get(at) != Some(&b' ') {
+            return Err(Malformed);
+        }
+        at += 1;
+        let mut marks = [0u32; 16];
+        let mut groups = 0;
+        loop {
+            if groups == 16 {
+                return Err(Malformed);
+            }
+            let mut set = 0u32;
+            if line.get(at) == Some(&b'-') {
+                at += 1;
+            } else {
+                let mut last = 0;
+                loop {
+                    let c = decimal(line, &mut at).ok_or(Malformed)?;
+                    if c > 32 || c <= last {
+                        return Err(Malformed);
+                    }
+                    set |= 1 << (c - 1);
+                    last = c;
+                    if line.get(at) == Some(&b',') {
+                        at += 1;
+                    } else {
+                        break;
+                    }
+                }
+            }
+            marks[groups] = set;
+            groups += 1;
+            match line.get(at) {
+                None => break,
+                Some(b'/') => at += 1,
+                Some(_) => return Err(Malformed),
+            }
+        }
+        if groups != self.contests() || style as usize > self.styles.len() {
+            return Err(Invalid);
+        }
+        let masks = &self.masks[(style as usize - 1) * groups..style as usize * groups];
+        row[..8].copy_from_slice(&number.to_be_bytes());
+        row[8] = style as u8;
+        for k in 0..groups {
+            if marks[k] & !masks[k] != 0 {
+                return Err(Invalid);
+            }
+            row[9 + 4 * k..13 + 4 * k].copy_from_slice(&marks[k].to_be_bytes());
+        }
+        Ok(number)
+    }
+
+    /// Appends the record line of these cell bytes, without a line end.
+    pub fn put_record(&self, row: &[u8], out: &mut Vec<u8>) {
+        put_number(out, u64::from_be_bytes(row[..8].try_into().unwrap()));
+        out.push(b' ');
+        put_number(out, row[8] as u64);
+        for (k, b) in row[9..].chunks_exact(4).enumerate() {
+            out.push(if k == 0 { b' ' } else { b'/' });
+            let mut set = u32::from_be_bytes([b[0], b[1], b[2], b[3]]);
+            if set == 0 {
+                out.push(b'-');
+            }
+            let mut first = true;
+            while set != 0 {
+                if !first {
+                    out.push(b',');
+                }
+                first = false;
+                put_number(out, set.trailing_zeros() as u64 + 1);
+                set &= set - 1;
+            }
+        }
+    }
+}
+
+fn whole(v: &Json, from: u64, to: u64) -> Option<u64> {
+    match v {
+        Json::Whole(n) if *n >= from && *n <= to => Some(*n),
+        _ => None,
+    }
+}
+
+/// A decimal from 1 to 2^64 - 1 without leading zeros; `at` is left behind its last digit.
+#[inline(always)]
+pub fn decimal(line: &[u8], at: &mut usize) -> Option<u64> {
+    let mut i = *at;
+    match line.get(i) {
+        Some(b'1'..=b'9') => {}
+        _ => return None,
+    }
+    let mut v = (line[i] - b'0') as u64;
+    i += 1;
+    // eight digits at once, as long as they stand there and no sum can overflow
+    let mut count = 1;
+    while count <= 9 && i + 8 <= line.len() {
+        let w = u64::from_le_bytes(line[i..i + 8].try_into().unwrap()) ^ 0x3030_3030_3030_3030;
+        if (w | w.wrapping_add(0x7676_7676_7676_7676)) & 0x8080_8080_8080_8080 != 0 {
+            break;
+        }
+        let w = w.wrapping_mul(2561) >> 8 & 0x00FF_00FF_00FF_00FF;
+        let w = w.wrapping_mul(6_553_601) >> 16 & 0x0000_FFFF_0000_FFFF;
+        let w = w.wrapping_mul(42_949_672_960_001) >> 32;
+        v = v * 100_000_000 + w;
+        i += 8;
+        count += 8;
+    }
+    while let Some(b @ b'0'..=b'9') = line.get(i) {
+        let d = (b - b'0') as u64;
+        v = if count < 19 { v * 10 + d } else { v.checked_mul(10)?.checked_add(d)? };
+        count += 1;
+        i += 1;
+    }
+    *at = i;
+    Some(v)
+}
+
+/// A decimal as `decimal` reads it that is the whole of `text`.
+pub fn whole_decimal(text: &[u8]) -> Option<u64> {
+    let mut at = 0;
+    let v = decimal(text, &mut at)?;
+    if at == text.len() { Some(v) } else { None }
+}
+
+const PAIRS: &[u8; 200] = b"0001020304050607080910111213141516171819\
+2021222324252627282930313233343536373839\
+4041424344454647484950515253545556575859\
+6061626364656667686970717273747576777879\
+8081828384858687888990919293949596979899";
+
+#[inline]
+pub fn put_number(out: &mut Vec<u8>, mut v: u64) {
+    if v < 10 {
+        out.push(b'0' + v as u8);
+        return;
+    }
+    let mut text = [0u8; 20];
+    let mut at = 20;
+    while v >= 100 {
+        let d = (v % 100) as usize * 2;
+        v /= 100;
+        at -= 2;
+        text[at..at + 2].copy_from_slice(&PAIRS[d..d + 2]);
+    }
+    if v >= 10 {
+        at -= 2;
+        text[at..at + 2].copy_from_slice(&PAIRS[v as usize * 2..v as usize * 2 + 2]);
+    } else {
+        at -= 1;
+        text[at] = b'0' + v as u8;
+    }
+    out.extend_from_slice(&text[at..]);
+}

@@ -1,0 +1,223 @@
+//! The medium: a real file with pread, pwrite and fdatasync; init, recovery,
+//! checkpoint and audit (pages of 4,096 bytes).
+
+use crate::election::Election;
+use crate::store::{ImageFault, Store};
+use std::fs::{File, OpenOptions};
+use std::io::ErrorKind;
+use std::os::unix::fs::FileExt;
+use std::path::Path;
+
+pub const PAGE: usize = 4096;
+const OPEN: u8 = 0xA7;
+
+pub enum Fault {
+    Disk,
+    NoStore,
+    OtherElection,
+    Damaged(u32),
+    Exists,
+    WrongSize(u64),
+}
+
+impl From<std::io::Error> for Fault {
+    fn from(_: std::io::Error) -> Fault {
+        Fault::Disk
+    }
+}
+
+pub struct Disk {
+    path: String,
+    file: Option<File>,
+    opened: bool,
+    /// the file's name in its folder is settled
+    named: bool,
+    /// pages handled in one call
+    run: usize,
+}
+
+impl Disk {
+    pub fn new(path: &str, runs: bool) -> Disk {
+        Disk { path: path.to_string(), file: None, opened: false, named: false, run: if runs { 64 } else { 1 } }
+    }
+
+    fn file(&mut self) -> std::io::Result<Option<&File>> {
+        if !self.opened {
+            self.file = match OpenOptions::new().read(true).write(true).open(&self.path) {
+                Ok(f) => Some(f),
+                Err(e) if e.kind() == ErrorKind::NotFound => None,
+                Err(e) if e.kind() == ErrorKind::PermissionDenied => Some(File::open(&self.path)?),
+                Err(e) => return Err(e),
+            };
+            self.opened = true;
+        }
+        Ok(self.file.as_ref())
+    }
+
+    fn size(&mut self) -> std::io::Result<u64> {
+        Ok(match self.file()? {
+            Some(f) => f.metadata()?.len(),
+            None => 0,
+        })
+    }
+
+    fn read(&mut self, at: u64, buf: &mut [u8]) -> std::io::Result<()> {
+        match self.file()? {
+            Some(f) => f.read_exact_at(buf, at),
+            None => Err(ErrorKind::UnexpectedEof.into()),
+        }
+    }
+
+    fn write(&mut self, at: u64, bytes: &[u8]) -> std::io::Result<()> {
+        if self.file()?.is_none() {
+            self.file = Some(OpenOptions::new().read(true).write(true).create(true).truncate(false).open(&self.path)?);
+        }
+        self.file.as_ref().unwrap().write_all_at(bytes, at)
+    }
+
+    /// Settles the bytes and, the first time, the file's name. A run that was killed may have
+    /// made the file, so this does not ask who made it.
+    fn sync(&mut self) -> std::io::Result<()> {
+        match self.file()? {
+            Some(f) => f.sync_data()?,
+            None => return Ok(()),
+        }
+        if !self.named {
+            let folder = Path::new(&self.path).parent().filter(|p| !p.as_os_str().is_empty());
+            File::open(folder.unwrap_or(Path::new(".")))?.sync_all()?;
+            self.named = true;
+        }
+        Ok(())
+    }
+
+    fn gates(&mut self, e: &Election) -> std::io::Result<(bool, bool)> {
+        let mut two = [0; 2];
+        self.read(2 * e.bank as u64, &mut two)?;
+        Ok((two[0] == OPEN, two[1] == OPEN))
+    }
+
+    fn gate(&mut self, e: &Election, bank: usize, byte: u8) -> std::io::Result<()> {
+        self.write((2 * e.bank + bank) as u64, &[byte])?;
+        self.sync()
+    }
+
+    /// Reads a bank by pages and gives those that differ from the image.
+    fn differing(&mut self, e: &Election, bank: usize, image: &[u8]) -> std::io::Result<Vec<usize>> {
+        let mut found = vec![0; self.run * PAGE];
+        let mut pages = Vec::new();
+        let mut at = 0;
+        while at < e.bank {
+            let n = (e.bank - at).min(found.len());
+            self.read((bank * e.bank + at) as u64, &mut found[..n])?;
+            for (i, page) in found[..n].chunks(PAGE).enumerate() {
+                if *page != image[at + i * PAGE..at + i * PAGE + page.len()] {
+                    pages.push(at + i * PAGE);
+                }
+            }
+            at += n;
+        }
+        Ok(pages)
+    }
+
+    fn put_pages(&mut self, e: &Election, bank: usize, image: &[u8], pages: &[usize]) -> std::io::Result<()> {
+        let mut i = 0;
+        while i < pages.len() {
+            let mut j = i + 1;
+            while j < pages.len() && j - i < self.run && pages[j] == pages[j - 1] + PAGE {
+                j += 1;
+            }
+            let to = (pages[j - 1] + PAGE).min(e.bank);
+            self.write((bank * e.bank + pages[i]) as u64, &image[pages[i]..to])?;
+            i = j;
+        }
+        Ok(())
+    }
+
+    pub fn init(&mut self, e: &Election) -> Result<(), Fault> {
+        self.sync()?;
+        let size = self.size()?;
+        if size > e.medium() {
+            return Err(Fault::WrongSize(size));
+        }
+        if size == e.medium() {
+            let (a, b) = self.gates(e)?;
+            if a || b {
+                return Err(Fault::Exists);
+            }
+        }
+        let image = Store::empty(e).image;
+        let all: Vec<usize> = (0..e.bank).step_by(PAGE).collect();
+        self.put_pages(e, 0, &image, &all)?;
+        self.put_pages(e, 1, &image, &all)?;
+        self.sync()?;
+        self.write(2 * e.bank as u64, &[OPEN, OPEN])?;
+        self.sync()?;
+        Ok(())
+    }
+
+    fn chosen(&mut self, e: &Election) -> Result<(usize, (bool, bool), Store), Fault> {
+        if self.size()? != e.medium() {
+            return Err(Fault::NoStore);
+        }
+        let gates = self.gates(e)?;
+        if !gates.0 && !gates.1 {
+            return Err(Fault::NoStore);
+        }
+        let bank = !gates.0 as usize;
+        let mut image = vec![0; e.bank];
+        let run = self.run * PAGE;
+        for (i, part) in image.chunks_mut(run).enumerate() {
+            self.read((bank * e.bank + i * run) as u64, part)?;
+        }
+        let store = Store::from_image(e, image).map_err(|f| match f {
+            ImageFault::OtherElection => Fault::OtherElection,
+            ImageFault::Damaged(c) => Fault::Damaged(c),
+        })?;
+        Ok((bank, gates, store))
+    }
+
+    pub fn recover(&mut self, e: &Election) -> Result<Store, Fault> {
+        self.sync()?;
+        let (bank, gates, store) = self.chosen(e)?;
+        let pages = self.differing(e, 1 - bank, &store.image)?;
+        if bank == 0 && pages.is_empty() && gates.1 {
+            return Ok(store);
+        }
+        if bank == 0 && gates.1 {
+            self.gate(e, 1, 0)?;
+        }
+        self.put_pages(e, 1 - bank, &store.image, &pages)?;
+        self.sync()?;
+        self.gate(e, 1 - bank, OPEN)?;
+        Ok(store)
+    }
+
+    pub fn checkpoint(&mut self, e: &Election, store: &Store) -> Result<(), Fault> {
+        for bank in [1, 0] {
+            self.gate(e, bank, 0)?;
+            let pages = self.differing(e, bank, &store.image)?;
+            self.put_pages(e, bank, &store.image, &pages)?;
+            self.sync()?;
+            self.gate(e, bank, OPEN)?;
+        }
+        Ok(())
+    }
+
+    /// How many are held, and the first place that differs from their medium.
+    pub fn audit(&mut self, e: &Election) -> Result<(usize, Option<u64>), Fault> {
+        let (bank, gates, store) = self.chosen(e)?;
+        let pages = self.differing(e, 1 - bank, &store.image)?;
+        if let Some(&at) = pages.first() {
+            let mut page = vec![0; PAGE.min(e.bank - at)];
+            self.read(((1 - bank) * e.bank + at) as u64, &mut page)?;
+            let i = page.iter().zip(&store.image[at..]).position(|(a, b)| a != b).unwrap_or(0);
+            return Ok((store.held, Some(((1 - bank) * e.bank + at + i) as u64)));
+        }
+        let place = match gates {
+            (false, _) => Some(2 * e.bank as u64),
+            (_, false) => Some(2 * e.bank as u64 + 1),
+            _ => None,
+        };
+        Ok((store.held, place))
+    }
+}

@@ -1,0 +1,563 @@
+//! Lines of the script, the session machine and the generated script.
+
+use crate::election::*;
+use crate::engine::*;
+use crate::medium::{Disk, Fault};
+use crate::store::Store;
+use std::fs::File;
+use std::io::{ErrorKind, Read, Write};
+use std::mem::ManuallyDrop;
+use std::os::fd::FromRawFd;
+
+const SCRIPT_LIMIT: usize = 67_108_864;
+const WIDTH: usize = 8192;
+const BUFFER: usize = 256 * 1024;
+
+#[inline]
+pub fn line_end(bytes: &[u8]) -> Option<usize> {
+    #[cfg(target_arch = "x86_64")]
+    {
+        use std::arch::x86_64::*;
+        let mut i = 0;
+        // SSE2 is part of x86_64, and each load lies within the slice
+        unsafe {
+            let end = _mm_set1_epi8(b'\n' as i8);
+            while i + 16 <= bytes.len() {
+                let w = _mm_loadu_si128(bytes.as_ptr().add(i) as *const __m128i);
+                let m = _mm_movemask_epi8(_mm_cmpeq_epi8(w, end));
+                if m != 0 {
+                    return Some(i + m.trailing_zeros() as usize);
+                }
+                i += 16;
+            }
+        }
+        bytes[i..].iter().position(|b| *b == b'\n').map(|p| i + p)
+    }
+    #[cfg(not(target_arch = "x86_64"))]
+    bytes.iter().position(|b| *b == b'\n')
+}
+
+pub struct Lines {
+    input: ManuallyDrop<File>,
+    buffer: Vec<u8>,
+    from: usize,
+    to: usize,
+    looked: usize,
+    total: usize,
+    wide: bool,
+}
+
+pub enum Next {
+    Whole(std::ops::Range<usize>),
+    TooWide,
+    End,
+    TooLong,
+    Fault,
+}
+
+impl Lines {
+    pub fn new() -> Lines {
+        Lines {
+            input: ManuallyDrop::new(unsafe { File::from_raw_fd(0) }),
+            buffer: vec![0; BUFFER],
+            from: 0,
+            to: 0,
+            looked: 0,
+            total: 0,
+            wide: false,
+        }
+    }
+
+    pub fn line(&self, r: std::ops::Range<usize>) -> &[u8] {
+        &self.buffer[r]
+    }
+
+    fn read(&mut self, room: usize) -> Result<usize, ()> {
+        loop {
+            match self.input.read(&mut self.buffer[self.to..self.to + room]) {
+                Ok(n) => return Ok(n),
+                Err(e) if e.kind() == ErrorKind::Interrupted => {}
+                Err(_) => return Err(()),
+            }
+        }
+    }
+
+    /// The next line; `before_read` runs before each read of the input.
+    #[inline]
+    pub fn next(&mut self, mut before_read: impl FnMut() -> bool) -> Next {
+        loop {
+            if let Some(n) = line_end(&self.buffer[self.looked..self.to]) {
+                let (from, to) = (self.from, self.looked + n);
+                self.from = to + 1;
+                self.looked = self.from;
+                if std::mem::take(&mut self.wide) || to - from > WIDTH {
+                    return Next::TooWide;
+                }
+                return Next::Whole(from..to);
+            }
+            if self.to - self.from > WIDTH {
+                self.wide = true;
+                self.from = self.to;
+            }
+            self.buffer.copy_within(self.from..self.to, 0);
+            self.to -= self.from;
+            self.from = 0;
+            self.looked = self.to;
+            if !before_read() {
+                return Next::Fault;
+            }
+            let room = (self.buffer.len() - self.to).min(SCRIPT_LIMIT - self.total);
+            let got = if room == 0 {
+                match self.read(1) {
+                    Ok(0) => 0,
+                    Ok(_) => return Next::TooLong,
+                    Err(()) => return Next::Fault,
+                }
+            } else {
+                match self.read(room) {
+                    Ok(n) => n,
+                    Err(()) => return Next::Fault,
+                }
+            };
+            if got == 0 {
+                let last = self.from..self.to;
+                self.from = self.to;
+                return if std::mem::take(&mut self.wide) {
+                    Next::TooWide
+                } else if last.is_empty() {
+                    Next::End
+                } else {
+                    self.looked = self.to;
+                    Next::Whole(last)
+                };
+            }
+            self.total += got;
+            self.to += got;
+        }
+    }
+}
+
+pub struct Out {
+    file: ManuallyDrop<File>,
+    pub text: Vec<u8>,
+}
+
+impl Out {
+    pub fn new() -> Out {
+        Out { file: ManuallyDrop::new(unsafe { File::from_raw_fd(1) }), text: Vec::with_capacity(BUFFER) }
+    }
+
+    /// Writes what waits; false for a fault of the output.
+    pub fn flush(&mut self) -> bool {
+        let ok = self.text.is_empty() || self.file.write_all(&self.text).is_ok();
+        self.text.clear();
+        ok
+    }
+
+    fn spill(&mut self) -> bool {
+        self.text.len() < BUFFER - 4096 || self.flush()
+    }
+}
+
+pub enum End {
+    Disk,
+    Write,
+}
+
+impl From<Fault> for End {
+    fn from(_: Fault) -> End {
+        End::Disk
+    }
+}
+
+#[derive(Clone, Copy, PartialEq)]
+enum Phase {
+    Closed,
+    Casting,
+    Withdrawing,
+    Finding,
+}
+
+impl Phase {
+    fn name(self) -> &'static [u8] {
+        match self {
+            Phase::Closed => b"closed",
+            Phase::Casting => b"casting",
+            Phase::Withdrawing => b"withdrawing",
+            Phase::Finding => b"finding",
+        }
+    }
+}
+
+enum Line {
+    Open(Phase, usize),
+    Cast(usize, Result<u64, LineFault>),
+    Number(Phase, usize, u64),
+    Close,
+    Checkpoint,
+    Tally,
+    Export,
+}
+
+pub struct Session<'a> {
+    e: &'a Election,
+    style: Style,
+    store: Store,
+    phase: Phase,
+    items: Vec<Vec<Item>>,
+    numbers: Vec<Vec<u64>>,
+    rows: Vec<u8>,
+    tables: Tables,
+    /// only `closed N`, `checkpoint N` and the tally are written
+    quiet: bool,
+    watch: Watch,
+}
+
+/// Times of the parts, told on standard error where PEER_TIMES is set.
+struct Watch {
+    on: bool,
+    last: std::time::Instant,
+}
+
+impl Watch {
+    fn tell(&mut self, what: &str) {
+        if self.on {
+            let now = std::time::Instant::now();
+            eprintln!("{:>12.1} us  {}", (now - self.last).as_nanos() as f64 / 1e3, what);
+            self.last = now;
+        }
+    }
+}
+
+#[inline]
+fn tab(text: &[u8], at: &mut usize) -> Option<usize> {
+    let t = decimal(text, at)?;
+    if t <= 64 { Some(t as usize) } else { None }
+}
+
+#[inline]
+fn read_line(line: &[u8], e: &Election, row: &mut [u8; MAX_ROW]) -> Option<Line> {
+    let item = |word: usize| -> Option<(usize, &[u8])> {
+        let mut at = word;
+        let t = tab(line, &mut at)?;
+        if line.get(at) == Some(&b' ') { Some((t, &line[at + 1..])) } else { None }
+    };
+    match line.first()? {
+        b'c' if line.starts_with(b"cast ") => {
+            let (t, record) = item(5)?;
+            match e.read_record(record, row) {
+                Err(LineFault::Malformed) => None,
+                r => Some(Line::Cast(t, r)),
+            }
+        }
+        b'w' if line.starts_with(b"withdraw ") => {
+            let (t, number) = item(9)?;
+            Some(Line::Number(Phase::Withdrawing, t, whole_decimal(number)?))
+        }
+        b'f' if line.starts_with(b"find ") => {
+            let (t, number) = item(5)?;
+            Some(Line::Number(Phase::Finding, t, whole_decimal(number)?))
+        }
+        b'o' => {
+            let rest = line.strip_prefix(b"open ")?;
+            let (phase, t) = if let Some(t) = rest.strip_prefix(b"cast ") {
+                (Phase::Casting, t)
+            } else if let Some(t) = rest.strip_prefix(b"withdraw ") {
+                (Phase::Withdrawing, t)
+            } else {
+                (Phase::Finding, rest.strip_prefix(b"find ")?)
+            };
+            let t = whole_decimal(t)?;
+            if t <= 64 { Some(Line::Open(phase, t as usize)) } else { None }
+        }
+        _ => match line {
+            b"close" => Some(Line::Close),
+            b"checkpoint" => Some(Line::Checkpoint),
+            b"tally" => Some(Line::Tally),
+            b"export" => Some(Line::Export),
+            _ => None,
+        },
+    }
+}
+
+impl<'a> Session<'a> {
+    pub fn new(e: &'a Election, style: Style, store: Store, quiet: bool) -> Session<'a> {
+        Session {
+            e,
+            style,
+            store,
+            phase: Phase::Closed,
+            items: Vec::new(),
+            numbers: Vec::new(),
+            rows: Vec::new(),
+            tables: Tables::new(),
+            quiet,
+            watch: Watch { on: std::env::var_os("PEER_TIMES").is_some(), last: std::time::Instant::now() },
+        }
+    }
+
+    fn count(out: &mut Out, word: &[u8], n: usize) {
+        out.text.extend_from_slice(word);
+        out.text.push(b' ');
+        put_number(&mut out.text, n as u64);
+        out.text.push(b'\n');
+    }
+
+    fn refused(out: &mut Out, index: u64, why: &[u8], phase: &[u8]) {
+        out.text.extend_from_slice(b"line ");
+        put_number(&mut out.text, index);
+        out.text.push(b' ');
+        out.text.extend_from_slice(why);
+        out.text.extend_from_slice(phase);
+        out.text.push(b'\n');
+    }
+
+    #[inline]
+    pub fn line(&mut self, text: &[u8], index: u64, disk: &mut Disk, out: &mut Out) -> Result<(), End> {
+        let mut row = [0; MAX_ROW];
+        let Some(line) = read_line(text, self.e, &mut row) else {
+            Session::refused(out, index, b"malformed", b"");
+            return if out.spill() { Ok(()) } else { Err(End::Write) };
+        };
+        let fits = match line {
+            Line::Open(..) | Line::Checkpoint | Line::Tally | Line::Export => self.phase == Phase::Closed,
+            Line::Cast(..) => self.phase == Phase::Casting,
+            Line::Number(p, ..) => self.phase == p,
+            Line::Close => self.phase != Phase::Closed,
+        };
+        if !fits {
+            Session::refused(out, index, b"wrong-phase ", self.phase.name());
+            return if out.spill() { Ok(()) } else { Err(End::Write) };
+        }
+        match line {
+            Line::Cast(t, Ok(number)) if t <= self.items.len() => self.queue(t, number, &row),
+            Line::Number(_, t, number) if t <= self.numbers.len() => self.numbers[t - 1].push(number),
+            Line::Cast(..) | Line::Number(..) => {
+                Session::refused(out, index, b"invalid", b"");
+                return if out.spill() { Ok(()) } else { Err(End::Write) };
+            }
+            Line::Open(phase, t) => self.open(phase, t, out),
+            Line::Close => self.close(out)?,
+            Line::Checkpoint => self.checkpoint(disk, out)?,
+            Line::Tally => self.store.tally(self.e, &mut out.text),
+            Line::Export => self.store.export(self.e, &mut out.text),
+        }
+        if out.spill() { Ok(()) } else { Err(End::Write) }
+    }
+
+    #[inline]
+    fn queue(&mut self, t: usize, number: u64, row: &[u8; MAX_ROW]) {
+        let at = self.rows.len() as u32;
+        self.rows.extend_from_slice(&row[..self.e.row]);
+        self.items[t - 1].push(Item { number, row: at });
+    }
+
+    fn open(&mut self, phase: Phase, t: usize, out: &mut Out) {
+        self.watch.tell("before open");
+        self.phase = phase;
+        if phase == Phase::Casting {
+            self.items.resize_with(t, Vec::new);
+        } else {
+            self.numbers.resize_with(t, Vec::new);
+        }
+        if !self.quiet {
+            Session::count(out, phase.name(), t);
+        }
+    }
+
+    fn close(&mut self, out: &mut Out) -> Result<(), End> {
+        self.watch.tell("lines of the phase");
+        const CAST: [&[u8]; 5] = [b" accepted\n", b" duplicate\n", b" conflict\n", b"", b" full\n"];
+        const WITHDRAW: [&[u8]; 3] = [b" withdrawn\n", b" gone\n", b" absent\n"];
+        const FIND: [&[u8]; 2] = [b" absent\n", b" present\n"];
+        let (replies, words): (Vec<Vec<u8>>, &[&[u8]]) = match self.phase {
+            Phase::Casting => {
+                (self.store.cast(self.style, self.e, &self.items, &self.rows, &mut self.tables), &CAST)
+            }
+            Phase::Withdrawing => {
+                (self.store.withdraw(self.style, self.e, &self.numbers, &mut self.tables), &WITHDRAW)
+            }
+            _ => (run_find(self.e.order, &self.store.cells, &self.numbers), &FIND),
+        };
+        self.watch.tell("phase");
+        self.items.clear();
+        self.numbers.clear();
+        self.rows.clear();
+        self.phase = Phase::Closed;
+        if !self.quiet {
+            for (i, list) in replies.iter().enumerate() {
+                for (k, r) in list.iter().enumerate() {
+                    put_number(&mut out.text, i as u64 + 1);
+                    out.text.push(b' ');
+                    put_number(&mut out.text, k as u64 + 1);
+                    out.text.extend_from_slice(words[*r as usize]);
+                    if !out.spill() {
+                        return Err(End::Write);
+                    }
+                }
+            }
+        }
+        Session::count(out, b"closed", self.store.held);
+        self.watch.tell("replies");
+        Ok(())
+    }
+
+    fn checkpoint(&mut self, disk: &mut Disk, out: &mut Out) -> Result<(), End> {
+        self.watch.tell("before checkpoint");
+        if !out.flush() {
+            return Err(End::Write);
+        }
+        disk.checkpoint(self.e, &self.store)?;
+        self.watch.tell("checkpoint");
+        Session::count(out, b"checkpoint", self.store.held);
+        if out.flush() { Ok(()) } else { Err(End::Write) }
+    }
+
+    pub fn end(&mut self, out: &mut Out) -> Result<(), End> {
+        if self.phase != Phase::Closed {
+            out.text.extend_from_slice(b"dropped ");
+            out.text.extend_from_slice(self.phase.name());
+            out.text.push(b'\n');
+        }
+        let ok = out.flush();
+        self.watch.tell("end");
+        if ok { Ok(()) } else { Err(End::Write) }
+    }
+
+    /// The generated script, as lines through `line`, or straight into the lists.
+    pub fn large(&mut self, seed: u64, count: u64, tabs: usize, disk: &mut Disk, out: &mut Out) -> Result<(), End> {
+        let e = self.e;
+        let n = count.min(e.limit as u64);
+        let number = |i: u64| (seed + i).wrapping_mul(0xD134_2543_DE82_EF95);
+        if self.style.direct {
+            let t = tabs as u64;
+            self.open(Phase::Casting, tabs, out);
+            for list in &mut self.items {
+                list.reserve(n as usize / tabs + 1);
+            }
+            self.rows.reserve(n as usize * e.row);
+            for i in 1..=n {
+                let style = i as usize % e.styles.len();
+                let mut row = [0; MAX_ROW];
+                row[..8].copy_from_slice(&number(i).to_be_bytes());
+                row[8] = style as u8 + 1;
+                if i % 7 != 0 {
+                    for k in 0..e.contests() {
+                        if e.styles[style] >> k & 1 == 1 {
+                            let c = (i + k as u64 + 1) % e.choices[k] as u64;
+                            row[9 + 4 * k..13 + 4 * k].copy_from_slice(&(1u32 << c).to_be_bytes());
+                        }
+                    }
+                }
+                self.queue(1 + (i % t) as usize, number(i), &row);
+            }
+            self.close(out)?;
+            self.open(Phase::Withdrawing, tabs, out);
+            for i in (10..=n).step_by(10) {
+                self.numbers[(i / 10 % t) as usize].push(number(i));
+            }
+            self.close(out)?;
+            self.checkpoint(disk, out)?;
+            self.store.tally(e, &mut out.text);
+            return if out.spill() { Ok(()) } else { Err(End::Write) };
+        }
+        let mut text = Vec::with_capacity(WIDTH);
+        let mut index = 0;
+        let mut say = |s: &mut Session, text: &[u8], out: &mut Out| {
+            index += 1;
+            s.line(text, index, disk, out)
+        };
+        let put = |text: &mut Vec<u8>, word: &[u8], v: u64| {
+            text.extend_from_slice(word);
+            put_number(text, v);
+        };
+        put(&mut text, b"open cast ", tabs as u64);
+        say(self, &text, out)?;
+        for i in 1..=n {
+            text.clear();
+            put(&mut text, b"cast ", 1 + i % tabs as u64);
+            put(&mut text, b" ", number(i));
+            let style = i as usize % e.styles.len();
+            put(&mut text, b" ", style as u64 + 1);
+            for k in 0..e.contests() {
+                text.push(if k == 0 { b' ' } else { b'/' });
+                if i % 7 == 0 || e.styles[style] >> k & 1 == 0 {
+                    text.push(b'-');
+                } else {
+                    put_number(&mut text, 1 + (i + k as u64 + 1) % e.choices[k] as u64);
+                }
+            }
+            say(self, &text, out)?;
+        }
+        say(self, b"close", out)?;
+        text.clear();
+        put(&mut text, b"open withdraw ", tabs as u64);
+        say(self, &text, out)?;
+        for i in (10..=n).step_by(10) {
+            text.clear();
+            put(&mut text, b"withdraw ", 1 + i / 10 % tabs as u64);
+            put(&mut text, b" ", number(i));
+            say(self, &text, out)?;
+        }
+        say(self, b"close", out)?;
+        say(self, b"checkpoint", out)?;
+        say(self, b"tally", out)
+    }
+}
+
+pub enum BuildEnd {
+    Done(Vec<u8>),
+    Bad(u64),
+    TooLong,
+    ReadFault,
+}
+
+/// The record lines of the input into an image.
+pub fn build(e: &Election) -> BuildEnd {
+    let mut lines = Lines::new();
+    let mut cells = vec![0u64; e.cells];
+    let mut at: Vec<u32> = vec![0; e.cells];
+    let mut rows: Vec<u8> = Vec::new();
+    let (mut held, mut index) = (0, 0);
+    loop {
+        let range = match lines.next(|| true) {
+            Next::Whole(r) => r,
+            Next::TooWide => return BuildEnd::Bad(index + 1),
+            Next::End => break,
+            Next::TooLong => return BuildEnd::TooLong,
+            Next::Fault => return BuildEnd::ReadFault,
+        };
+        index += 1;
+        let mut row = [0; MAX_ROW];
+        let Ok(number) = e.read_record(lines.line(range), &mut row) else { return BuildEnd::Bad(index) };
+        let mut p = e.order.home(number);
+        while cells[p] > number {
+            p += 1;
+        }
+        if cells[p] == number || held == e.limit {
+            return BuildEnd::Bad(index);
+        }
+        let (mut v, mut r) = (number, rows.len() as u32);
+        rows.extend_from_slice(&row[..e.row]);
+        held += 1;
+        loop {
+            if cells[p] < v {
+                std::mem::swap(&mut cells[p], &mut v);
+                std::mem::swap(&mut at[p], &mut r);
+                if v == 0 {
+                    break;
+                }
+            }
+            p += 1;
+        }
+    }
+    let mut image = vec![0; e.bank];
+    image[..32].copy_from_slice(&e.header());
+    for (p, v) in cells.iter().enumerate() {
+        if *v != 0 {
+            let row = at[p] as usize;
+            image[32 + p * e.row..32 + (p + 1) * e.row].copy_from_slice(&rows[row..row + e.row]);
+        }
+    }
+    BuildEnd::Done(image)
+}

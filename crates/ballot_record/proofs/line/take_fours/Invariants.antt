@@ -1,0 +1,14 @@
+use Rattle.std.proofs.Common.{◌≡◌, ◌-◌, ◌≤◌, ◌⊎◌, None}
+use Rattle.ballot_record.specs.LineReading.{digits_at}
+use Rattle.ballot_record.proofs.LineSets.{rest_past}
+use Rattle.ballot_record.proofs.line.take_fours.Given as goal
+
+-- what is left goes on with the value so far as the whole does with none
+abbrev pub invariant-loop-value : goal.invariant-loop-value
+invariant-loop-value l = record {
+  some : (None ≡ rest_past 48 l.rest) ⊎ (1 ≤ l.value);
+  goes_on : digits_at l.limit l.value l.rest ≡ digits_at l.limit 0 l.bytes;
+}
+
+abbrev pub decreases-loop-value : goal.decreases-loop-value
+decreases-loop-value l = l.room - l.value

@@ -1,0 +1,107 @@
+-- Ballots in ascending order: the same ballots, and the list itself where it ascends.
+use Rattle.std.proofs.Common.{◌≡◌, ◌≢◌, ℕ, ◌<◌, ◌≤◌, inl, inr, List, [], ◌∷◌, length, get_or, map, refl, sym, ap, ◌∙◌, subst, arith}
+use Rattle.std.proofs.lemmas.Bool.{cases_lt, cond-true, cond-false, le-leb, lt-leb}
+use Rattle.std.proofs.lemmas.List.{get_or-map, length-map}
+use Rattle.std.proofs.lemmas.List.Sorted.{Contains-permutation, IsPermutation-cons, IsPermutation-map, IsPermutation-middle, IsPermutation-refl, IsPermutation-sym, IsPermutation-trans}
+use Rattle.std.specs.List.{AllPairs}
+use Rattle.std.specs.List.Sorted.{IsNonDecreasing, IsNonDecreasingBy, IsPermutation}
+use Rattle.ballot_record.proofs.BallotNumbers.{length-numbers_of, no_ballot, number_at, pairs_of_numbers, pairs_of_ballots}
+use Rattle.ballot_record.proofs.BallotSets.{Ascend, same_in_order}
+use Rattle.ballot_record.proofs.Lookups.{AreDistinct, ballot_of-same}
+use Rattle.body_store.specs.ByNumber.{put_by_number, by_number}
+use Rattle.layout_def.proofs.Ascending as Numbers
+use Rattle.layout_def.proofs.LaidOut.{ascending_from_rising, rising_in_order}
+use Rattle.store_spec.specs.Ballot.{Ballot, ballot_of, numbers_of}
+use Rattle.store_spec.specs.Layout.{ascending, put_in_order}
+
+put_first : (b x : Ballot) (xs : List Ballot) → b.number ≤ x.number → put_by_number b (x ∷ xs) ≡ b ∷ x ∷ xs
+put_first b x xs le = cond-true _ _ _ (le-leb b.number x.number le)
+
+put_later : (b x : Ballot) (xs : List Ballot) → x.number < b.number → put_by_number b (x ∷ xs) ≡ x ∷ put_by_number b xs
+put_later b x xs lt = cond-false _ _ _ (lt-leb b.number x.number lt)
+
+put-IsPermutation : (b : Ballot) (xs : List Ballot) → IsPermutation (b ∷ xs) (put_by_number b xs)
+put-IsPermutation b [] = IsPermutation-refl (b ∷ [])
+put-IsPermutation b (x ∷ xs) =
+    let whole = b ∷ x ∷ xs in
+    elim (cases_lt x.number b.number) [
+      | inl later ↦
+          subst (λ (ys : List Ballot). IsPermutation whole ys) (sym (put_later b x xs later))
+          (IsPermutation-trans whole (x ∷ b ∷ xs) (x ∷ put_by_number b xs) (IsPermutation-middle (b ∷ []) x xs)
+          (IsPermutation-cons x (b ∷ xs) (put_by_number b xs) (put-IsPermutation b xs)))
+      | inr first ↦ subst (λ (ys : List Ballot). IsPermutation whole ys) (sym (put_first b x xs first))
+          (IsPermutation-refl whole)
+    ]
+
+pub by_number-IsPermutation : (ballots : List Ballot) → IsPermutation ballots (by_number ballots)
+by_number-IsPermutation [] = IsPermutation-refl []
+by_number-IsPermutation (b ∷ ballots) =
+    IsPermutation-trans (b ∷ ballots) (b ∷ by_number ballots) (put_by_number b (by_number ballots))
+    (IsPermutation-cons b ballots (by_number ballots) (by_number-IsPermutation ballots))
+    (put-IsPermutation b (by_number ballots))
+
+numbers_put : (b : Ballot) (xs : List Ballot) → numbers_of (put_by_number b xs) ≡ put_in_order b.number (numbers_of xs)
+numbers_put b [] = refl
+numbers_put b (x ∷ xs) =
+    elim (cases_lt x.number b.number) [
+      | inl later ↦
+          ap numbers_of (put_later b x xs later)
+          ∙ ap (λ ns. x.number ∷ ns) (numbers_put b xs)
+          ∙ sym (Numbers.put_later b.number x.number (numbers_of xs) later)
+      | inr first ↦ ap numbers_of (put_first b x xs first) ∙ sym
+          (Numbers.put_first b.number x.number (numbers_of xs) first)
+    ]
+
+numbers_by_number : (ballots : List Ballot) → numbers_of (by_number ballots) ≡ ascending (numbers_of ballots)
+numbers_by_number [] = refl
+numbers_by_number (b ∷ ballots) = numbers_put b (by_number ballots) ∙ ap (put_in_order b.number)
+    (numbers_by_number ballots)
+
+pub by_number-ascends : (ballots : List Ballot) → AreDistinct ballots → Ascend (by_number ballots)
+by_number-ascends ballots apart =
+    pairs_of_ballots (λ a b. a < b) (by_number ballots)
+    (subst (λ (ns : List ℕ). AllPairs (λ a b. a < b) ns) (sym (numbers_by_number ballots))
+    (ascending_from_rising _ (Numbers.ascending_distinct _ (pairs_of_numbers (λ a b. a ≢ b) ballots apart))))
+
+-- the one list of these ballots that ascends
+pub by_number-is : (xs ys : List Ballot) → AreDistinct xs → Ascend ys → IsPermutation xs ys → by_number xs ≡ ys
+by_number-is xs ys apart up p =
+    same_in_order (by_number xs) ys (by_number-ascends xs apart) up
+    (IsPermutation-trans (by_number xs) xs ys (IsPermutation-sym xs (by_number xs) (by_number-IsPermutation xs)) p)
+
+pub ballot_of-by_number : (ballots : List Ballot) (number : ℕ) → AreDistinct ballots
+    → ballot_of ballots number ≡ ballot_of (by_number ballots) number
+ballot_of-by_number ballots number apart =
+    let p = by_number-IsPermutation ballots in
+    ballot_of-same ballots (by_number ballots) number apart
+    (λ b. Contains-permutation ballots (by_number ballots) b p)
+    (λ b. Contains-permutation (by_number ballots) ballots b (IsPermutation-sym ballots (by_number ballots) p))
+
+-- ---- what a sort by the number of a ballot gives
+
+rises_mapped : {X : Type 0} (f : X → Ballot) (xs : List X) → IsNonDecreasingBy (λ x. (f x).number) xs
+    → IsNonDecreasing (numbers_of (map f xs))
+rises_mapped f [] up = λ i j d le lt. absurd (omega arith)
+rises_mapped f (x ∷ xs) up = λ i j d le lt.
+    let all = x ∷ xs in
+    let size : length (numbers_of (map f all)) ≡ length all = length-numbers_of (map f all) ∙ length-map all f in
+    let as_many = length-map all f in
+    let left : get_or (numbers_of (map f all)) i d ≡ (f (get_or all i x)).number =
+    number_at (map f all) i d (omega arith) ∙ ap (λ (b : Ballot). b.number)
+    (get_or-map f all i x no_ballot (omega arith)) in
+    let right : get_or (numbers_of (map f all)) j d ≡ (f (get_or all j x)).number =
+    number_at (map f all) j d (omega arith) ∙ ap (λ (b : Ballot). b.number)
+    (get_or-map f all j x no_ballot (omega arith)) in
+    let least = up i j x le (omega arith) in
+    omega arith
+
+pub sorted_is_by_number : {X : Type 0} (f : X → Ballot) (xs ys : List X) (ballots : List Ballot) → map f xs ≡ ballots
+    → IsPermutation xs ys → IsNonDecreasingBy (λ x. (f x).number) ys → AreDistinct ballots
+    → map f ys ≡ by_number ballots
+sorted_is_by_number f xs ys ballots same p up apart =
+    let moved : IsPermutation ballots (map f ys) = subst (λ (bs : List Ballot). IsPermutation bs (map f ys)) same
+    (IsPermutation-map f xs ys p) in
+    let distinct = Numbers.distinct-IsPermutation (numbers_of ballots) (numbers_of (map f ys))
+    (IsPermutation-map (λ b. b.number) ballots (map f ys) moved) (pairs_of_numbers (λ a b. a ≢ b) ballots apart) in
+    let rising = ascending_from_rising _ (rising_in_order (numbers_of (map f ys)) (rises_mapped f ys up) distinct) in
+    sym (by_number-is ballots (map f ys) apart (pairs_of_ballots (λ a b. a < b) (map f ys) rising) moved)
