@@ -85,12 +85,11 @@ pub fn take_cell(bytes: &[u8], election: &Election) -> CellRead
         × ((b : Ballot) → ¬ IsCellOf election.now bytes.now b)) }
 {
     let contests = election.contests();
-    if are_zero(bytes) {
-        return CellRead::Empty;
-    }
     let record = record_at(bytes, contests);
-    if record.valid(election) {
+    if record.valid_up_to(election, contests) {
         CellRead::Held(record)
+    } else if are_zero(bytes) {
+        CellRead::Empty
     } else {
         CellRead::Bad
     }

@@ -1,18 +1,21 @@
 -- What is known of the inside of a store, and of the records of the next.
-use Rattle.std.proofs.Common.{◌≡◌, ℕ, ◌<◌, ◌≤◌, List, ◌++◌, length, get_or, sym, ap, ◌∙◌, subst, arith}
-use Rattle.std.proofs.lemmas.List.{get_or_append_left, length-map, map-append}
-use Rattle.std.proofs.lemmas.List.Elements.{Contains-get_or}
+use Rattle.std.proofs.Common.{◌≡◌, ◌≢◌, ◌==◌, ℕ, ◌<◌, ◌≤◌, true, not, List, ◌++◌, drop, length, get_or, sym, ap, ◌∙◌, subst, arith}
+use Rattle.std.proofs.Math.Seq.{drop-append_seam}
+use Rattle.std.proofs.lemmas.Bool.{true≢false}
+use Rattle.std.proofs.lemmas.List.{get_or_append_left, get_or_default, length-map, map-append}
+use Rattle.std.proofs.lemmas.List.Elements.{All-contains, Contains-get_or, filter_passes}
 use Rattle.std.proofs.lemmas.List.Sorted.{IsPermutation-append_left, IsPermutation-sym, IsPermutation-trans, length_permutation}
-use Rattle.std.specs.List.{Contains}
+use Rattle.std.specs.List.{All, Contains, list_any}
 use Rattle.std.specs.List.Sorted.{IsPermutation}
-use Rattle.ballot_record.proofs.BallotNumbers.{length-numbers_of}
+use Rattle.ballot_record.proofs.BallotNumbers.{ballot_with, length-numbers_of}
 use Rattle.ballot_record.specs.Record.{ballot}
 use Rattle.ballot_record.specs.declared.record.Record.{Record}
-use Rattle.body_store.proofs.BallotSets.{MayHold, cells_of-IsPermutation, held_layout, may_hold-IsPermutation, may_hold_by_number, may_hold_without, without_by_number}
+use Rattle.body_store.proofs.BallotSets.{MayHold, cells_of-IsPermutation, held_layout, may_hold-IsPermutation, may_hold_by_number, may_hold_without, stored_layout, stored_without, without_by_number}
 use Rattle.body_store.proofs.ByNumber.{by_number-IsPermutation}
 use Rattle.body_store.proofs.CellPlaces.{holds_once, lead_on}
+use Rattle.body_store.proofs.Lookups.{is_among}
 use Rattle.body_store.specs.ByNumber.{by_number}
-use Rattle.body_store.specs.Contents.{ballots_of, ballots_without}
+use Rattle.body_store.specs.Contents.{Contents, IsStored, ballots_of, ballots_without}
 use Rattle.body_store.specs.Kept.{IsKept, contents_of}
 use Rattle.body_store.specs.Places.{HoldsOnce, LeadTo}
 use Rattle.body_store.specs.declared.Closed.TheInside.{Inside}
@@ -46,6 +49,13 @@ few_records e records election held =
     let few = held.within_limit in
     let limit = election.few_ballots in
     omega arith
+
+-- the records that a place names are few
+pub few_numbers : (e : Election) (records : List Record) → IsElection e → MayHold e (ballots_of records)
+    → length (numbers_of (ballots_of records)) ≤ 32768
+few_numbers e records election held =
+    let few = few_records e records election held in
+    omega (arith, length-numbers_of (ballots_of records), length-map records ballot)
 
 pub once_in : (e : Election) (records : List Record) (cells : List ℕ) → IsElection e → MayHold e (ballots_of records)
     → cells ≡ cells_of e (ballots_of records) → HoldsOnce (numbers_of (ballots_of records)) cells
@@ -84,10 +94,34 @@ merge_is e old new all cells ballots own joined listing few laid =
           (by_number-IsPermutation (ballots_of all));
     }
 
-numbers_joined : (old new : List Record)
+-- the same, where the records before are those of a store
+pub merging : (a : Inside) (store : Contents) (new all : List Record) (cells : List ℕ) → contents_of a ≡ store
+    → all ≡ a.records.items ++ new → IsListing store.election (store.ballots ++ ballots_of new)
+    → IsWithinLimit store.election (store.ballots ++ ballots_of new)
+    → cells ≡ cells_of store.election (store.ballots ++ ballots_of new)
+    → IsMerge a.election.value a.records.items new all cells
+merging a store new all cells view joined listing few laid =
+    let own : a.election.value ≡ store.election = ap (λ (store : Contents). store.election) view in
+    let given : MayHold a.election.value (store.ballots ++ ballots_of new) =
+    subst (λ (e : Election). MayHold e (store.ballots ++ ballots_of new)) (sym own)
+    (record { listing = listing; within_limit = few }) in
+    merge_is a.election.value a.records.items new all cells store.ballots
+    (ap (λ (store : Contents). store.ballots) view) joined given.listing given.within_limit
+    (laid ∙ ap (λ e. cells_of e (store.ballots ++ ballots_of new)) (sym own))
+
+pub numbers_joined : (old new : List Record)
     → numbers_of (ballots_of (old ++ new)) ≡ numbers_of (ballots_of old) ++ numbers_of (ballots_of new)
 numbers_joined old new = ap numbers_of (map-append ballot old new) ∙ map-append (λ (b : Ballot). b.number)
     (ballots_of old) (ballots_of new)
+
+pub last_numbers : (old new : List Record)
+    → drop (length old) (numbers_of (ballots_of (old ++ new))) ≡ numbers_of (ballots_of new)
+last_numbers old new =
+    let size : length old ≡ length (numbers_of (ballots_of old)) =
+    sym (length-numbers_of (ballots_of old) ∙ length-map old ballot) in
+    ap (drop (length old)) (numbers_joined old new)
+    ∙ ap (λ n. drop n (numbers_of (ballots_of old) ++ numbers_of (ballots_of new))) size
+    ∙ drop-append_seam (numbers_of (ballots_of old)) (numbers_of (ballots_of new))
 
 -- the old cells lead to the same records among all
 pub lead_among : (a : Inside) (new all : List Record) → IsKept a → all ≡ a.records.items ++ new
@@ -122,6 +156,20 @@ kept_size a kept = size_of a.election.value a.records.items a.cells.items kept.s
     (kept_records a kept) kept.cells
 
 -- ---- fewer records
+
+-- what was taken out stands in no cell of the rest
+pub none_stands : (store : Contents) (numbers cells : List ℕ) → IsStored store
+    → cells ≡ cells_of store.election (ballots_without store.ballots numbers)
+    → All (λ n. n ≢ 0 → ¬ Contains cells n) numbers
+none_stands store numbers cells stored laid k d within some held =
+    let v = get_or numbers k d in
+    let rest = ballots_without store.ballots numbers in
+    let test = λ (b : Ballot). not (list_any (λ number. number == b.number) numbers) in
+    let layout = stored_layout (record { election = store.election; ballots = rest }) (stored_without store numbers stored) in
+    let left = ballot_with rest v (layout.exactly.only v some (subst (λ (cs : List ℕ). Contains cs v) laid held)) in
+    let passes = All-contains (λ b. test b ≡ true) rest left.0 (filter_passes test store.ballots) left.1 in
+    let among = is_among numbers left.0.number k within (get_or_default numbers k 0 d within ∙ sym left.2) in
+    true≢false (sym passes ∙ ap not among)
 
 pub record IsRest (e : Election) (old : List Record) (numbers : List ℕ) (rest : List Record)
     (cells : List ℕ) : Type 0 where

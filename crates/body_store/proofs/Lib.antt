@@ -1,6 +1,7 @@
 mod CellPlaces
 mod Keeping
 mod Numbered
+mod Placed
 pub mod BallotSets
 pub mod Blank
 pub mod ByNumber

@@ -1,10 +1,10 @@
 -- What a binary search finds in numbers and in ballots that are in order.
-use Rattle.std.proofs.Common.{◌≡◌, ◌≢◌, ◌==◌, ◌||◌, ℕ, zero, suc, ◌+◌, ◌<◌, ◌≤◌, ⊎_elim, true, false, not, List, [], ◌∷◌, ◌++◌, length, get_or, take, filter, Some, None, Result, Ok, Err, MatchResult, refl, sym, ap, ◌∙◌, arith}
-use Rattle.std.proofs.lemmas.Bool.{or_right, cond-true, cond-false, eq-eqb, ne_eqb, cases_lt}
+use Rattle.std.proofs.Common.{◌≡◌, ◌≢◌, ◌==◌, ◌||◌, ℕ, zero, suc, ◌+◌, ◌<◌, ◌≤◌, ⊎_elim, true, false, not, List, [], ◌∷◌, ◌++◌, length, get_or, take, filter, Option, Some, None, IfSome, is_some, subst, Result, Ok, Err, MatchResult, refl, sym, ap, ◌∙◌, arith}
+use Rattle.std.proofs.lemmas.Bool.{true≢false, or_right, cond-true, cond-false, eq-eqb, ne_eqb, cases_lt}
 use Rattle.std.proofs.lemmas.Bool.Decides.{nat_tests}
 use Rattle.std.proofs.lemmas.List.{append-nil, get_or-map, length-map, map_push}
 use Rattle.std.proofs.lemmas.List.Elements.{All-contains, filter-append}
-use Rattle.std.specs.List.{Contains, list_any}
+use Rattle.std.specs.List.{All, Contains, list_any}
 use Rattle.std.specs.Ordering.{nat_cmp, ordering_index}
 use Rattle.std.specs.declared.cmp.Ordering.TheVariants.{Less, Equal, Greater}
 use Rattle.std.specs.Result.{is_ok}
@@ -15,14 +15,15 @@ use Rattle.ballot_record.proofs.Lookups.{found_in, found_once, option_cases}
 use Rattle.body_store.proofs.Numbers.{number_of_record}
 use Rattle.body_store.specs.ByNumber.{AreNumbered}
 use Rattle.body_store.specs.Contents.{ballots_of, ballots_without}
+use Rattle.layout_def.proofs.OrderedCells.{contains_from_place}
 use Rattle.store_spec.specs.Ballot.{Ballot, ballot_of, numbers_of}
 
 -- ---- numbers
 
-found : (xs : List ℕ) (x i : ℕ) → i < length xs → get_or xs i 0 ≡ x → list_any (λ n. n == x) xs ≡ true
-found [] x i lt e = absurd (omega arith)
-found (y ∷ xs) x zero lt e = ap (λ b. b || list_any (λ n. n == x) xs) (eq-eqb y x e)
-found (y ∷ xs) x (suc i) lt e = or_right (y == x) _ (found xs x i (omega arith) e)
+pub is_among : (xs : List ℕ) (x i : ℕ) → i < length xs → get_or xs i 0 ≡ x → list_any (λ n. n == x) xs ≡ true
+is_among [] x i lt e = absurd (omega arith)
+is_among (y ∷ xs) x zero lt e = ap (λ b. b || list_any (λ n. n == x) xs) (eq-eqb y x e)
+is_among (y ∷ xs) x (suc i) lt e = or_right (y == x) _ (is_among xs x i (omega arith) e)
 
 not_found : (xs : List ℕ) (x : ℕ) → ((k : ℕ) → k < length xs → get_or xs k 0 ≢ x) → list_any (λ n. n == x) xs ≡ false
 not_found [] x none = refl
@@ -34,11 +35,20 @@ pub any_from_search : (xs : List ℕ) (x : ℕ) (r : Result ℕ ℕ)
     → MatchResult r (λ i. (i < length xs) × (get_or xs i 0 ≡ x))
     (λ i. (i ≤ length xs) × ((k : ℕ) → k < i → get_or xs k 0 < x) ×
     ((k : ℕ) → i ≤ k → k < length xs → x < get_or xs k 0)) → is_ok r ≡ list_any (λ n. n == x) xs
-any_from_search xs x (Ok i) h = sym (found xs x i h.0 h.1)
+any_from_search xs x (Ok i) h = sym (is_among xs x i h.0 h.1)
 any_from_search xs x (Err i) h = sym (not_found xs x (λ k lt. ⊎_elim
     (λ (before : k < i). let less = h.1 k before in λ e. omega arith)
     (λ (after : i ≤ k). let more = h.2 k after lt in λ e. omega arith)
     (cases_lt k i)))
+
+-- a number that stands in a cell is none of those that stand in none
+pub not_gone : (cells gone : List ℕ) (number : ℕ) (found : Option ℕ)
+    → IfSome found (λ cell. (cell < length cells) × (get_or cells cell 0 ≡ number)) → is_some found ≡ true
+    → number ≢ 0 → All (λ n. n ≢ 0 → ¬ Contains cells n) gone → false ≡ list_any (λ n. n == number) gone
+not_gone cells gone number (Some cell) there is some none =
+    sym (not_found gone number (λ k lt same. none k 0 lt (λ z. some (sym same ∙ z))
+    (subst (λ (v : ℕ). Contains cells v) (sym same) (contains_from_place cells number cell there.0 there.1))))
+not_gone cells gone number None there is some none = absurd (true≢false (sym is))
 
 -- ---- the ballot with a number
 

@@ -1,12 +1,13 @@
 -- Numbers that are listed with their places, and what stood in other cells before.
-use Rattle.std.proofs.Common.{◌≡◌, ◌≢◌, ℕ, ◌+◌, ◌<◌, ◌≤◌, ⊎_elim, List, [], ◌∷◌, ◌++◌, length, get_or, map, refl, sym, ap, ◌∙◌, subst, arith}
-use Rattle.std.proofs.lemmas.Bool.{cases_lt}
-use Rattle.std.proofs.lemmas.List.{get_or-map, length-map, map_push}
+use Rattle.std.proofs.Common.{◌≡◌, ◌≢◌, ℕ, ◌+◌, ◌<◌, ◌≤◌, ⊎_elim, List, [], ◌∷◌, ◌++◌, length, get_or, set, map, refl, sym, ap, ◌∙◌, subst, arith}
+use Rattle.std.proofs.lemmas.Bool.{cases_lt, cases_order}
+use Rattle.std.proofs.lemmas.Grind.{get_or-set_at}
+use Rattle.std.proofs.lemmas.List.{get_or-map, get_or-set_other, length-map, map_push}
 use Rattle.std.proofs.lemmas.List.Elements.{All-contains, All-push, Contains-append_left, Contains-push}
 use Rattle.std.proofs.lemmas.List.Sorted.{Contains-permutation, IsPermutation-map}
 use Rattle.std.specs.List.{Contains}
 use Rattle.std.specs.List.Sorted.{IsPermutation}
-use Rattle.body_store.specs.Places.{AreRight, HoldsOnce, LeadTo, Lists}
+use Rattle.body_store.specs.Places.{AreRight, HoldsOnce, LeadTo, Lists, no_place}
 use Rattle.body_store.specs.declared.places.Numbered.{Numbered}
 use Rattle.layout_def.proofs.OrderedCells.{contains_from_place, place_from_contains, place_within}
 
@@ -106,4 +107,50 @@ moved_same old old_places cells was listed n h stays = record {
       absurd (stays (subst (λ (k : ℕ). (get_or old k 0 ≢ 0) × (get_or old k 0 ≢ get_or cells k 0)) last
       (some, changed))))
       (cases_lt cell n);
+}
+
+pub moved_on : (old old_places cells : List ℕ) (was listed : List Numbered) (n m : ℕ)
+    → MovedUpTo old old_places cells was listed n
+    → ((k : ℕ) → n ≤ k → k < m → get_or old k 0 ≡ get_or cells k 0) → MovedUpTo old old_places cells was listed m
+moved_on old old_places cells was listed n m h same = record {
+  right = h.right;
+  more = h.more;
+  moved = λ cell lt some changed.
+      ⊎_elim
+      (λ (before : cell < n). h.moved cell before some changed)
+      (λ (after : n ≤ cell). absurd (changed (same cell after lt)))
+      (cases_lt cell n);
+}
+
+-- ---- the places that are taken from cells, cell by cell
+
+pub record LeftUpTo (old old_places cells places : List ℕ) (n : ℕ) : Type 0 where
+  pub changed : (cell : ℕ) → cell < n → get_or old cell 0 ≢ get_or cells cell 0 → get_or places cell 0 ≡ no_place
+  pub same : (cell : ℕ) → get_or old cell 0 ≡ get_or cells cell 0 → get_or places cell 0 ≡ get_or old_places cell 0
+
+pub left_none : (old old_places cells places : List ℕ) (n : ℕ) → places ≡ old_places
+    → ((k : ℕ) → 0 ≤ k → k < n → get_or old k 0 ≡ get_or cells k 0) → LeftUpTo old old_places cells places n
+left_none old old_places cells places n own same = record {
+  changed = λ cell lt changed. absurd (changed (same cell (omega arith) lt));
+  same = λ cell equal. ap (λ ps. get_or ps cell 0) own;
+}
+
+pub left_more : (old old_places cells places : List ℕ) (n m : ℕ) → LeftUpTo old old_places cells places n
+    → n < length places → get_or old n 0 ≢ get_or cells n 0
+    → ((k : ℕ) → n + 1 ≤ k → k < m → get_or old k 0 ≡ get_or cells k 0)
+    → LeftUpTo old old_places cells (set places n no_place) m
+left_more old old_places cells places n m h within other same = record {
+  changed = λ cell lt changed.
+      ⊎_elim
+      (λ (here : cell ≡ n). get_or-set_at places n cell no_place 0 here within)
+      (λ apart. ⊎_elim
+      (λ (before : cell < n).
+      let ne : cell ≢ n = omega arith in
+      get_or-set_other places n cell no_place 0 ne ∙ h.changed cell before changed)
+      (λ (after : n < cell). absurd (changed (same cell (omega arith) lt)))
+      apart)
+      (cases_order cell n);
+  same = λ cell equal.
+      let ne : cell ≢ n = λ here. other (subst (λ (k : ℕ). get_or old k 0 ≡ get_or cells k 0) here equal) in
+      get_or-set_other places n cell no_place 0 ne ∙ h.same cell equal;
 }

@@ -10,7 +10,7 @@ mod tests;
 ghost use Rattle.body_store.specs.Contents.{Contents, IsStored, ballots_of, ballots_without};
 ghost use Rattle.body_store.specs.ByNumber.{by_number};
 ghost use Rattle.body_store.specs.Places.{LeadTo};
-ghost use Rattle.std.specs.Prelude.{◌≡◌, ◌++◌, ◌<◌, List, [], IfOk, IsPermutation, length, map, option_map, slice_index};
+ghost use Rattle.std.specs.Prelude.{◌≡◌, ◌++◌, ◌<◌, List, [], IfOk, IsPermutation, OnErr, OnOk, length, map, option_map, slice_index};
 ghost use Rattle.ballot_record.specs.Record.{ballot};
 ghost use Rattle.store_spec.specs.Ballot.{IsListing, IsWithinLimit, ballot_of, numbers_of};
 ghost use Rattle.store_spec.specs.Election.{IsElection, cell_count};
@@ -20,6 +20,7 @@ ghost use Rattle.store_spec.specs.Layout.{IsLayout, numbers_in};
 
 use ballot_record::{Election, Record};
 use outside_io::Memory;
+use records::order_of;
 use std::alloc::Global;
 use std::marker::Model;
 
@@ -53,7 +54,7 @@ impl Closed {
     {
         let records = Vec::new(alloc);
         let cells = records::layout(alloc, election, &records)?;
-        let places = places::of_all(alloc, &records, &cells)?;
+        let places = places::of_all(alloc, &order_of(election), &records, &cells)?;
         kept(alloc, election, records, cells, places)
     }
 
@@ -71,7 +72,7 @@ impl Closed {
         ensures stored { IfOk result IsStored }
     {
         let cells = records::layout(alloc, election, &ballots)?;
-        let places = places::of_all(alloc, &ballots, &cells)?;
+        let places = places::of_all(alloc, &order_of(election), &ballots, &cells)?;
         kept(alloc, election, ballots, cells, places)
     }
 
@@ -162,36 +163,38 @@ impl Closed {
         records::in_cell(&self.records, &self.cells, &self.places, cell)
     }
 
-    /// The store that also holds these ballots, whose numbers are new to it. `cells` is the layout of all.
-    pub fn merged(
-        &self,
+    /// Adds ballots whose numbers are new to the store. `cells` is the layout of all. After `Memory` it is as it was.
+    pub fn merge(
+        &mut self,
         alloc: Global,
-        election: &Election,
-        ballots: &[Record],
+        ballots: Vec<Record>,
         cells: Vec<u64>,
-    ) -> Result<Closed, Memory>
-        requires own { election.now ≡ self.now.election }
-        requires listing { IsListing election.now (self.now.ballots ++ ballots_of ballots.now) }
-        requires within_limit { IsWithinLimit election.now
-            (self.now.ballots ++ ballots_of ballots.now) }
+    ) -> Result<(), Memory>
+        requires listing { IsListing self.old.election
+            (self.old.ballots ++ ballots_of ballots.items) }
+        requires within_limit { IsWithinLimit self.old.election
+            (self.old.ballots ++ ballots_of ballots.items) }
         requires layout { cells.items
-            ≡ cells_of election.now (self.now.ballots ++ ballots_of ballots.now) }
-        ensures election { IfOk result (λ store. store.election ≡ election.now) }
-        ensures union { IfOk result
-            (λ store. IsPermutation (self.now.ballots ++ ballots_of ballots.now) store.ballots) }
-        ensures stored { IfOk result IsStored }
+            ≡ cells_of self.old.election (self.old.ballots ++ ballots_of ballots.items) }
+        ensures election { self.new.election ≡ self.old.election }
+        ensures union { OnOk result
+            (IsPermutation (self.old.ballots ++ ballots_of ballots.items) self.new.ballots) }
+        ensures unchanged { OnErr result (self.new ≡ self.old) }
+        ensures stored { IsStored self.new }
     {
-        let held = &self.records;
-        let records = records::joined(alloc, held, ballots)?;
         let places = places::renewed(
             alloc,
-            &records,
-            held.len(),
+            &order_of(&self.election),
+            &self.records,
+            &ballots,
             &self.cells,
             &self.places,
             &cells,
         )?;
-        kept(alloc, election, records, cells, places)
+        records::append(&mut self.records, ballots)?;
+        self.cells = cells;
+        self.places = places;
+        Ok(())
     }
 
     /// The store without the ballots of these numbers. `cells` is the layout of the rest.
@@ -211,8 +214,9 @@ impl Closed {
               ballots = ballots_without self.now.ballots numbers.now;
             }) }
     {
-        let records = records::without(alloc, &self.records, numbers)?;
-        let places = places::of_all(alloc, &records, &cells)?;
+        let order = order_of(election);
+        let records = records::without(alloc, &order, &self.records, numbers, &cells)?;
+        let places = places::of_all(alloc, &order, &records, &cells)?;
         kept(alloc, election, records, cells, places)
     }
 }

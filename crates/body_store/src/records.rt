@@ -1,5 +1,4 @@
-//! Lists of records: their layout, the one in a cell or with a number, two joined, those without some numbers, and all
-//! in order.
+//! Lists of records: their layout, the one in a cell or with a number, those without some numbers, and all in order.
 
 ghost use Rattle.ballot_record.specs.Record.{ballot};
 ghost use Rattle.body_store.specs.ByNumber.{AreNumbered, by_number};
@@ -7,11 +6,12 @@ ghost use Rattle.body_store.specs.Contents.{ballots_of, ballots_without};
 ghost use Rattle.body_store.specs.Places.{LeadTo};
 ghost use Rattle.std.specs.List.{list_any};
 ghost use Rattle.std.specs.List.Sorted.{IsNonDecreasing};
-ghost use Rattle.std.specs.Prelude.{◌≡◌, ◌==◌, ◌++◌, ◌<◌, IfOk, length, map, option_map, slice_index};
+ghost use Rattle.std.specs.Prelude.{◌≡◌, ◌≢◌, ◌==◌, ◌++◌, ◌<◌, All, Contains, IfOk, OnErr, OnOk, length, map, option_map, slice_index};
 ghost use Rattle.store_spec.specs.Ballot.{IsListing, IsWithinLimit, ballot_of, numbers_of};
 ghost use Rattle.store_spec.specs.Election.{IsElection};
 ghost use Rattle.store_spec.specs.Image.{cells_of};
 
+use crate::places::near_home;
 use ballot_record::{Election, Record};
 use layout_def::{build, place_of};
 use outside_io::Memory;
@@ -19,7 +19,7 @@ use probe_order::Salted;
 use std::alloc::Global;
 
 /// Where the numbers of an election's ballots belong.
-fn order_of(election: &Election) -> Salted
+pub fn order_of(election: &Election) -> Salted
     ensures bits { result.bits ≡ election.now.bits }
     ensures salt { result.salt ≡ election.now.salt }
     ensures election { IsElection election.now }
@@ -104,18 +104,29 @@ pub fn in_order(alloc: Global, records: &[Record]) -> Result<Vec<&Record>, Memor
     Ok(listed)
 }
 
-/// The records of one list and then those of another.
-pub fn joined(alloc: Global, records: &[Record], more: &[Record]) -> Result<Vec<Record>, Memory>
-    ensures { IfOk result (λ all. all.items ≡ records.now ++ more.now) }
+/// Appends records. An empty list takes them over, with the memory that they have.
+pub fn append(records: &mut Vec<Record>, more: Vec<Record>) -> Result<(), Memory>
+    ensures joined { OnOk result (records.new.items ≡ records.old.items ++ more.items) }
+    ensures unchanged { OnErr result (records.new.items ≡ records.old.items) }
 {
-    let mut all = Vec::with_capacity(alloc, records.len() + more.len())?;
-    all.extend_from_slice(records)?;
-    all.extend_from_slice(more)?;
-    Ok(all)
+    if records.is_empty() {
+        *records = more;
+        return Ok(());
+    }
+    records.extend_from_slice(&more)?;
+    Ok(())
 }
 
-/// The records whose number is none of these, in their order.
-pub fn without(alloc: Global, records: &[Record], numbers: &[u64]) -> Result<Vec<Record>, Memory>
+/// The records whose number is none of these, in their order. None of these stands in the cells.
+pub fn without(
+    alloc: Global,
+    order: &Salted,
+    records: &[Record],
+    numbers: &[u64],
+    cells: &[u64],
+) -> Result<Vec<Record>, Memory>
+    requires some { AreNumbered (ballots_of records.now) }
+    requires gone { All (λ n. n ≢ 0 → ¬ Contains cells.now n) numbers.now }
     ensures { IfOk result
         (λ rest. ballots_of rest.items ≡ ballots_without (ballots_of records.now) numbers.now) }
 {
@@ -123,17 +134,20 @@ pub fn without(alloc: Global, records: &[Record], numbers: &[u64]) -> Result<Vec
     sorted.sort_unstable();
     let mut rest = Vec::with_capacity(alloc, records.len())?;
     for record in records {
-        if !contains(&sorted, record.number) {
+        if !is_gone(order, cells, &sorted, record.number) {
             rest.push(*record)?;
         }
     }
     Ok(rest)
 }
 
-/// Whether a number is one of these, which are in order.
-fn contains(sorted: &[u64], number: u64) -> bool
-    requires { IsNonDecreasing sorted.now }
+/// Whether a number is one of these, which are in order and stand in none of the cells. Nearly all others stand near
+/// their homes, and are not looked for among these.
+fn is_gone(order: &Salted, cells: &[u64], sorted: &[u64], number: u64) -> bool
+    requires rising { IsNonDecreasing sorted.now }
+    requires gone { All (λ n. n ≢ 0 → ¬ Contains cells.now n) sorted.now }
+    requires some { number ≢ 0 }
     ensures { result ≡ list_any (λ n. n == number) sorted.now }
 {
-    sorted.binary_search(&number).is_ok()
+    near_home(order, cells, number).is_none() && sorted.binary_search(&number).is_ok()
 }

@@ -89,13 +89,12 @@ fn one_more(rt: HostRuntime) {
     let three = blanks(rt.alloc(), &[1, 9, 14]).expect(&rt, "memory");
     let four = blanks(rt.alloc(), &[1, 9, 14, 22]).expect(&rt, "memory");
     let cells = records::layout(rt.alloc(), &election, &four).expect(&rt, "memory");
-    let store = Closed::from_records(rt.alloc(), &election, three).expect(&rt, "memory");
-    let merged = store
-        .merged(rt.alloc(), &election, &[blank(22)], cells)
-        .expect(&rt, "memory");
-    assert_eq!(rt; merged.len(), 4);
-    holds(&rt, merged.cells(), &[(4, 22), (5, 14), (6, 9), (7, 1)]);
-    is_found(&rt, rt.alloc(), &merged, &[1, 9, 14, 22]);
+    let mut store = Closed::from_records(rt.alloc(), &election, three).expect(&rt, "memory");
+    let new = blanks(rt.alloc(), &[22]).expect(&rt, "memory");
+    store.merge(rt.alloc(), new, cells).expect(&rt, "memory");
+    assert_eq!(rt; store.len(), 4);
+    holds(&rt, store.cells(), &[(4, 22), (5, 14), (6, 9), (7, 1)]);
+    is_found(&rt, rt.alloc(), &store, &[1, 9, 14, 22]);
 }
 
 #[test]

@@ -1,5 +1,5 @@
 -- The first cells of a bank, as they are kept once they were read.
-use Rattle.std.specs.Prelude.{◌≡◌, ℕ, ◌-◌, ◌≤◌, List, ◌++◌, All, flat_map, length, vec_capacity}
+use Rattle.std.specs.Prelude.{◌≡◌, ℕ, ◌-◌, ◌≤◌, List, ◌++◌, All, flat_map, length, slice_index, take, vec_capacity}
 use Rattle.body_store.specs.Contents.{ballots_of}
 use Rattle.image_builder.specs.Feeding.{Completes}
 use Rattle.image_builder.specs.Reaches.{AreReaches}
@@ -20,14 +20,21 @@ pub record AreCells (e : Election) (numbers reaches : List ℕ) (ballots : List 
   pub few : IsWithinLimit e ballots
   pub reached : AreReaches numbers reaches
 
-abbrev pub AreKept : Election → CellsRead → Type 0
-AreKept e cells = AreCells e cells.numbers.items cells.reaches.items (ballots_of cells.records.items)
+-- the number in each of the cells that were read
+abbrev pub numbers_read : CellsRead → List ℕ
+numbers_read cells = take cells.count cells.numbers.items
 
--- room for all cells of a bank, and for as many records as a store may hold
+abbrev pub AreKept : Election → CellsRead → Type 0
+AreKept e cells = AreCells e (numbers_read cells) cells.reaches.items (ballots_of cells.records.items)
+
+-- a place for each cell of a bank, where those that come are taken to be empty, and room for as many records as a store
+-- may hold
 pub record HasSpace (e : Election) (cells : CellsRead) : Type 0 where
-  pub numbers : cell_count e ≤ vec_capacity cells.numbers
-  pub reaches : cell_count e ≤ vec_capacity cells.reaches
+  pub numbers : length cells.numbers.items ≡ cell_count e
+  pub reaches : length cells.reaches.items ≡ cell_count e
   pub records : e.limit ≤ vec_capacity cells.records
+  pub count : cells.count ≤ cell_count e
+  pub blank : (place : ℕ) → cells.count ≤ place → slice_index cells.numbers.items place ≡ 0
 
 -- the bytes of cells with these numbers
 abbrev pub bytes_in : Election → List ℕ → List Ballot → List ℕ
@@ -38,7 +45,7 @@ abbrev pub front_of : Election → List ℕ → List Ballot → List ℕ
 front_of e numbers ballots = header_of e ++ bytes_in e numbers ballots
 
 abbrev pub kept_front : Election → CellsRead → List ℕ
-kept_front e cells = front_of e cells.numbers.items (ballots_of cells.records.items)
+kept_front e cells = front_of e (numbers_read cells) (ballots_of cells.records.items)
 
 -- The last of these bytes makes whole what tells the fault, and every bank that begins with them is refused so.
 pub record IsRefusedAt (e : Election) (bytes : List ℕ) (fault : ImageFault) : Type 0 where

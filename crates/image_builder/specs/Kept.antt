@@ -1,7 +1,7 @@
 -- How a reader keeps what it was fed: a header, or a part of one; cells; and the part of a cell.
 use Rattle.std.specs.Prelude.{◌≡◌, ℕ, ◌<◌, ◌≤◌, List, [], ◌++◌, length}
 use Rattle.body_store.specs.Contents.{ballots_of}
-use Rattle.image_builder.specs.Cells.{AreCells, HasSpace, bytes_in}
+use Rattle.image_builder.specs.Cells.{AreCells, HasSpace, bytes_in, numbers_read}
 use Rattle.image_builder.specs.Feeding.{Feeding}
 use Rattle.image_builder.specs.declared.reader.ImageReader.TheInside.{Inside}
 use Rattle.store_spec.specs.Ballot.{Ballot}
@@ -13,8 +13,8 @@ fed_of e header numbers ballots part = header ++ bytes_in e numbers ballots ++ p
 
 abbrev pub feeding_of : Inside → Feeding
 feeding_of a = record {
-  election = a.election;
-  fed = fed_of a.election a.header a.cells.numbers.items (ballots_of a.cells.records.items) a.part.items;
+  election = a.election.value;
+  fed = fed_of a.election.value a.header (numbers_read a.cells) (ballots_of a.cells.records.items) a.part.items;
 }
 
 -- a whole header is the election's, and nothing stands behind one that is not whole
@@ -26,5 +26,5 @@ pub record AreParts (e : Election) (header numbers reaches : List ℕ) (ballots 
   pub within : length (fed_of e header numbers ballots part) ≤ bank_size e
 
 pub record IsKept (a : Inside) : Type 0 where
-  pub parts : AreParts a.election a.header a.cells.numbers.items a.cells.reaches.items (ballots_of a.cells.records.items) a.part.items
-  pub room : HasSpace a.election a.cells
+  pub parts : AreParts a.election.value a.header (numbers_read a.cells) a.cells.reaches.items (ballots_of a.cells.records.items) a.part.items
+  pub room : HasSpace a.election.value a.cells

@@ -1,10 +1,10 @@
 //! The cells of a bank, judged in their order as their bytes come.
 
 ghost use Rattle.body_store.specs.Contents.{ballots_of};
-ghost use Rattle.image_builder.specs.Cells.{AreKept, HasSpace, IsRefusedAt, kept_front};
+ghost use Rattle.image_builder.specs.Cells.{AreKept, HasSpace, IsRefusedAt, kept_front, numbers_read};
 ghost use Rattle.image_builder.specs.Feeding.{IsRefusedPiece};
 ghost use Rattle.image_builder.specs.Reaches.{AreReaches, IsReach};
-ghost use Rattle.std.specs.Prelude.{◌≡◌, ◌+◌, ◌<◌, ◌≤◌, ◌↔◌, ◌++◌, [], ◌∷◌, length, replicate, vec_len, vec_capacity, IfOk, IfErr, IfSome, IsSome, IsTrue, OnOk};
+ghost use Rattle.std.specs.Prelude.{◌≡◌, ◌+◌, ◌-◌, ◌<◌, ◌≤◌, ◌↔◌, ◌++◌, [], false, length, replicate, slice_set, IfOk, IfErr, IfSome, IsSome, IsTrue, OnOk};
 ghost use Rattle.store_spec.specs.Election.{IsElection, bank_size, cell_count, cell_size};
 ghost use Rattle.store_spec.specs.Home.{home_in};
 ghost use Rattle.store_spec.specs.Layout.{MayStand};
@@ -14,9 +14,12 @@ use ballot_record::{CellRead, Election, Record, take_cell};
 use probe_order::{Order, Salted};
 use std::alloc::{AllocError, Global};
 
-/// The cells that were read: the number in each, how far back it reaches, and the records in them.
+/// The cells that were read: the number in each, how far back it reaches, and the records in them. There is a place for
+/// each cell of a bank, and in those of cells that are still to be read stands 0, as in those of empty ones.
 #[derive(Drop)]
 pub struct CellsRead {
+    /// How many cells were read.
+    pub count: usize,
     pub numbers: Vec<u64>,
     pub reaches: Vec<usize>,
     pub records: Vec<Record>,
@@ -24,21 +27,20 @@ pub struct CellsRead {
 
 /// No cells, with room for those of a bank.
 pub fn no_cells(alloc: Global, election: &Election) -> Result<CellsRead, AllocError>
-    ensures numbers { IfOk result (λ cells. cells.numbers.items ≡ []) }
-    ensures reaches { IfOk result (λ cells. cells.reaches.items ≡ []) }
+    ensures numbers { IfOk result (λ cells. numbers_read cells ≡ []) }
     ensures records { IfOk result (λ cells. cells.records.items ≡ []) }
     ensures wide { IfOk result (HasSpace election.now) }
 {
     Ok(CellsRead {
-        numbers: Vec::with_capacity(alloc, election.cells())?,
-        reaches: Vec::with_capacity(alloc, election.cells())?,
+        count: 0,
+        numbers: vec![in alloc; 0; election.cells()]?,
+        reaches: vec![in alloc; 0; election.cells()]?,
         records: Vec::with_capacity(alloc, election.limit() as usize)?,
     })
 }
 
 /// Reads bytes of a bank behind some cells and the part of one more.
 pub fn read_cells(
-    alloc: Global,
     cells: &mut CellsRead,
     part: &mut Vec<u8>,
     bytes: &[u8],
@@ -66,7 +68,8 @@ pub fn read_cells(
     }
     read_cell(cells, part, election)?;
     let rest = read_whole_cells(cells, rest, election)?;
-    *part = Vec::from_slice(alloc, rest)?;
+    part.clear();
+    part.extend_from_slice(rest)?;
     Ok(())
 }
 
@@ -103,22 +106,22 @@ fn read_whole_cells<'a>(
         (IsRefusedPiece election.now (kept_front election.now cells.old) bytes.now) }
 {
     let size = election.cell_bytes();
-    let mut rest = bytes;
+    let mut rest = pass_empty(cells, bytes, election);
     while rest.len() >= size {
         let (cell, behind) = rest.split_at(size);
         read_cell(cells, cell, election)?;
-        rest = behind;
+        rest = pass_empty(cells, behind, election);
     }
     Ok(rest)
 }
 
-/// Reads one cell more. Most are empty.
+/// Reads one cell more.
 fn read_cell(cells: &mut CellsRead, bytes: &[u8], election: &Election) -> Result<(), ImageFault>
     requires election { IsElection election.now }
     requires size { length bytes.now ≡ cell_size election.now }
     requires kept { AreKept election.now cells.old }
     requires wide { HasSpace election.now cells.old }
-    requires room { length cells.old.numbers.items < cell_count election.now }
+    requires room { length (numbers_read cells.old) < cell_count election.now }
     ensures kept { OnOk result (AreKept election.now cells.new) }
     ensures wide { OnOk result (HasSpace election.now cells.new) }
     ensures fed { OnOk result
@@ -126,64 +129,92 @@ fn read_cell(cells: &mut CellsRead, bytes: &[u8], election: &Election) -> Result
     ensures refused { IfErr result
         (IsRefusedAt election.now (kept_front election.now cells.old ++ bytes.now)) }
 {
-    if is_blank(bytes) {
-        let place = cells.numbers.len();
-        add(cells, 0, place);
-        return Ok(());
+    let place = cells.count;
+    if read_right_cell(cells, bytes, election) {
+        Ok(())
+    } else {
+        Err(ImageFault::Damaged { cell: place as u32 })
     }
-    judge_cell(cells, bytes, election)
 }
 
-/// Reads one cell more, whatever stands in it.
-fn judge_cell(cells: &mut CellsRead, bytes: &[u8], election: &Election) -> Result<(), ImageFault>
+/// Reads one cell more where it is right, and answers whether it is.
+#[inline(never)]
+fn read_right_cell(cells: &mut CellsRead, bytes: &[u8], election: &Election) -> bool
     requires election { IsElection election.now }
     requires size { length bytes.now ≡ cell_size election.now }
     requires kept { AreKept election.now cells.old }
     requires wide { HasSpace election.now cells.old }
-    requires room { length cells.old.numbers.items < cell_count election.now }
-    ensures kept { OnOk result (AreKept election.now cells.new) }
-    ensures wide { OnOk result (HasSpace election.now cells.new) }
-    ensures fed { OnOk result
-        (kept_front election.now cells.new ≡ kept_front election.now cells.old ++ bytes.now) }
-    ensures refused { IfErr result
-        (IsRefusedAt election.now (kept_front election.now cells.old ++ bytes.now)) }
+    requires room { length (numbers_read cells.old) < cell_count election.now }
+    ensures kept { IsTrue result → AreKept election.now cells.new }
+    ensures wide { IsTrue result → HasSpace election.now cells.new }
+    ensures fed { IsTrue result
+        → kept_front election.now cells.new ≡ kept_front election.now cells.old ++ bytes.now }
+    ensures refused { (result ≡ false) → IsRefusedAt election.now
+        (kept_front election.now cells.old ++ bytes.now) (ImageFault.Damaged cells.old.count) }
 {
-    let place = cells.numbers.len();
     match take_cell(bytes, election) {
         CellRead::Empty => {
-            add(cells, 0, place);
-            Ok(())
+            cells.count += 1;
+            true
         }
         CellRead::Held(record) => {
             if cells.records.len() >= election.limit() as usize {
-                return Err(ImageFault::Damaged { cell: place as u32 });
+                return false;
             }
-            let Some(reach) = reach_of(election, &cells.numbers, &cells.reaches, record.number)
-            else {
-                return Err(ImageFault::Damaged { cell: place as u32 });
+            let before = &cells.numbers[..cells.count];
+            let Some(reach) = reach_of(election, before, &cells.reaches, record.number) else {
+                return false;
             };
             let number = record.number;
             cells.records.push_reserved(record);
-            add(cells, number, reach);
-            Ok(())
+            put(cells, number, reach);
+            true
         }
-        CellRead::Bad => Err(ImageFault::Damaged { cell: place as u32 }),
+        CellRead::Bad => false,
     }
 }
 
-/// Whether all of these bytes are 0. It may miss it where they are not as many as a cell has.
-fn is_blank(bytes: &[u8]) -> bool
-    ensures { IsTrue result → bytes.now ≡ replicate (length bytes.now) 0 }
+/// Passes the empty cells that stand first in these bytes, and answers the bytes behind them.
+fn pass_empty<'a>(cells: &mut CellsRead, bytes: &'a [u8], election: &Election) -> &'a [u8]
+    requires election { IsElection election.now }
+    requires kept { AreKept election.now cells.old }
+    requires wide { HasSpace election.now cells.old }
+    requires within { length (kept_front election.now cells.old ++ bytes.now)
+        ≤ bank_size election.now }
+    ensures kept { AreKept election.now cells.new }
+    ensures wide { HasSpace election.now cells.new }
+    ensures fed { kept_front election.now cells.new ++ result.now
+        ≡ kept_front election.now cells.old ++ bytes.now }
+    ensures shorter { length result.now ≤ length bytes.now }
+{
+    let size = election.cell_bytes();
+    let zeros = bytes.len() - past_zeros(bytes).len();
+    if zeros < size {
+        return bytes;
+    }
+    let count = zeros / size;
+    cells.count += count;
+    let (_, behind) = bytes.split_at(count * size);
+    behind
+}
+
+/// What follows the zeros at the front of these bytes.
+fn past_zeros(bytes: &[u8]) -> &[u8]
+    ensures shorter { length result.now ≤ length bytes.now }
+    ensures zeros { bytes.now ≡ replicate (length bytes.now - length result.now) 0 ++ result.now }
 {
     let mut rest = bytes;
-    while let Some(behind) = past_zeros(rest) {
+    while let Some(behind) = past_eight(rest) {
         rest = behind;
     }
-    ends_in_zeros(rest)
+    while let Some(behind) = past_one(rest) {
+        rest = behind;
+    }
+    rest
 }
 
 /// What follows the first eight bytes, where these are 0.
-fn past_zeros(bytes: &[u8]) -> Option<&[u8]>
+fn past_eight(bytes: &[u8]) -> Option<&[u8]>
     ensures { IfSome result (λ rest. bytes.now ≡ replicate 8 0 ++ rest.now) }
 {
     match bytes {
@@ -200,29 +231,30 @@ fn past_zeros(bytes: &[u8]) -> Option<&[u8]>
     }
 }
 
-/// Whether these are as many zeros as stand behind the last eight bytes of an empty cell.
-fn ends_in_zeros(bytes: &[u8]) -> bool
-    ensures { IsTrue result → bytes.now ≡ replicate (length bytes.now) 0 }
+/// What follows the first byte, where this is 0.
+fn past_one(bytes: &[u8]) -> Option<&[u8]>
+    ensures { IfSome result (λ rest. bytes.now ≡ replicate 1 0 ++ rest.now) }
 {
     match bytes {
-        [a] => *a == 0,
-        [a, b, c, d, e] => (*a == 0) & (*b == 0) & (*c == 0) & (*d == 0) & (*e == 0),
-        _ => false,
+        [first, rest @ ..] if *first == 0 => Some(rest),
+        _ => None,
     }
 }
 
-/// Puts a number and its reach behind those so far. There is room for them.
-fn add(cells: &mut CellsRead, number: u64, reach: usize)
-    requires numbers { vec_len cells.old.numbers < vec_capacity cells.old.numbers }
-    requires reaches { vec_len cells.old.reaches < vec_capacity cells.old.reaches }
-    ensures numbers { cells.new.numbers.items ≡ cells.old.numbers.items ++ number ∷ [] }
-    ensures reaches { cells.new.reaches.items ≡ cells.old.reaches.items ++ reach ∷ [] }
+/// Puts a number and its reach behind those so far. There is a place for them.
+fn put(cells: &mut CellsRead, number: u64, reach: usize)
+    requires numbers { cells.old.count < length cells.old.numbers.items }
+    requires reaches { cells.old.count < length cells.old.reaches.items }
+    ensures count { cells.new.count ≡ cells.old.count + 1 }
+    ensures numbers { cells.new.numbers.items
+        ≡ slice_set cells.old.numbers.items cells.old.count number }
+    ensures reaches { cells.new.reaches.items
+        ≡ slice_set cells.old.reaches.items cells.old.count reach }
     ensures records { cells.new.records ≡ cells.old.records }
-    ensures number_room { vec_capacity cells.new.numbers ≡ vec_capacity cells.old.numbers }
-    ensures reach_room { vec_capacity cells.new.reaches ≡ vec_capacity cells.old.reaches }
 {
-    cells.numbers.push_reserved(number);
-    cells.reaches.push_reserved(reach);
+    cells.numbers[cells.count] = number;
+    cells.reaches[cells.count] = reach;
+    cells.count += 1;
 }
 
 /// How far back these cells hold greater numbers than one that is to stand in the cell after them. `None` where it may

@@ -18,10 +18,11 @@ use std::alloc::Global;
 use std::marker::Model;
 
 /// A bank that is read as its bytes come, in pieces of any lengths. It keeps the records, a number and a reach for each
-/// cell, and of the bytes the part of a cell.
+/// cell, and of the bytes the part of a cell. The election has some thousand bytes, and a reader is moved at each piece,
+/// so the election stands beside it.
 #[derive(Drop)]
 pub struct ImageReader {
-    election: Election,
+    election: Box<Election>,
     header: HeaderPart,
     cells: CellsRead,
     part: Vec<u8>,
@@ -45,7 +46,7 @@ impl ImageReader {
         ensures { IfOk result (λ reader. reader ≡ record { election = election.now; fed = [] }) }
     {
         Ok(ImageReader {
-            election: *election,
+            election: Box::new(alloc, *election)?,
             header: HeaderPart::new(),
             cells: no_cells(alloc, election)?,
             part: Vec::new(alloc),
@@ -53,12 +54,7 @@ impl ImageReader {
     }
 
     /// Reads the next bytes of the bank. A refusal gives up the reader.
-    pub fn feed(
-        self,
-        alloc: Global,
-        bytes: &[u8],
-        election: &Election,
-    ) -> Result<ImageReader, ImageFault>
+    pub fn feed(self, bytes: &[u8], election: &Election) -> Result<ImageReader, ImageFault>
         requires own { election.now ≡ self.election }
         requires within { length (self.fed ++ bytes.now) ≤ bank_size election.now }
         ensures fed { IfOk result (λ reader.
@@ -82,7 +78,7 @@ impl ImageReader {
             });
         }
         check_header(header.bytes(), election)?;
-        read_cells(alloc, &mut cells, &mut part, rest, election)?;
+        read_cells(&mut cells, &mut part, rest, election)?;
         Ok(ImageReader {
             election: own,
             header,
@@ -101,11 +97,12 @@ impl ImageReader {
         ensures header { take header_size self.fed ≡ header_of election.now }
     {
         prove!(election.contests() <= MAX_CONTESTS);
+        let cells = self.cells;
         let CellsRead {
             numbers,
             records,
             ..
-        } = self.cells;
+        } = cells;
         Closed::from_cells(alloc, election, records, numbers)
     }
 }
@@ -126,6 +123,6 @@ pub fn read_image(alloc: Global, bytes: &[u8], election: &Election) -> Result<Cl
     // Another election's bank is told as such even where there is no memory for a reader.
     check_header(bytes, election)?;
     let reader = ImageReader::new(alloc, election)?;
-    let reader = reader.feed(alloc, bytes, election)?;
+    let reader = reader.feed(bytes, election)?;
     Ok(reader.finish(alloc, election)?)
 }

@@ -143,8 +143,8 @@ fn read_in_pieces(
     let mut rest = bank;
     while !rest.is_empty() {
         let (piece, behind) = rest.split_at(size.min(rest.len()));
-        reader = reader.feed(alloc, &[], election)?;
-        reader = reader.feed(alloc, piece, election)?;
+        reader = reader.feed(&[], election)?;
+        reader = reader.feed(piece, election)?;
         rest = behind;
     }
     Ok(reader.finish(alloc, election)?)
@@ -205,8 +205,8 @@ fn refusal_behind(
 {
     let (front, behind) = bank.split_at(count);
     let reader = ImageReader::new(alloc, election)?;
-    let reader = reader.feed(alloc, front, election)?;
-    Ok(reader.feed(alloc, &behind[..1], election).err())
+    let reader = reader.feed(front, election)?;
+    Ok(reader.feed(&behind[..1], election).err())
 }
 
 #[test]

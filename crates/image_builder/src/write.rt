@@ -1,6 +1,6 @@
 //! The image of a store, as a whole or a part of it.
 
-ghost use Rattle.std.specs.Prelude.{◌≡◌, ℕ, ◌+◌, ◌-◌, ◌*◌, ◌≤◌, ◌<◌, List, take, drop, length, flat_map, replicate, slice_index, IfOk, IsPermutation, vec_capacity};
+ghost use Rattle.std.specs.Prelude.{◌≡◌, ℕ, ◌+◌, ◌-◌, ◌*◌, ◌≤◌, ◌<◌, ◌++◌, List, take, drop, length, flat_map, replicate, slice_index, IfOk, IfSome, IsPermutation, IsTrue, vec_capacity};
 ghost use Rattle.body_store.specs.Contents.{IsStored};
 ghost use Rattle.store_spec.specs.Ballot.{Ballot};
 ghost use Rattle.store_spec.specs.Election.{IsElection, bank_size, cell_count, cell_size};
@@ -124,10 +124,59 @@ fn put_block(closed: &Closed, election: &Election, first: usize, count: usize, o
         (take count (drop first (cells_of election.now closed.now.ballots))) }
 {
     let size = election.cell_bytes();
+    let numbers = &closed.cells()[first..first + count];
     out.fill(0);
+    if are_empty(numbers) {
+        return;
+    }
     for place in 0..count {
+        if numbers[place] == 0 {
+            continue;
+        }
         let at = place * size;
         put_cell(closed, election, first + place, &mut out[at..at + size]);
+    }
+}
+
+/// Whether none of these cells has a number.
+fn are_empty(numbers: &[u64]) -> bool
+    ensures { IsTrue result → numbers.now ≡ replicate (length numbers.now) 0 }
+{
+    let mut rest = numbers;
+    while let Some(behind) = past_eight(rest) {
+        rest = behind;
+    }
+    while let Some(behind) = past_one(rest) {
+        rest = behind;
+    }
+    rest.is_empty()
+}
+
+/// What follows the first eight cells, where none of these has a number.
+fn past_eight(numbers: &[u64]) -> Option<&[u64]>
+    ensures { IfSome result (λ rest. numbers.now ≡ replicate 8 0 ++ rest.now) }
+{
+    match numbers {
+        [a, b, c, d, e, f, g, h, rest @ ..]
+            if (*a == 0)
+                & (*b == 0)
+                & (*c == 0)
+                & (*d == 0)
+                & (*e == 0)
+                & (*f == 0)
+                & (*g == 0)
+                & (*h == 0) => { Some(rest) }
+        _ => None,
+    }
+}
+
+/// What follows the first cell, where this has no number.
+fn past_one(numbers: &[u64]) -> Option<&[u64]>
+    ensures { IfSome result (λ rest. numbers.now ≡ replicate 1 0 ++ rest.now) }
+{
+    match numbers {
+        [first, rest @ ..] if *first == 0 => Some(rest),
+        _ => None,
     }
 }
 

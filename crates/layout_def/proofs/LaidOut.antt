@@ -31,13 +31,16 @@ empty_cell zero p = refl
 empty_cell (suc count) zero = refl
 empty_cell (suc count) (suc p) = empty_cell count p
 
+pub none_ordered : (home : ℕ → ℕ) (count : ℕ) → IsOrdered home (replicate count 0)
+none_ordered home count = record {
+  from_home = λ p n. absurd (n (empty_cell count p));
+  greater_before = λ p q n from before. absurd (n (empty_cell count p));
+}
+
 none_laid_out : (home : ℕ → ℕ) (count : ℕ) → IsLaidOut home count [] (replicate count 0)
 none_laid_out home count = record {
   size = length-replicate count 0;
-  ordered = record {
-    from_home = λ p n. absurd (n (empty_cell count p));
-    greater_before = λ p q n from before. absurd (n (empty_cell count p));
-  };
+  ordered = none_ordered home count;
   each = λ v i. absurd i;
   only = λ p n. absurd (n (empty_cell count p));
   few = omega (arith, filled_none count);

@@ -8,3 +8,4 @@ pub mod Skips
 pub mod Taken
 pub mod OwnLayout
 pub mod StandsStill
+pub mod Carried

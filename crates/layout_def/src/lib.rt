@@ -4,6 +4,7 @@
 pub mod laws;
 mod probe;
 mod search;
+mod walk;
 
 ghost use Rattle.layout_def.specs.Pointers.{AreSound};
 ghost use Rattle.std.specs.List.Sorted.{IsNonDecreasing};
@@ -15,9 +16,10 @@ use probe::{first_empty, fresh_pointers};
 use probe_order::Order;
 pub use search::{is_ordered, place_of};
 use std::alloc::Global;
+use walk::put_all;
 
 /// The cells that hold these numbers, where each stands in the first cell at or after its home that no greater number takes.
-/// It takes time near n log n, also where all numbers have one home.
+/// It takes time near n where homes are spread out, and near n log n in any case.
 pub fn build<O: Order>(
     alloc: Global,
     order: &O,
@@ -27,6 +29,23 @@ pub fn build<O: Order>(
     requires distinct { AllPairs (λ a b. a ≢ b) numbers.now }
     requires some { All (λ v. v ≢ 0) numbers.now }
     requires room { O.homes order.now + length numbers.now ≤ cells }
+    ensures { IfOk result (λ v. v.items ≡ layout_of (O.home order.now) cells numbers.now) }
+{
+    let mut placed = vec![in alloc; 0; cells]?;
+    if put_all(order, &mut placed, numbers) {
+        return Ok(placed);
+    }
+    build_by_order(alloc, order, cells, numbers)
+}
+
+/// The same cells, however many numbers have one home.
+fn build_by_order<O: Order>(
+    alloc: Global,
+    order: &O,
+    cells: usize,
+    numbers: &[u64],
+) -> Result<Vec<u64>, Memory>
+    requires room { HasRoom (O.home order.now) (O.homes order.now) cells numbers.now }
     ensures { IfOk result (λ v. v.items ≡ layout_of (O.home order.now) cells numbers.now) }
 {
     let mut waiting = Vec::from_slice(alloc, numbers)?;

@@ -11,29 +11,11 @@ ghost use Rattle.store_spec.specs.Ballot.{ballot_of};
 
 use ballot_record::Record;
 use body_store::Closed;
-use layout_def::place_of;
-use probe_order::Salted;
 pub use running::run_find;
 
-/// Where the numbers of a store belong.
-fn order_of(closed: &Closed) -> Salted
-    ensures { (result.bits ≡ closed.now.election.bits) × (result.salt ≡ closed.now.election.salt) }
-{
-    let election = closed.election();
-    Salted {
-        bits: election.bits(),
-        salt: election.salt(),
-    }
-}
-
-/// The ballot with this number, which is looked for in the cells first. `None` where none is held, as for 0.
+/// The ballot with this number. `None` where none is held, as for 0.
 pub fn find(closed: &Closed, number: u64) -> Option<Record>
     ensures { option_map ballot result ≡ ballot_of closed.now.ballots number }
 {
-    let cells = closed.cells();
-    if number == 0 {
-        return None;
-    }
-    place_of(&order_of(closed), cells, number)?;
     closed.record_of(number)
 }

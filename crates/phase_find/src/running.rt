@@ -3,20 +3,43 @@
 ghost use Rattle.phase_find.specs.Present.{is_present};
 ghost use Rattle.std.specs.Prelude.{◌≡◌, ◌<◌, IfOk, length, map, slice_index_or, vec_len};
 
-use crate::{find, order_of};
 use body_store::Closed;
+use layout_def::place_of;
 use outside_io::{Memory, Turns};
-use probe_order::Order;
+use probe_order::{Order, Salted};
 use std::alloc::Global;
 use std::thread::{Threads, for_each_mut};
 
 /// No two threads write within so many bytes of each other.
 const APART: usize = 64;
 
+/// Where the numbers of a store belong.
+fn order_of(closed: &Closed) -> Salted
+    ensures { (result.bits ≡ closed.now.election.bits) × (result.salt ≡ closed.now.election.salt) }
+{
+    let election = closed.election();
+    Salted {
+        bits: election.bits(),
+        salt: election.salt(),
+    }
+}
+
 /// The word in the home cell of a number.
-fn peek(closed: &Closed, number: u64) -> u64 {
-    let home = order_of(closed).home(number);
-    closed.cells().get(home).copied().unwrap_or(0)
+fn peek(order: &Salted, cells: &[u64], number: u64) -> u64 {
+    cells.get(order.home(number)).copied().unwrap_or(0)
+}
+
+/// Whether a store holds the ballot of this number. Its cells alone tell.
+fn holds(closed: &Closed, order: &Salted, number: u64) -> bool
+    requires bits { order.now.bits ≡ closed.now.election.bits }
+    requires salt { order.now.salt ≡ closed.now.election.salt }
+    ensures { result ≡ is_present closed.now.ballots number }
+{
+    let cells = closed.cells();
+    if number == 0 {
+        return false;
+    }
+    place_of(order, cells, number).is_some()
 }
 
 /// A place for the answer to each number of each list, so that no worker takes memory.
@@ -38,10 +61,11 @@ fn look_up<T: Turns>(closed: &Closed, tab: usize, list: &[u64], found: &mut [boo
     requires { length found.old ≡ length list.now }
     ensures { found.new ≡ map (is_present closed.now.ballots) list.now }
 {
+    let order = order_of(closed);
     for (index, answer) in found.iter_mut().enumerate() {
         let number = list[index];
-        turns.turn(tab, index, peek(closed, number));
-        *answer = find(closed, number).is_some();
+        turns.turn(tab, index, peek(&order, closed.cells(), number));
+        *answer = holds(closed, &order, number);
     }
 }
 

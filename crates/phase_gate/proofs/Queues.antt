@@ -1,11 +1,11 @@
 -- Items at the end of lists.
-use Rattle.std.proofs.Common.{◌≡◌, ℕ, zero, suc, ◌-◌, ◌<◌, List, [], ◌∷◌, ◌++◌, length, map, cond, codes, replicate, get_or, slice_set, arith, ap, refl, subst, sym, ◌∙◌}
+use Rattle.std.proofs.Common.{◌≡◌, ℕ, zero, suc, ◌-◌, ◌<◌, List, [], ◌∷◌, ◌++◌, length, map, cond, codes, replicate, get_or, slice_set, Result, Ok, Err, OnErr, Some, Bool, true, false, inr, arith, ap, refl, subst, sym, ◌∙◌}
 use Rattle.std.proofs.Math.ListN as plain
 use Rattle.std.proofs.lemmas.Bool.{le-leb, lt-leb}
 use Rattle.std.proofs.lemmas.List.{get_or-map, length-map, map-append, map-set}
 use Rattle.std.proofs.lemmas.Simd.{map-map}
 use Rattle.ballot_record.specs.Record.{ballot}
-use Rattle.phase_gate.specs.Gate.{queued_effect}
+use Rattle.phase_gate.specs.Gate.{IsQueued, queued_effect}
 use Rattle.phase_gate.specs.Work.{CastsInto, GoesInto, IsOther, WaitsIn, item_line}
 use Rattle.phase_gate.specs.declared.work.Item.{Item}
 use Rattle.phase_gate.specs.declared.work.Item.TheVariants as items
@@ -13,7 +13,8 @@ use Rattle.phase_gate.specs.declared.work.Queued.{Queued}
 use Rattle.phase_gate.specs.declared.work.Queued.TheVariants.{Waits, NoList, OtherPhase}
 use Rattle.store_spec.specs.Ballot.{Ballot}
 use Rattle.store_spec.specs.Election.{Election}
-use Rattle.store_spec.specs.Session.{Does, Effect, Phase, in_phase, queued, queues, refusal, replies, stays, wrong_phase}
+use Rattle.store_spec.specs.ScriptLine.{Says, ScriptLine}
+use Rattle.store_spec.specs.Session.{Answers, Does, Effect, Phase, State, in_phase, queued, queues, refusal, replies, stays, wrong_phase}
 use Rattle.store_spec.specs.Session.Phase.{Closed, Casts, Withdraws, Finds}
 
 -- an item is put at the end of the list at a place
@@ -120,3 +121,21 @@ item_does e n set tab (items.Find k) (Casts lists) place now effect into is =
     other_does n set (Casts lists) place now effect into is
 item_does e n set tab (items.Find k) (Withdraws lists) place now effect into is =
     other_does n set (Withdraws lists) place now effect into is
+
+-- lists that stay are seen as the same ones
+pub lists_unchanged : {V X Y : Type 0} (f : X → Y) (items : V → List X) (new old : List V)
+    → map items new ≡ map items old → map (λ v. map f (items v)) new ≡ map (λ v. map f (items v)) old
+lists_unchanged f items new old same =
+    sym (map-map (map f) items new) ∙ ap (map (map f)) same ∙ map-map (map f) items old
+
+-- what holds in any case does so on a failure
+pub on_any_err : {T E P : Type 0} (r : Result T E) → P → OnErr r P
+on_any_err (Ok x) holds = tt
+on_any_err (Err e) holds = holds
+
+-- a line whose item waits is answered, where it says so
+pub queued_answers : (e : Election) (n : ℕ) (s : State) (bytes : List ℕ) (line : ScriptLine) (waits : Bool) (now : State)
+    → Says e bytes line → IsQueued waits (Does e n s line s.phase) s now
+    → IsQueued waits (Answers e n s (Some bytes)) s now
+queued_answers e n s bytes line true now says does = inr (line, says, does)
+queued_answers e n s bytes line false now says stays = stays

@@ -1,5 +1,5 @@
 -- What waits for the close of a phase can be handled.
-use Rattle.std.proofs.Common.{◌≡◌, ℕ, ◌-◌, ◌≤◌, List, [], ◌∷◌, ◌++◌, length, map, replicate, get_or, All, arith, ap, refl, sym, subst}
+use Rattle.std.proofs.Common.{◌≡◌, ℕ, ◌-◌, ◌≤◌, List, [], ◌∷◌, ◌++◌, length, map, replicate, get_or, All, Result, Ok, Err, IfOk, OnErr, arith, ap, refl, sym, subst}
 use Rattle.std.proofs.lemmas.List.{length-map, length-replicate, length-set}
 use Rattle.std.proofs.lemmas.List.Elements.{All-get_or, All-push, All-replicate, All-set}
 use Rattle.ballot_record.specs.Record.{ballot}
@@ -134,6 +134,14 @@ item_may_wait e (Casts lists) tab (items.Find k) place now first can wait into =
     other_may_wait e (Casts lists) place now wait into
 item_may_wait e (Withdraws lists) tab (items.Find k) place now first can wait into =
     other_may_wait e (Withdraws lists) place now wait into
+
+-- what waits in a phase that an item came to, or that is as it was, where there was no memory
+pub item_waits_or_not : {E : Type 0} (e : Election) (phase : Phase) (tab : ℕ) (item : Item) (place : Result Queued E)
+    (now : Phase) → 1 ≤ tab → CanWait e item → MayWait e phase → IfOk place (λ queued. GoesInto phase tab item queued now)
+    → OnErr place (now ≡ phase) → MayWait e now
+item_waits_or_not e phase tab item (Ok queued) now first can wait goes same =
+    item_may_wait e phase tab item queued now first can wait goes
+item_waits_or_not e phase tab item (Err fault) now first can wait goes same = subst (MayWait e) (sym same) wait
 
 -- an item of a line can wait
 pub item_can_wait : (e : Election) (bytes : List ℕ) (tab : ℕ) (item : Item) → Says e bytes (item_line tab item)

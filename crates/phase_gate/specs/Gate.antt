@@ -1,5 +1,5 @@
 -- How the parts of a session are seen.
-use Rattle.std.specs.Prelude.{◌≡◌, ℕ, List, [], ◌∷◌, codes}
+use Rattle.std.specs.Prelude.{◌≡◌, ℕ, Bool, true, false, List, [], ◌∷◌, codes}
 use Rattle.phase_gate.specs.Standing.{Standing}
 use Rattle.phase_gate.specs.Work.{phase_of}
 use Rattle.phase_gate.specs.declared.gate.Answer.{Answer}
@@ -55,3 +55,8 @@ abbrev pub queued_effect : ℕ → State → Queued → Effect
 queued_effect n s Waits = replies [] s
 queued_effect n s NoList = stays s (refusal n (codes "invalid"))
 queued_effect n s OtherPhase = stays s (wrong_phase n s.phase)
+
+-- whether a line was handled in place: it was, and nothing is replied to it, or nothing was done
+abbrev pub IsQueued : Bool → (Effect → Type 0) → State → State → Type 0
+IsQueued true Did before after = Did (replies [] after)
+IsQueued false Did before after = after ≡ before

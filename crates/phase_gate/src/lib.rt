@@ -4,6 +4,7 @@
 mod closing;
 mod fault;
 mod gate;
+mod item;
 mod line;
 mod report;
 mod session;

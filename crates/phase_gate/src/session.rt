@@ -1,15 +1,15 @@
 //! A session: one line after another.
 
-ghost use Rattle.std.specs.Prelude.{◌≡◌, ◌∷◌, [], List, IfErr, IfOk, OnErr, OnOk};
+ghost use Rattle.std.specs.Prelude.{◌≡◌, ◌∷◌, [], ℕ, List, IfErr, IfOk, OnErr, OnOk, Some};
 ghost use Rattle.outside_io.specs.Outside.{output};
 ghost use Rattle.phase_gate.specs.Around.{around};
 ghost use Rattle.phase_gate.specs.Checkpointed.{Acknowledges, IsMediumNow, NotAcknowledged};
-ghost use Rattle.phase_gate.specs.Gate.{IsNamed, acknowledged_at};
+ghost use Rattle.phase_gate.specs.Gate.{IsNamed, IsQueued, acknowledged_at};
 ghost use Rattle.phase_gate.specs.LineEnds.{LastEnds, LineEnds, state_left};
 ghost use Rattle.phase_gate.specs.Telling.{told_by};
 ghost use Rattle.store_spec.specs.Ballot.{Ballot};
 ghost use Rattle.store_spec.specs.Disk.{disk_model};
-ghost use Rattle.store_spec.specs.Session.{begun};
+ghost use Rattle.store_spec.specs.Session.{Answers, begun};
 
 use crate::fault::SessionFault;
 use crate::gate::{Answer, Gate, Phase, Task};
@@ -22,7 +22,7 @@ use body_store::Closed;
 use checkpoint::checkpoint;
 use crash_disk::Disk;
 use image_builder::Scratch;
-use outside_io::{Sink, Turns};
+use outside_io::{Memory, Sink, Turns};
 use std::alloc::Global;
 use std::marker::Model;
 use std::thread::Threads;
@@ -79,6 +79,20 @@ impl Session {
         ensures { IsNamed result self.now.state.phase }
     {
         self.gate.phase()
+    }
+
+    /// Lets what a line of its script brings wait for the close of the phase. Nearly all lines bring something that
+    /// waits, and nothing is told of them. `false` where this one does not: then nothing was done, and `line` handles it.
+    pub fn queue(&mut self, line: &[u8]) -> Result<bool, Memory>
+        ensures queued { (index : ℕ) → IfOk result (λ waits. IsQueued waits
+            (Answers self.old.election index self.old.state (Some line.now))
+            self.old.state self.new.state) }
+        ensures set { self.new.state.set ≡ self.old.state.set }
+        ensures election { self.new.election ≡ self.old.election }
+        ensures telling { self.new.telling ≡ self.old.telling }
+        ensures unchanged { OnErr result (self.new ≡ self.old) }
+    {
+        self.gate.queue(line)
     }
 
     /// Handles a line of its script, which has this number, counted from 1. Whoever has read the reply to a checkpoint

@@ -1,6 +1,6 @@
 //! A phase, and what waits for its close.
 
-ghost use Rattle.std.specs.Prelude.{◌≡◌, ℕ, ◌≤◌, ◌++◌, [], IfOk, codes, map, replicate, MatchOption};
+ghost use Rattle.std.specs.Prelude.{◌≡◌, ℕ, ◌≤◌, ◌++◌, [], IfOk, codes, map, replicate, MatchOption, OnErr};
 ghost use Rattle.ballot_record.specs.Record as records;
 ghost use Rattle.phase_gate.specs.Work.{CastsInto, FindsInto, GoesInto, IsCommand, WaitsIn, WithdrawsInto, item_line, kind_of, phase_of};
 ghost use Rattle.script_lines.specs.Line.{script_line};
@@ -102,7 +102,9 @@ impl Work {
     /// Lets an item wait in the list of this number.
     pub fn wait(&mut self, tab: u8, item: Item<'_>) -> Result<Queued, Memory>
         requires { 1 ≤ tab }
-        ensures { IfOk result (λ queued. GoesInto (phase_of self.old) tab item.entry queued (phase_of self.new)) }
+        ensures goes { IfOk result
+            (λ queued. GoesInto (phase_of self.old) tab item.entry queued (phase_of self.new)) }
+        ensures unchanged { OnErr result (phase_of self.new ≡ phase_of self.old) }
     {
         match item {
             Item::Cast(ballot) => self.cast(tab, ballot),
@@ -114,8 +116,9 @@ impl Work {
     /// Lets a ballot wait to be cast.
     fn cast(&mut self, tab: u8, ballot: &Record) -> Result<Queued, Memory>
         requires { 1 ≤ tab }
-        ensures { IfOk result (λ queued. CastsInto (phase_of self.old) tab (records.ballot ballot.now) queued
-            (phase_of self.new)) }
+        ensures goes { IfOk result (λ queued. CastsInto (phase_of self.old) tab
+            (records.ballot ballot.now) queued (phase_of self.new)) }
+        ensures unchanged { OnErr result (phase_of self.new ≡ phase_of self.old) }
     {
         match self {
             Work::Casting(lists) => queue(lists, tab, *ballot),
@@ -126,8 +129,9 @@ impl Work {
     /// Lets a number wait to be withdrawn.
     fn withdraw(&mut self, tab: u8, number: u64) -> Result<Queued, Memory>
         requires { 1 ≤ tab }
-        ensures { IfOk result
+        ensures goes { IfOk result
             (λ queued. WithdrawsInto (phase_of self.old) tab number queued (phase_of self.new)) }
+        ensures unchanged { OnErr result (phase_of self.new ≡ phase_of self.old) }
     {
         match self {
             Work::Withdrawing(lists) => queue(lists, tab, number),
@@ -138,8 +142,9 @@ impl Work {
     /// Lets a number wait to be looked for.
     fn find(&mut self, tab: u8, number: u64) -> Result<Queued, Memory>
         requires { 1 ≤ tab }
-        ensures { IfOk result
+        ensures goes { IfOk result
             (λ queued. FindsInto (phase_of self.old) tab number queued (phase_of self.new)) }
+        ensures unchanged { OnErr result (phase_of self.new ≡ phase_of self.old) }
     {
         match self {
             Work::Finding(lists) => queue(lists, tab, number),
@@ -174,8 +179,11 @@ fn empty_lists<X: Drop>(alloc: Global, count: u8) -> Result<Vec<Vec<X>>, Memory>
 /// Puts an item at the end of a list, the first of which is number 1.
 fn queue<X: Drop>(lists: &mut Vec<Vec<X>>, tab: u8, item: X) -> Result<Queued, Memory>
     requires { 1 ≤ tab }
-    ensures { IfOk result (λ queued. WaitsIn (λ now. now) (map (λ list. list.items) lists.old.items)
-        tab item queued (map (λ list. list.items) lists.new.items)) }
+    ensures goes { IfOk result (λ queued. WaitsIn (λ now. now)
+        (map (λ list. list.items) lists.old.items) tab item queued
+        (map (λ list. list.items) lists.new.items)) }
+    ensures unchanged { OnErr result (map (λ list. list.items) lists.new.items
+        ≡ map (λ list. list.items) lists.old.items) }
 {
     let place = usize::from(tab) - 1;
     if place >= lists.len() {

@@ -7,7 +7,7 @@ ghost use Rattle.phase_insert.specs.Closing.{ClosesAs};
 ghost use Rattle.phase_insert.specs.Ends.{AreAllFinals, AreFinals, Decides, IsAnswered, TellsOf, all_accepted, seat_of};
 ghost use Rattle.phase_insert.specs.Tabulator.{AreAll, new_tabulator, seated_at};
 ghost use Rattle.phase_insert.specs.Tray.{ballots_that, is_accepted};
-ghost use Rattle.std.specs.Prelude.{◌≡◌, ◌≤◌, ◌++◌, All, IfOk, length, map, zip};
+ghost use Rattle.std.specs.Prelude.{◌≡◌, ◌≤◌, ◌++◌, [], All, IfOk, OnErr, OnOk, length, map, vec_capacity, zip};
 ghost use Rattle.store_spec.specs.CastStep.{fresh_view};
 
 use crate::{Cast, CastReply, Final, Tabulator};
@@ -66,27 +66,31 @@ fn seated(
     Ok(tabs)
 }
 
-/// What becomes of a phase: the store with what was accepted, and a final reply to each ballot.
+/// What becomes of a phase: the store takes what was accepted, and each ballot has a final reply. After `Memory` the
+/// store holds what it held.
 pub fn after_phase(
     alloc: Global,
-    closed: &Closed,
+    closed: &mut Closed,
     words: CastWords,
     tabs: Vec<Tabulator>,
-) -> Result<(Closed, Vec<Vec<Final>>), Memory>
-    requires all { AreAll (record { base = closed.now; words = words }) tabs.items }
-    requires words { AreCastWordsOf closed.now words }
-    ensures election { IfOk result (λ ended. ended.0.election ≡ closed.now.election) }
-    ensures stored { IfOk result (λ ended. IsStored ended.0) }
+) -> Result<Vec<Vec<Final>>, Memory>
+    requires stored { IsStored closed.old }
+    requires all { AreAll (record { base = closed.old; words = words }) tabs.items }
+    requires words { AreCastWordsOf closed.old words }
+    ensures election { OnOk result (closed.new.election ≡ closed.old.election) }
+    ensures stored { OnOk result (IsStored closed.new) }
     ensures closes { IfOk result
-        (λ ended. ClosesAs closed.now (map (λ tab. tab.tray) tabs.items)
-        (map (λ finals. finals.items) ended.1.items) ended.0.ballots) }
+        (λ finals. ClosesAs closed.old (map (λ tab. tab.tray) tabs.items)
+        (map (λ list. list.items) finals.items) closed.new.ballots) }
+    ensures unchanged { OnErr result (closed.new ≡ closed.old) }
 {
     let (seats, trays) = taken_apart(alloc, tabs)?;
     let accepted = accepted(alloc, &trays)?;
     let cells = words.close(alloc, seats)?;
-    let after = closed.merged(alloc, closed.election(), &accepted, cells)?;
-    let finals = all_finals(alloc, &after, &trays)?;
-    Ok((after, finals))
+    let mut finals = room_for_finals(alloc, &trays)?;
+    closed.merge(alloc, accepted, cells)?;
+    all_finals(closed, &trays, &mut finals);
+    Ok(finals)
 }
 
 /// The seats of tabulators, and their trays.
@@ -136,28 +140,42 @@ fn push_accepted(accepted: &mut Vec<Record>, tray: &[Cast]) -> Result<(), Memory
     Ok(())
 }
 
-/// The final replies to the ballots of all trays.
-fn all_finals(alloc: Global, after: &Closed, trays: &[Vec<Cast>]) -> Result<Vec<Vec<Final>>, Memory>
-    ensures { IfOk result
-        (λ finals. AreAllFinals after.now.ballots (map (λ tray. tray.items) trays.now)
-        (map (λ list. list.items) finals.items)) }
+/// A list for each tray, with room for a final reply to each of its ballots.
+fn room_for_finals(alloc: Global, trays: &[Vec<Cast>]) -> Result<Vec<Vec<Final>>, Memory>
+    ensures empty { IfOk result (λ lists. All (λ list. list.items ≡ []) lists.items) }
+    ensures room { IfOk result
+        (λ lists. map (λ list. vec_capacity list) lists.items
+        ≡ map (λ tray. length tray.items) trays.now) }
 {
-    let mut finals = Vec::with_capacity(alloc, trays.len())?;
+    let mut lists = Vec::with_capacity(alloc, trays.len())?;
     for tray in trays {
-        finals.push(tray_finals(alloc, after, tray)?)?;
+        lists.push(Vec::with_capacity(alloc, tray.len())?)?;
     }
-    Ok(finals)
+    Ok(lists)
 }
 
-/// The final replies to the ballots of a tray.
-fn tray_finals(alloc: Global, after: &Closed, tray: &[Cast]) -> Result<Vec<Final>, Memory>
-    ensures { IfOk result (λ finals. AreFinals after.now.ballots tray.now finals.items) }
+/// Tells the final replies to the ballots of all trays, for which there is room.
+fn all_finals(after: &Closed, trays: &[Vec<Cast>], lists: &mut [Vec<Final>])
+    requires empty { All (λ list. list.items ≡ []) lists.old }
+    requires room { map (λ list. vec_capacity list) lists.old
+        ≡ map (λ tray. length tray.items) trays.now }
+    ensures { AreAllFinals after.now.ballots (map (λ tray. tray.items) trays.now)
+        (map (λ list. list.items) lists.new) }
 {
-    let mut finals = Vec::with_capacity(alloc, tray.len())?;
-    for cast in tray {
-        finals.push(final_of(after, cast))?;
+    for place in 0..trays.len() {
+        tray_finals(after, &trays[place], &mut lists[place]);
     }
-    Ok(finals)
+}
+
+/// Tells the final replies to the ballots of a tray.
+fn tray_finals(after: &Closed, tray: &[Cast], finals: &mut Vec<Final>)
+    requires empty { finals.old.items ≡ [] }
+    requires room { length tray.now ≤ vec_capacity finals.old }
+    ensures { AreFinals after.now.ballots tray.now finals.new.items }
+{
+    for cast in tray {
+        finals.push_reserved(final_of(after, cast));
+    }
 }
 
 /// The final reply to a ballot.

@@ -115,12 +115,12 @@ impl CastPhase {
         ensures given_back { IfErr result (λ refused. refused.0 ≡ self.base) }
     {
         let Self {
-            closed,
+            mut closed,
             shape: _,
             words,
         } = self;
-        match after_phase(alloc, &closed, words, tabs) {
-            Ok(ended) => Ok(ended),
+        match after_phase(alloc, &mut closed, words, tabs) {
+            Ok(finals) => Ok((closed, finals)),
             Err(memory) => Err((closed, memory)),
         }
     }

@@ -9,7 +9,7 @@ ghost use Rattle.store_spec.specs.Election.{most_bits};
 ghost use Rattle.store_spec.specs.Home.{home_of};
 ghost use Rattle.probe_order.specs.Below.{home_of-lt};
 
-pub use claim::claim_place;
+pub use claim::{claim_place, claim_place_from, first_claim_place};
 
 /// 2 ^ 64 divided by the golden ratio, the multiplier of a Fibonacci hash.
 const MULTIPLIER: u64 = 0x9E37_79B9_7F4A_7C15;

@@ -72,7 +72,7 @@ pub fn read_bank<D: Disk>(
         let count = PAGE_BYTES.min(end - at);
         let page = &mut made[at..at + count];
         read_page(disk, election, bank, at, page)?;
-        reader = reader.feed(alloc, page, election)?;
+        reader = reader.feed(page, election)?;
         at += count;
     }
     Ok(reader.finish(alloc, election)?)

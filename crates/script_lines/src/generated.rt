@@ -63,7 +63,7 @@ fn put_groups(i: u32, style: u8, election: &Election, out: &mut Vec<u8>)
     let contests = election.contests();
     put_group(marked_choice(i, style, 1, election), out);
     'contests: for place in 1..contests {
-        put_bytes(b"/", out);
+        out.push_reserved(b'/');
         put_group(marked_choice(i, style, place + 1, election), out);
     }
 }

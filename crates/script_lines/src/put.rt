@@ -37,7 +37,7 @@ pub fn put_word(number: u64, out: &mut Vec<u8>)
     ensures capacity { vec_capacity out.old ≤ vec_capacity out.new }
 {
     put_number(number, out);
-    put_bytes(b" ", out);
+    out.push_reserved(b' ');
 }
 
 /// Appends the group of a contest where this choice is marked, or none is. There is room for it.
@@ -49,6 +49,6 @@ pub fn put_group(choice: Option<u64>, out: &mut Vec<u8>)
 {
     match choice {
         Some(choice) => put_number(choice, out),
-        None => put_bytes(b"-", out),
+        None => out.push_reserved(b'-'),
     }
 }

@@ -2,5 +2,6 @@ pub mod Acknowledging
 pub mod Beginning
 pub mod Ending
 pub mod Plays
+pub mod Queued
 pub mod SoFar
 pub mod Stops

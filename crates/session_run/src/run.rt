@@ -53,16 +53,19 @@ pub fn run_session<R: Threads + Sync, S: Source, K: Sink, D: Disk, T: Turns>(
             NextLine::End => return Ok(session.end(out)?),
         };
         index += 1;
-        session = session.line(
-            rt,
-            alloc,
-            line,
-            index,
-            disk,
-            out,
-            turns,
-            &mut scratch,
-            report,
-        )?;
+        // Nearly all lines bring what waits for the close of a phase. A session is moved for the others alone.
+        if !session.queue(line)? {
+            session = session.line(
+                rt,
+                alloc,
+                line,
+                index,
+                disk,
+                out,
+                turns,
+                &mut scratch,
+                report,
+            )?;
+        }
     }
 }

@@ -1,4 +1,5 @@
 pub mod CastAtRest
+pub mod CastBegins
 pub mod CastClaims
 pub mod CastHands
 pub mod CastLeads

@@ -1,5 +1,5 @@
 -- What the tables of casting ask of a state and of the word that is found, and how the code's states and notes are seen.
-use Rattle.std.specs.Prelude.{◌≢◌, ℕ, ◌<◌}
+use Rattle.std.specs.Prelude.{◌≡◌, ◌≢◌, ℕ, ◌%◌, ◌<◌}
 use Rattle.step_core.specs.declared.cast.CastNote.{CastNote}
 use Rattle.step_core.specs.declared.cast.CastNote.TheVariants as notes
 use Rattle.step_core.specs.declared.cast.CastState.{CastState}
@@ -28,6 +28,13 @@ FitsIn t Rest = Unit {0}
 FitsIn t (Probing x k) = (x ≢ 0) × (k < t.claims)
 FitsIn t (Carrying v i) = (v ≢ 0) × (i < t.cells)
 FitsIn t (Ready v i s) = (v ≢ 0) × (i < t.cells)
+
+-- a number that looks for a claim word began at this one
+abbrev pub BeginsAt : definition.Table → definition.CastState → ℕ → Type 0
+BeginsAt t Rest first = Unit {0}
+BeginsAt t (Probing x k) first = first ≡ x % t.claims
+BeginsAt t (Carrying v i) first = Unit {0}
+BeginsAt t (Ready v i s) first = Unit {0}
 
 -- a step may find this word: a number in hand stands in no cell, and at rest there is no step
 abbrev pub MayFind : definition.CastState → ℕ → Type 0

@@ -2,13 +2,13 @@
 
 ghost use Rattle.std.specs.Prelude.{◌≡◌, ◌≢◌, ◌+◌, ◌^◌, ◌<◌, ◌≤◌};
 ghost use Rattle.step_core.specs.Act.{act_of};
-ghost use Rattle.step_core.specs.CastTables.{FitsIn, LeadsTo, MayFind, note_of, state_of};
+ghost use Rattle.step_core.specs.CastTables.{BeginsAt, FitsIn, LeadsTo, MayFind, note_of, state_of};
 ghost use Rattle.step_core.specs.Shape.{table_of};
 ghost use Rattle.store_spec.specs.CastStep.{cast_act};
 ghost use Rattle.store_spec.specs.CastStep.CastState.{Carrying, Probing, Ready};
 
 use crate::{Act, Shape};
-use probe_order::{Order, claim_place};
+use probe_order::{Order, claim_place_from, first_claim_place};
 
 /// What a step tells.
 #[derive(Clone, Copy, Debug, PartialEq, Eq)]
@@ -54,10 +54,20 @@ pub fn cast_act(shape: &Shape, state: CastState) -> Act
     requires fits { FitsIn (table_of shape.now) (state_of state) }
     ensures { act_of result ≡ cast_act (table_of shape.now) (state_of state) }
 {
+    cast_act_from(shape, state, first_claim(shape, state))
+}
+
+/// What a tabulator does next, where it is known at which claim word its number began.
+pub fn cast_act_from(shape: &Shape, state: CastState, first: usize) -> Act
+    requires small { shape.now.cells + shape.now.claims < 2 ^ 32 }
+    requires fits { FitsIn (table_of shape.now) (state_of state) }
+    requires begins { BeginsAt (table_of shape.now) (state_of state) first }
+    ensures { act_of result ≡ cast_act (table_of shape.now) (state_of state) }
+{
     match state {
         CastState::Rest => Act::Nothing,
         CastState::Probing { number, tries } => Act::Trade {
-            word: shape.cells + claim_place(number, tries, shape.claims),
+            word: shape.cells + claim_place_from(first, tries, shape.claims),
             want: 0,
             put: number,
         },
@@ -71,6 +81,17 @@ pub fn cast_act(shape: &Shape, state: CastState) -> Act
             want: seen,
             put: number,
         },
+    }
+}
+
+/// The claim word at which the number of a state begins, while it looks for one.
+fn first_claim(shape: &Shape, state: CastState) -> usize
+    requires fits { FitsIn (table_of shape.now) (state_of state) }
+    ensures { BeginsAt (table_of shape.now) (state_of state) result }
+{
+    match state {
+        CastState::Probing { number, .. } => first_claim_place(number, shape.claims),
+        _ => 0,
     }
 }
 

@@ -16,7 +16,7 @@ mod withdraw_core;
 mod withdrawer;
 
 pub use act::{Act, Stepped};
-pub use cast::{CastNote, CastState, cast_act, cast_after, cast_first};
+pub use cast::{CastNote, CastState, cast_act, cast_act_from, cast_after, cast_first};
 pub use cast_core::CastCore;
 pub use shape::Shape;
 pub use tabulator::CastMet;

@@ -1,7 +1,8 @@
 -- What a step leaves of a seat, from what it told and from the table of steps.
 use Rattle.std.proofs.Common.{◌≡◌, ℕ, [], refl, sym, ap, ◌∙◌, subst, pos_of_ne-zero}
 use Rattle.atomic_table.specs.Table.{Allows, Me}
-use Rattle.step_core.specs.CastTables.{FitsIn, LeadsTo}
+use Rattle.step_core.proofs.CastBegins.{begins_on}
+use Rattle.step_core.specs.CastTables.{BeginsAt, FitsIn, LeadsTo}
 use Rattle.step_core.specs.Shape.{table_of}
 use Rattle.step_core.specs.declared.shape.Shape.{Shape}
 use Rattle.store_spec.specs.Act.{Act, left_by, word_of}
@@ -75,6 +76,12 @@ module _ (from : CastState) (me : Here) (found : ℕ) (now : Here) (told : Steps
     fits = subst (λ (s : Shape). FitsIn (table_of s) now.0.view.state) (sym (ap (λ (m : Here). m.0.shape) told.is))
         (subst (FitsIn (table_of me.0.shape)) (sym state_now) told.fits);
   }
+
+  -- the claim word at which its number began is still that
+  pub begins_still : (first : ℕ) → BeginsAt (table_of me.0.shape) from first → BeginsAt (table_of now.0.shape) now.0.view.state first
+  begins_still first begins =
+      subst (λ (s : Shape). BeginsAt (table_of s) now.0.view.state first) (sym (ap (λ (m : Here). m.0.shape) told.is))
+      (subst (λ (s : CastState). BeginsAt (table_of me.0.shape) s first) (sym state_now) (begins_on (table_of me.0.shape) from found told.new told.note first told.leads begins))
 
 -- ---- the first step of a number
 

@@ -1,7 +1,7 @@
 -- Shared words of casting and their seats, as callers see them.
 use Rattle.std.specs.Prelude.{◌≡◌, ◌≢◌, ℕ, ◌+◌, ◌^◌, ◌<◌, ◌≤◌, List, ◌++◌, length, map, All, Contains}
 use Rattle.crossbeam_utils.specs.Padded.{padded_value}
-use Rattle.step_core.specs.CastTables.{FitsIn, state_of}
+use Rattle.step_core.specs.CastTables.{BeginsAt, FitsIn, state_of}
 use Rattle.step_core.specs.Shape.{homes_of, table_of}
 use Rattle.step_core.specs.declared.shape.Shape.{Shape}
 use Rattle.store_spec.specs.CastInvariant.{EachOnce, accepted_of}
@@ -57,6 +57,7 @@ abbrev pub seat_seen : seats.Inside → Place CastView
 seat_seen s = place_of s.seat
 
 pub record IsSeat (s : seats.Inside) : Type 0 where
-  pub state : state_of (padded_value s.state) ≡ s.seat.me.0.view.state
+  pub state : state_of (padded_value s.standing).state ≡ s.seat.me.0.view.state
+  pub first : BeginsAt (table_of s.seat.me.0.shape) s.seat.me.0.view.state (padded_value s.standing).first
   pub single : IsSingle s.seat
   pub fits : FitsIn (table_of s.seat.me.0.shape) s.seat.me.0.view.state

@@ -18,11 +18,12 @@ use crate::steps::perform;
 use atomic_table::{Play, Seat, Table};
 use crossbeam_utils::CachePadded;
 use outside_io::Memory;
+use probe_order::first_claim_place;
 use std::alloc::Global;
 use std::collections::LinkedList;
 use std::marker::Model;
 use std::snapshot::Snapshot;
-use step_core::{CastNote, CastState, Shape, cast_act, cast_after, cast_first};
+use step_core::{CastNote, CastState, Shape, cast_act_from, cast_after, cast_first};
 
 /// What a seat of casting knows in its phase: its state, and the numbers that it has accepted, has found taken, and has
 /// met full claim words for. No value of it is made.
@@ -100,11 +101,18 @@ impl Model for CastWords {
     ghost invariant = { AreWords };
 }
 
+/// What a seat is about, and the claim word at which the number that it probes for began.
+#[derive(Clone, Copy)]
+struct Standing {
+    state: CastState,
+    first: usize,
+}
+
 /// A seat at shared words of casting. One thread at a time makes its steps. Nothing else lies on the cache lines of its
 /// state.
 #[derive(Drop)]
 pub struct CastSeat {
-    state: CachePadded<CastState>,
+    standing: CachePadded<Standing>,
     seat: Seat<(), Known<CastSight>>,
 }
 
@@ -125,7 +133,7 @@ impl CastSeat {
     pub fn state(&self) -> CastState
         ensures { state_of result ≡ self.now.view.state }
     {
-        *self.state
+        self.standing.state
     }
 }
 
@@ -164,15 +172,17 @@ impl CastWords {
             (note_of result) seat.new.view }
         ensures told_alike { IsToldAlike seat.old.view number (note_of result) }
     {
+        let first = first_claim_place(number, self.shape.claims);
         let probing = CastState::Probing { number, tries: 0 };
-        let act = cast_act(&self.shape, probing);
+        let act = cast_act_from(&self.shape, probing, first);
         let found = perform::<_, _, _, Begins>(&self.table.shared, &mut seat.seat, act);
         let (state, note) = cast_first(&self.shape, number, found);
-        *seat.state = state;
+        *seat.standing = Standing { state, first };
         note
     }
 
     /// The next step of a seat that is not at rest.
+    #[inline(always)]
     pub fn next(&self, seat: &mut CastSeat) -> CastNote
         requires belongs { seat.old.words ≡ self.now }
         requires moving { seat.old.view.state ≢ Rest }
@@ -184,11 +194,11 @@ impl CastWords {
         ensures falls { Falls (cast_measure (table_of self.now.shape) seat.new.view.state)
             (cast_measure (table_of self.now.shape) seat.old.view.state) }
     {
-        let state = *seat.state;
-        let act = cast_act(&self.shape, state);
+        let Standing { state, first } = *seat.standing;
+        let act = cast_act_from(&self.shape, state, first);
         let found = perform::<_, _, _, GoesOn>(&self.table.shared, &mut seat.seat, act);
         let (after, told) = cast_after(&self.shape, state, found);
-        *seat.state = after;
+        seat.standing.state = after;
         told
     }
 
@@ -222,8 +232,11 @@ fn new_seats(alloc: Global, dealt: Vec<Seat<(), Known<CastSight>>>) -> Result<Ve
 {
     let mut seats = Vec::with_capacity(alloc, dealt.len())?;
     for seat in dealt {
-        let state = CachePadded::new(CastState::Rest);
-        seats.push(CastSeat { state, seat })?;
+        let standing = CachePadded::new(Standing {
+            state: CastState::Rest,
+            first: 0,
+        });
+        seats.push(CastSeat { standing, seat })?;
     }
     Ok(seats)
 }
@@ -238,7 +251,7 @@ fn left_seats(
 {
     let mut left = Vec::with_capacity(alloc, seats.len())?;
     for seat in seats {
-        let CastSeat { state: _, seat } = seat;
+        let CastSeat { standing: _, seat } = seat;
         left.push(seat)?;
     }
     Ok(left)

@@ -67,19 +67,19 @@ impl Ballots {
         ensures { Judges result election.now line.now self.old self.new }
     {
         match read_line(line, election) {
-            Ok(record) => self.add(record, election),
+            Ok(record) => self.add(&record, election),
             Err(LineFault::Malformed) => Err(Refusal::Bad(LineWhy::Malformed)),
             Err(LineFault::Invalid) => Err(Refusal::Bad(LineWhy::Invalid)),
         }
     }
 
-    fn add(&mut self, cast: Record, election: &Election) -> Result<(), Refusal>
+    fn add(&mut self, cast: &Record, election: &Election) -> Result<(), Refusal>
         requires sound { IsSound election.now self.old }
-        requires valid { IsValid election.now (ballot cast) }
-        ensures { Adds result election.now cast self.old self.new }
+        requires valid { IsValid election.now (ballot cast.now) }
+        ensures { Adds result election.now cast.now self.old self.new }
     {
         if let Some(held) = self.index.get(&self.records, cast.number) {
-            return Err(Refusal::Bad(if *held == cast {
+            return Err(Refusal::Bad(if *held == *cast {
                 LineWhy::Duplicate
             } else {
                 LineWhy::Conflict
@@ -89,7 +89,7 @@ impl Ballots {
             return Err(Refusal::Bad(LineWhy::Full));
         }
         self.index.note(&self.records, cast)?;
-        self.records.push(cast)?;
+        self.records.push(*cast)?;
         Ok(())
     }
 

@@ -70,15 +70,15 @@ impl Index {
     }
 
     /// Notes the record that comes behind these.
-    pub fn note(&mut self, records: &[Record], cast: Record) -> Result<(), Memory>
+    pub fn note(&mut self, records: &[Record], cast: &Record) -> Result<(), Memory>
         requires index { IsIndexOf self.old records.now }
-        requires absent { find (λ (r : declared.Record). r.number == cast.number) records.now ≡ None }
+        requires absent { find (λ (r : declared.Record). r.number == cast.now.number) records.now ≡ None }
         requires few { length records.now < 2 ^ 16 }
-        ensures { OnOk result (IsIndexOf self.new (records.now ++ cast ∷ [])) }
+        ensures { OnOk result (IsIndexOf self.new (records.now ++ cast.now ∷ [])) }
     {
         let slot = slot_of(cast.number);
         if has_slot(records, self.firsts[slot], slot) {
-            self.others.insert(cast.number, cast)?;
+            self.others.insert(cast.number, *cast)?;
         } else {
             self.firsts[slot] = records.len() as u16;
         }

@@ -1,57 +1,33 @@
-use Rattle.std.proofs.Common.{◌≡◌, ℕ, List, length, replicate, get_or, sym, ap, ◌∙◌, subst, arith, rules}
-use Rattle.layout_def.proofs.Skips.{sound_empty}
+use Rattle.std.proofs.Common.{◌≡◌, ◌≢◌, ℕ, ◌+◌, ◌^◌, ◌<◌, ◌≤◌, List, length, get_or, ◌∙◌, arith, rules, Fits, w64}
+use Rattle.std.proofs.lemmas.List.{get_or_default, take_at}
+use Rattle.std.specs.List.{All, AllPairs}
+use Rattle.layout_def.proofs.LaidOut.{ordered_is_layout_of}
 use Rattle.layout_def.proofs.build.Goals as goal
-use Rattle.std.proofs.lemmas.List.{get_or-replicate, get_or_default, take_at}
-use Rattle.std.proofs.lemmas.List.Sorted.{IsNonDecreasingBy-from_sort}
-use Rattle.std.specs.List.Sorted.{IsPermutation}
-use Rattle.layout_def.proofs.Ascending.{ascending-IsPermutation}
-use Rattle.layout_def.proofs.LaidOut.{room-IsPermutation}
-use Rattle.store_spec.specs.Layout.{HasRoom, ascending, layout_of, laid_out}
-
-pub place_all-requires-clause-rising : goal.place_all-requires-clause-rising
-place_all-requires-clause-rising g c = IsNonDecreasingBy-from_sort (λ x. x) _ c.sort_unstable.ensures.sorted
+use Rattle.store_spec.specs.Layout.{HasRoom}
 
 -- each number is below 2 ^ 64, so it has a home
-pub place_all-requires-clause-fits : goal.place_all-requires-clause-fits
-place_all-requires-clause-fits g c =
+room_for : (home : ℕ → ℕ) (homes cells : ℕ) (numbers : List ℕ) → ((v : ℕ) → v < 2 ^ 64 → home v < homes) → ((k : ℕ) → Fits w64 (get_or numbers k 0))
+    → AllPairs (λ a b. a ≢ b) numbers → All (λ v. v ≢ 0) numbers → homes + length numbers ≤ cells → HasRoom home homes cells numbers
+room_for home homes cells numbers below fit distinct some enough = record {
+  distinct = distinct;
+  some = some;
+  homed = λ k d lt. below (get_or numbers k d) (let fits = fit k in let same = get_or_default numbers k 0 d lt in omega arith);
+  room = enough;
+}
+
+-- ordered cells with these numbers are the layout
+pub returns-then-put_all : goal.returns-then-put_all
+returns-then-put_all g c =
     let home = g.O.Order.home c.args.order.now in
-    let homes = g.O.Order.homes c.args.order.now in
     let numbers = c.args.numbers.now in
-    let all = length c.deref_mut.result.now in
-    let size : all ≡ c.args.cells = search rules in
-    let before : HasRoom home homes all numbers = record {
-      distinct = c.requires.distinct;
-      some = c.requires.some;
-      homed = λ k d lt. g.met.O.Order.below c.args.order.now (get_or numbers k d) (let fits = c.type_inv.numbers k in let same = get_or_default numbers k 0 d lt in omega arith);
-      room = let enough = c.requires.room in omega arith;
-    } in
-    let moved : IsPermutation numbers c.sort_unstable.new.self.items =
-    subst (λ (l : List ℕ). IsPermutation l c.sort_unstable.new.self.items) c.in_ok-waiting.ensures.items c.sort_unstable.ensures.permutation in
-    room-IsPermutation home homes all numbers _ moved before
+    let room = room_for home _ _ numbers (g.met.O.Order.below c.args.order.now) c.type_inv.numbers c.requires.distinct c.requires.some c.requires.room in
+    let put = c.put_all.ensures in
+    let size : length c.put_all.new.cells ≡ c.args.cells = search rules in
+    let kept : length c.put_all.new.cells ≡ c.in_ok-placed.placed.len = search rules in
+    take_at c.put_all.new.cells _ _ kept
+    ∙ ordered_is_layout_of home _ c.args.cells numbers _ room size (put.ordered c.if-put_all.true) (put.exactly c.if-put_all.true)
 
--- the cells are empty, and each pointer leads to its own cell
-pub place_all-requires-clause-sound : goal.place_all-requires-clause-sound
-place_all-requires-clause-sound g c =
-    let n = c.args.cells in
-    let cells : c.deref_mut.result.now ≡ replicate n 0 = search rules in
-    let pointers = c.in_ok-onward.onward.items in
-    let same : c.deref_mut-2.result.now ≡ pointers = search rules in
-    let itself = c.in_ok-onward.ensures.to_itself in
-    let one_each = c.in_ok-onward.ensures.one_each in
-    let size : length c.deref_mut.result.now ≡ n = search rules in
-    sound_empty _ _ (ap length same ∙ one_each ∙ sym size)
-    (λ k lt. ap (λ l. get_or l k 0) cells ∙ get_or-replicate n k 0 0 (omega arith))
-    (λ k lt. ap (λ l. get_or l k 0) same ∙ itself k (omega arith))
-
--- the order in which the numbers came does not matter
-pub returns : goal.returns
-returns g c =
-    let home = g.O.Order.home c.args.order.now in
-    let size : length c.deref_mut.result.now ≡ c.args.cells = search rules in
-    let same : ascending c.sort_unstable.new.self.items ≡ ascending c.args.numbers.now =
-    ascending-IsPermutation _ _ c.sort_unstable.ensures.permutation ∙ ap ascending c.in_ok-waiting.ensures.items in
-    let kept : length c.place_all.new.cells ≡ c.in_ok-placed.placed.len = search rules in
-    take_at c.place_all.new.cells _ _ kept
-    ∙ c.place_all.ensures
-    ∙ ap (λ n. layout_of home n c.sort_unstable.new.self.items) size
-    ∙ ap (laid_out home c.args.cells) same
+pub build_by_order-requires : goal.build_by_order-requires
+build_by_order-requires g c = record {
+  room = room_for _ _ _ _ (g.met.O.Order.below c.args.order.now) c.type_inv.numbers c.requires.distinct c.requires.some c.requires.room;
+}

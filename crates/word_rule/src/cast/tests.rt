@@ -1,6 +1,6 @@
 //! Two numbers that share a claim word and a home, step by step at two seats.
 
-ghost use Rattle.std.specs.Prelude.{◌≡◌, IsTrue};
+ghost use Rattle.std.specs.Prelude.{◌≡◌, ◌<◌, IsTrue};
 ghost use Rattle.store_spec.specs.CastStep.CastState.{Rest};
 ghost use Rattle.word_rule.specs.CastWords.{MayBegin};
 
@@ -74,10 +74,27 @@ fn close(alloc: Global, words: CastWords, one: CastSeat, two: CastSeat) -> Resul
     words.close(alloc, seats)
 }
 
+/// The steps after 1 was claimed by one seat, and 9 has met its claim word by the other.
+fn displace(rt: &impl Abort, words: &CastWords, one: &mut CastSeat, two: &mut CastSeat)
+    requires cells { 4 < words.now.shape.cells }
+    requires belong { (one.old.words ≡ words.now) × (two.old.words ≡ words.now) }
+    ensures { (one.new.words ≡ words.now) × (two.new.words ≡ words.now) }
+{
+    use CastNote::{Claimed, Placed, Quiet};
+    next(rt, words, two, Claimed, at(9, 4));
+    next(rt, words, one, Quiet, ready(1, 4, 0));
+    next(rt, words, two, Quiet, ready(9, 4, 0));
+    next(rt, words, one, Placed, CastState::Rest);
+    next(rt, words, two, Quiet, ready(9, 4, 1));
+    next(rt, words, two, Quiet, at(1, 5));
+    assert_eq!(rt; words.peek(4), 9);
+    next(rt, words, two, Quiet, ready(1, 5, 0));
+    next(rt, words, two, Placed, CastState::Rest);
+}
+
 /// 1 and 9 share a claim word and a home. 1 is placed first, and 9 displaces it.
 #[test]
 fn a_placed_number_is_displaced(rt: HostRuntime) {
-    use CastNote::{Claimed, Placed, Quiet};
     let (words, mut seats) = CastWords::new(rt.alloc(), EXAMPLE, &[0; 16], 2).expect(&rt, "memory");
     let mut two = seats.pop().expect(&rt, "a seat");
     let mut one = seats.pop().expect(&rt, "a seat");
@@ -85,17 +102,9 @@ fn a_placed_number_is_displaced(rt: HostRuntime) {
         number: 9,
         tries: 1,
     };
-    first(&rt, &words, &mut one, 1, Claimed, at(1, 4));
-    first(&rt, &words, &mut two, 9, Quiet, second);
-    next(&rt, &words, &mut two, Claimed, at(9, 4));
-    next(&rt, &words, &mut one, Quiet, ready(1, 4, 0));
-    next(&rt, &words, &mut two, Quiet, ready(9, 4, 0));
-    next(&rt, &words, &mut one, Placed, CastState::Rest);
-    next(&rt, &words, &mut two, Quiet, ready(9, 4, 1));
-    next(&rt, &words, &mut two, Quiet, at(1, 5));
-    assert_eq!(rt; words.peek(4), 9);
-    next(&rt, &words, &mut two, Quiet, ready(1, 5, 0));
-    next(&rt, &words, &mut two, Placed, CastState::Rest);
+    first(&rt, &words, &mut one, 1, CastNote::Claimed, at(1, 4));
+    first(&rt, &words, &mut two, 9, CastNote::Quiet, second);
+    displace(&rt, &words, &mut one, &mut two);
     assert!(rt; is_at_rest(&one));
     assert!(rt; is_at_rest(&two));
     let cells = close(rt.alloc(), words, one, two).expect(&rt, "memory");

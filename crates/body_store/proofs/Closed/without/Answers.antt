@@ -1,10 +1,11 @@
-use Rattle.std.proofs.Common.{◌≡◌, ◌≤◌, ℕ, List, length, sym, ap, ◌∙◌, subst, subst₂}
+use Rattle.std.proofs.Common.{◌≡◌, ◌≤◌, ℕ, List, length, refl, sym, ap, ◌∙◌, subst, subst₂}
 use Rattle.std.proofs.lemmas.Result.{IfOk-weaker}
 use Rattle.ballot_record.specs.declared.record.Record.{Record}
 use Rattle.body_store.proofs.Closed.without.Goals as goal
-use Rattle.body_store.proofs.Keeping.{IsRest, few_records, kept_records, once_in, rest_is}
-use Rattle.body_store.proofs.BallotSets.{MayHold}
-use Rattle.body_store.specs.Contents.{Contents, ballots_of, ballots_without}
+use Rattle.body_store.proofs.Keeping.{IsRest, few_numbers, kept_records, none_stands, once_in, rest_is}
+use Rattle.body_store.proofs.BallotSets.{MayHold, numbered}
+use Rattle.body_store.specs.Contents.{Contents, IsStored, ballots_of, ballots_without}
+use Rattle.body_store.specs.ByNumber.{AreNumbered}
 use Rattle.body_store.specs.Kept.{IsKept, contents_of}
 use Rattle.body_store.specs.Places.{HoldsOnce}
 use Rattle.body_store.specs.declared.Closed.TheInside.{Inside}
@@ -31,28 +32,37 @@ leaving e a store numbers first rest cells view own kept same left laid =
     (left ∙ ap (λ rs. ballots_without (ballots_of rs) numbers) same)
     (laid ∙ ap (λ (store : Contents). cells_of e (ballots_without store.ballots numbers)) (sym view))
 
-pub of_all-requires-clause-few : goal.of_all-requires-clause-few
-of_all-requires-clause-few c =
-    let e = c.args.election.now in
-    let is = leaving e c.self.inside c.args.self.now c.args.numbers.now c.deref.result.now
-    c.in_ok-records.records.items c.args.cells.items c.self.view_is c.requires.own c.self.invariant
-    c.deref.ensures.value c.in_ok-records.ensures c.requires.layout in
-    let election : IsElection e = subst (λ (e : Election). IsElection e)
-    (own_election e c.self.inside c.args.self.now c.self.view_is c.requires.own) c.self.invariant.stored.election in
-    subst (λ (rs : List Record). length rs ≤ 32768) (sym c.deref-2.ensures.value)
-    (few_records e c.in_ok-records.records.items election is.held)
+pub without-requires-clause-some : goal.without-requires-clause-some
+without-requires-clause-some c =
+    subst (λ (records : List Record). AreNumbered (ballots_of records)) (sym c.deref.ensures.value)
+    (numbered c.self.inside.election.value (ballots_of c.self.inside.records.items)
+    (kept_records c.self.inside c.self.invariant))
 
-pub of_all-requires-clause-cells : goal.of_all-requires-clause-cells
-of_all-requires-clause-cells c =
+pub without-requires-clause-gone : goal.without-requires-clause-gone
+without-requires-clause-gone c =
+    let store = c.args.self.now in
+    let numbers = c.args.numbers.now in
+    let stored = subst (λ (s : Contents). IsStored s) c.self.view_is c.self.invariant.stored in
+    none_stands store numbers c.deref-2.result.now stored
+    (c.deref-2.ensures.value ∙ c.requires.layout ∙ ap (λ e. cells_of e (ballots_without store.ballots numbers)) c.requires.own)
+
+pub of_all-requires : goal.of_all-requires
+of_all-requires c =
     let e = c.args.election.now in
     let is = leaving e c.self.inside c.args.self.now c.args.numbers.now c.deref.result.now
     c.in_ok-records.records.items c.args.cells.items c.self.view_is c.requires.own c.self.invariant
     c.deref.ensures.value c.in_ok-records.ensures c.requires.layout in
     let election : IsElection e = subst (λ (e : Election). IsElection e)
-    (own_election e c.self.inside c.args.self.now c.self.view_is c.requires.own) c.self.invariant.stored.election in
-    subst₂ (λ rs cells. HoldsOnce (numbers_of (ballots_of rs)) cells) (sym c.deref-2.ensures.value)
-    (sym c.deref-3.ensures.value)
-    (once_in e c.in_ok-records.records.items c.args.cells.items election is.held is.laid)
+    (own_election e c.self.inside c.args.self.now c.self.view_is c.requires.own) c.self.invariant.stored.election in (
+      subst (λ (rs : List Record). length (numbers_of (ballots_of rs)) ≤ 32768) (sym c.deref-3.ensures.value)
+          (few_numbers e c.in_ok-records.records.items election is.held),
+      (
+        refl,
+        subst₂ (λ rs cells. HoldsOnce (numbers_of (ballots_of rs)) cells) (sym c.deref-3.ensures.value)
+            (sym c.deref-4.ensures.value)
+            (once_in e c.in_ok-records.records.items c.args.cells.items election is.held is.laid),
+      ),
+    )
 
 pub kept-requires-clause-listing : goal.kept-requires-clause-listing
 kept-requires-clause-listing c =

@@ -1,63 +1,48 @@
-use Rattle.std.proofs.Common.{◌≡◌, ℕ, ◌+◌, List, get_or, sym, subst, arith, rules}
-use Rattle.std.proofs.lemmas.List.{length-map}
-use Rattle.std.proofs.lemmas.List.Sorted.{All-permutation, IsNonDecreasingBy-from_sort_by_key}
-use Rattle.std.specs.List.Sorted.{IsNonDecreasingBy}
-use Rattle.ballot_record.proofs.BallotNumbers.{length-numbers_of}
-use Rattle.ballot_record.specs.Record.{ballot}
-use Rattle.body_store.proofs.CellPlaces.{LeadUpTo, lead_more}
-use Rattle.body_store.proofs.Numbered.{AreListed, changed_listed, lists_moved}
-use Rattle.body_store.specs.Contents.{ballots_of}
-use Rattle.body_store.specs.Places.{AreRight, Lists}
+use Rattle.std.proofs.Common.{◌≡◌, ℕ, ◌++◌, List, drop, take, length, get_or, sym, ap, ◌∙◌, subst, arith, rules}
+use Rattle.std.proofs.Math.Seq.{take-append_seam}
+use Rattle.body_store.proofs.Numbered.{AreListed, changed_listed}
+use Rattle.body_store.proofs.Placed.{has_changed, so_far_left}
+use Rattle.body_store.specs.Places.{AreRight, IsLeft, Lists}
 use Rattle.body_store.specs.declared.places.Numbered.{Numbered}
-use Rattle.store_spec.specs.Ballot.{numbers_of}
 use Rattle.body_store.proofs.places.renewed.Goals as goal
 
-pub place_in-requires-clause-rising : goal.place_in-requires-clause-rising
-place_in-requires-clause-rising c =
-    subst (λ (ones : List Numbered). IsNonDecreasingBy (λ one. one.number) ones) (sym c.deref.ensures.value)
-    (IsNonDecreasingBy-from_sort_by_key
-    (λ one. one.number) c.sort_unstable_by_key.new.self.items c.sort_unstable_by_key.ensures.sorted
-    (λ a r q k. search rules))
-
-pub place_in-requires-clause-changed : goal.place_in-requires-clause-changed
-place_in-requires-clause-changed c some changed =
-    let records = c.args.records.now in
-    let numbers = numbers_of (ballots_of records) in
+pub place_all-requires : goal.place_all-requires
+place_all-requires g c =
+    let numbers = g.numbers in
     let old = c.args.old_cells.now in
+    let old_places = c.args.old_places.now in
     let cells = c.args.cells.now in
-    let gathered = c.push_moved.new.listed.items in
-    let sorted = c.sort_unstable_by_key.new.self.items in
-    let p = c.sort_unstable_by_key.ensures.permutation in
-    let size = length-numbers_of (ballots_of records) in
-    let as_many = length-map records ballot in
-    let all = c.in_ok-moved.ensures.all in
-    let more = c.in_ok-push_moved.ensures.more in
-    let moved = c.in_ok-push_moved.ensures.moved in
-    let are : AreListed numbers old cells c.args.before sorted = record {
-      later = λ k from lt. lists_moved gathered sorted (get_or numbers k 0) p
-          (more (get_or numbers k 0) (all k from (omega arith)));
-      moved = λ cell some changed. lists_moved gathered sorted (get_or old cell 0) p (moved cell some changed);
-    } in
-    subst (λ (ones : List Numbered). Lists ones (get_or cells c.loop-cell.cell 0)) (sym c.deref.ensures.value)
-    (changed_listed numbers old cells c.args.before sorted c.loop-cell.cell c.requires.cells c.requires.stood are some
-    changed)
-
-pub loop-cell-preserved : goal.loop-cell-preserved
-loop-cell-preserved c =
-    let numbers = numbers_of (ballots_of c.args.records.now) in
-    let cells = c.args.cells.now in
-    let places = c.loop-cell.places.items in
-    let cell = c.loop-cell.cell in
-    let gathered : AreRight numbers c.push_moved.new.listed.items = c.in_ok-push_moved.ensures.right numbers
-    c.requires.old c.in_ok-moved.ensures.right in
-    let sorted = All-permutation
-    (λ one. get_or numbers one.place 0 ≡ one.number) _ _ c.sort_unstable_by_key.ensures.permutation gathered in
-    let right = subst (λ (ones : List Numbered). AreRight numbers ones) (sym c.deref.ensures.value) sorted in
-    record {
-      lead =
-          subst (λ (ps : List ℕ). LeadUpTo numbers cells ps (cell + 1)) (sym c.push_reserved.ensures.items)
-          (lead_more numbers cells places cell c.place_in.result c.loop-cell.invariant.lead
-          (λ some. c.place_in.ensures numbers right c.requires.old some));
-      count = omega (arith, c.push_reserved.ensures.len, c.loop-cell.invariant.count);
-      space = omega (arith, c.push_reserved.ensures.capacity, c.loop-cell.invariant.space);
-    }
+    let held = length c.args.held.now in
+    let moved = c.leave.new.moved.items in
+    let places = c.deref_mut-2.result.now in
+    let few = c.requires.0 in
+    let once = c.requires.1.1.0 in
+    let lead = c.requires.1.1.1.1.0 in
+    let stood = c.requires.1.1.1.1.1 in
+    let left_places = c.leave.new.places in
+    let size : c.in_ok-places.places.len ≡ length left_places = omega arith in
+    let written : places ≡ left_places =
+    c.deref_mut-2.ensures.value
+    ∙ ap (λ n. take n (left_places ++ drop (length left_places) c.in_ok-places.places.items)) size
+    ∙ take-append_seam left_places (drop (length left_places) c.in_ok-places.places.items) in
+    let left = subst (λ (ps : List ℕ). IsLeft old old_places cells ps) (sym written) c.in_ok-leave.ensures.left in
+    let are : AreListed numbers old cells held moved = record {
+      later = λ k from lt. c.in_ok-leave.ensures.more (get_or numbers k 0) (c.in_ok-moved.ensures.all k from lt);
+      moved = c.in_ok-leave.ensures.moved;
+    } in (
+      few,
+      (
+        once,
+        (
+          subst (λ (ones : List Numbered). AreRight numbers ones) (sym c.deref.ensures.value)
+              (c.in_ok-leave.ensures.right numbers lead c.in_ok-moved.ensures.right),
+          (
+            so_far_left numbers old old_places cells places lead left (search rules),
+            λ cell some waits.
+                subst (λ (ones : List Numbered). Lists ones (get_or cells cell 0)) (sym c.deref.ensures.value)
+                (changed_listed numbers old cells held moved cell once stood are some
+                (has_changed numbers old old_places cells places cell few lead left some waits)),
+          ),
+        ),
+      ),
+    )

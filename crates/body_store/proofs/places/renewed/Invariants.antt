@@ -1,13 +1,7 @@
-use Rattle.std.proofs.Common.{◌≡◌, ◌≤◌, length, vec_capacity, vec_len}
-use Rattle.body_store.proofs.CellPlaces.{LeadUpTo}
-use Rattle.body_store.specs.Contents.{ballots_of}
-use Rattle.store_spec.specs.Ballot.{numbers_of}
 use Rattle.body_store.proofs.places.renewed.Given as goal
 
--- the cells so far have their places, and there is room for all
-abbrev pub invariant-loop-cell : goal.invariant-loop-cell
-invariant-loop-cell l = record {
-  lead : LeadUpTo (numbers_of (ballots_of l.records)) l.cells l.places.items l.cell;
-  count : vec_len l.places ≡ l.cell;
-  space : length l.cells ≤ vec_capacity l.places;
-}
+abbrev pub ghost-list_numbers : goal.ghost-list_numbers
+ghost-list_numbers g a = g.numbers
+
+abbrev pub ghost-place_all : goal.ghost-place_all
+ghost-place_all g a = g.numbers

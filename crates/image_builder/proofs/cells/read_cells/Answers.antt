@@ -4,7 +4,7 @@ use Rattle.std.proofs.lemmas.Result.{err_from_is_err_and}
 use Rattle.body_store.specs.Contents.{ballots_of}
 use Rattle.image_builder.proofs.FirstCells.{refused_behind, refused_within, room_next}
 use Rattle.image_builder.proofs.cells.read_cells.Goals as goal
-use Rattle.image_builder.specs.Cells.{kept_front}
+use Rattle.image_builder.specs.Cells.{kept_front, numbers_read}
 
 pub read_cell-requires-clause-room : goal.read_cell-requires-clause-room
 read_cell-requires-clause-room c =
@@ -14,7 +14,7 @@ read_cell-requires-clause-room c =
     let part = c.fill.new.part.items in
     let rest = c.in_ok-rest.rest.now in
     let same : front ++ (part ++ rest) ≡ front ++ c.args.part.now.items ++ c.args.bytes.now = ap (λ bytes. front ++ bytes) c.in_ok-rest.ensures.joined ∙ sym (append_assoc front c.args.part.now.items c.args.bytes.now) in
-    room_next e cells.numbers.items (ballots_of cells.records.items) (part ++ rest) (front ++ c.args.part.now.items ++ c.args.bytes.now) c.requires.election c.requires.kept.valid same c.requires.within
+    room_next e (numbers_read cells) (ballots_of cells.records.items) (part ++ rest) (front ++ c.args.part.now.items ++ c.args.bytes.now) c.requires.election c.requires.kept.valid same c.requires.within
     (omega (arith, length-append part rest, c.if-len-size.false, c.len.ensures, c.cell_bytes-size.ensures.size))
 
 pub returns-in_err-read_cell-clause-refused : goal.returns-in_err-read_cell-clause-refused

@@ -5,14 +5,14 @@ use Rattle.std.proofs.lemmas.Result.{err_from_is_err_and}
 use Rattle.body_store.specs.Contents.{ballots_of}
 use Rattle.image_builder.proofs.FirstCells.{parted, refused_behind, room_next}
 use Rattle.image_builder.proofs.cells.read_whole_cells.Goals as goal
-use Rattle.image_builder.specs.Cells.{kept_front}
+use Rattle.image_builder.specs.Cells.{kept_front, numbers_read}
 use Rattle.store_spec.specs.Election.{cell_size}
 
 pub read_cell-requires-clause-room : goal.read_cell-requires-clause-room
 read_cell-requires-clause-room c =
     let e = c.args.election.now in
     let l = c.loop-rest in
-    room_next e l.cells.numbers.items (ballots_of l.cells.records.items) l.rest.now (kept_front e c.args.cells.now ++ c.args.bytes.now) c.requires.election l.invariant.kept.valid l.invariant.joined c.requires.within
+    room_next e (numbers_read l.cells) (ballots_of l.cells.records.items) l.rest.now (kept_front e c.args.cells.now ++ c.args.bytes.now) c.requires.election l.invariant.kept.valid l.invariant.joined c.requires.within
     (let long : cell_size e ≤ length l.rest.now = omega (arith, c.loop-rest-test.true, c.cell_bytes-size.ensures.size) in long)
 
 pub returns-in_err-read_cell-clause-refused : goal.returns-in_err-read_cell-clause-refused

@@ -1,9 +1,10 @@
-use Rattle.std.proofs.Common.{◌≡◌, ℕ, suc, ◌+◌, ◌-◌, ◌*◌, ◌<◌, ◌≤◌, List, [], ◌++◌, length, get_or, take, drop, flat_map, replicate, sym, subst, ap, ◌∙◌, arith}
+use Rattle.std.proofs.Common.{◌≡◌, ℕ, zero, suc, ◌+◌, ◌-◌, ◌*◌, ◌<◌, ◌≤◌, List, [], ◌++◌, length, get_or, take, drop, flat_map, replicate, refl, sym, subst, ap, ◌∙◌, arith}
 use Rattle.std.proofs.Math.Nat.{mul-le-mul_right}
-use Rattle.std.proofs.lemmas.List.{get_or-drop, length-drop, length-take-le, take_more, take-replicate, drop-replicate, drop-drop, flat_map_more}
+use Rattle.std.proofs.Math.Seq.{take-add}
+use Rattle.std.proofs.lemmas.List.{get_or-drop, get_or-take, length-drop, length-take-le, replicate-append-replicate, take_more, take-replicate, drop-replicate, drop-drop, flat_map_more}
 use Rattle.std.proofs.lemmas.Slice.{take-put_mid, drop-put_mid}
 use borrow.Rule.Slice.PartMut.{put_mid, same_len_mid}
-use Rattle.image_builder.proofs.Images.{stored_cells}
+use Rattle.image_builder.proofs.Images.{cell_of_zero, stored_cells}
 use Rattle.image_builder.proofs.write.put_block.Goals as goal
 use Rattle.store_spec.specs.Election.{cell_size}
 use Rattle.store_spec.specs.Image.{cell_bytes, cells_of}
@@ -79,3 +80,74 @@ loop-place-preserved c =
           ∙ ap (λ n. replicate (n - (at + size)) 0) (sym same)
           ∙ ap (λ n. replicate (length (put_mid at k l.out new) - n) 0) (sym next);
     }
+
+-- a cell with no number is as it was filled
+empty_written : (f : ℕ → List ℕ) (cells out : List ℕ) (place size : ℕ) → place < length cells → get_or cells place 0 ≡ 0 → f 0 ≡ replicate size 0
+    → take (place * size) out ≡ flat_map f (take place cells) → drop (place * size) out ≡ replicate (length out - place * size) 0 → place * size + size ≤ length out
+    → take ((place + 1) * size) out ≡ flat_map f (take (place + 1) cells)
+empty_written f cells out place size there none blank written zeros room =
+    let at = place * size in
+    let next : (place + 1) * size ≡ at + size = omega arith in
+    ap (λ n. take n out) next
+    ∙ take-add at size out
+    ∙ ap (λ (bytes : List ℕ). bytes ++ take size (drop at out)) written
+    ∙ ap (λ (bytes : List ℕ). flat_map f (take place cells) ++ bytes) (zeros_next out at size size zeros room refl ∙ sym blank ∙ ap f (sym none))
+    ∙ pieces_more f cells place there
+
+pub loop-place-preserved-then-numbers-place-eq0 : goal.loop-place-preserved-then-numbers-place-eq0
+loop-place-preserved-then-numbers-place-eq0 c =
+    let l = c.loop-place in
+    let e = c.args.election.now in
+    let ballots = c.args.closed.now.ballots in
+    let size = c.cell_bytes-size.result in
+    let at = l.place * size in
+    let f = cell_bytes e ballots in
+    let cells = cells_of e ballots in
+    let behind = drop c.args.first cells in
+    let first = c.args.first in
+    let count = stored_cells e c.args.closed.now c.requires.own c.requires.stored in
+    let within = ends_within l.place c.args.count size (cell_size e) (length c.args.out.now) (length l.out) (omega arith) (omega arith) c.requires.room c.cell_bytes-size.ensures.size in
+    let same : c.cells.result.now ≡ cells = c.cells.ensures.cells ∙ ap (λ e. cells_of e ballots) (sym c.requires.own) in
+    let all : first + c.args.count - first ≡ c.args.count = omega arith in
+    let here : get_or (take (first + c.args.count - first) (drop first c.cells.result.now)) l.place 0 ≡ 0 = c.if-numbers-place-eq0.true in
+    let none : get_or behind l.place 0 ≡ 0 =
+    ap (λ (ns : List ℕ). get_or (drop first ns) l.place 0) (sym same) ∙ sym (get_or-take (first + c.args.count - first) (drop first c.cells.result.now) l.place 0 (omega (arith, all))) ∙ here in
+    let zeros : f 0 ≡ replicate size 0 = cell_of_zero e c.args.closed.now.election ballots c.requires.stored.set.valid ∙ ap (λ n. replicate n 0) (sym c.cell_bytes-size.ensures.size) in
+    let next : (l.place + 1) * size ≡ at + size = omega arith in
+    record {
+      written = empty_written f behind l.out l.place size (omega (arith, length-drop first cells, count, c.requires.there)) none zeros l.invariant.written l.invariant.blank within;
+      blank = ap (λ n. drop n l.out) next ∙ zeros_behind l.out at size l.invariant.blank ∙ ap (λ n. replicate (length l.out - n) 0) (sym next);
+    }
+
+-- the pieces of cells with no number
+pieces_of_none : (f : ℕ → List ℕ) (size count : ℕ) → f 0 ≡ replicate size 0 → flat_map f (replicate count 0) ≡ replicate (count * size) 0
+pieces_of_none f size zero blank =
+    let none : 0 * size ≡ 0 = omega arith in
+    ap (λ n. replicate n 0) (sym none)
+pieces_of_none f size (suc more) blank =
+    let long : suc more * size ≡ size + more * size = omega arith in
+    ap (λ (bytes : List ℕ). bytes ++ flat_map f (replicate more 0)) blank
+    ∙ ap (λ (bytes : List ℕ). replicate size 0 ++ bytes) (pieces_of_none f size more blank)
+    ∙ replicate-append-replicate size (more * size) 0
+    ∙ ap (λ n. replicate n 0) (sym long)
+
+pub returns-then-are_empty : goal.returns-then-are_empty
+returns-then-are_empty c =
+    let e = c.args.election.now in
+    let ballots = c.args.closed.now.ballots in
+    let f = cell_bytes e ballots in
+    let cells = cells_of e ballots in
+    let first = c.args.first in
+    let count = c.args.count in
+    let found = c.cells.result.now in
+    let same : found ≡ cells = c.cells.ensures.cells ∙ ap (λ e. cells_of e ballots) (sym c.requires.own) in
+    let many = stored_cells e c.args.closed.now c.requires.own c.requires.stored in
+    let all : first + count - first ≡ count = omega arith in
+    let here : take (first + count - first) (drop first found) ≡ replicate (length (take (first + count - first) (drop first found))) 0 = c.if-are_empty.ensures refl in
+    let long : length (take (first + count - first) (drop first found)) ≡ count = length-take-le (first + count - first) (drop first found) (omega (arith, length-drop first found, ap length same, many, c.requires.there)) ∙ all in
+    let none : take count (drop first cells) ≡ replicate count 0 =
+    ap (λ (ns : List ℕ). take count (drop first ns)) (sym same) ∙ ap (λ n. take n (drop first found)) (sym all) ∙ here ∙ ap (λ n. replicate n 0) long in
+    let zeros = cell_of_zero e c.args.closed.now.election ballots c.requires.stored.set.valid in
+    c.fill.ensures.after (λ y is. omega (arith, is))
+    ∙ ap (λ n. replicate n 0) c.requires.room
+    ∙ sym (ap (flat_map f) none ∙ pieces_of_none f (cell_size e) count zeros)

@@ -1,11 +1,12 @@
 use Rattle.std.proofs.Common.{◌-◌, ◌<◌, ◌∷◌, ◌++◌, [], length, map, arith, ap, ◌∙◌}
+use Rattle.std.proofs.Math.Seq.{map-set_same}
 use Rattle.std.proofs.lemmas.List.{length-map}
-use Rattle.phase_gate.proofs.Queues.{queued_there}
+use Rattle.phase_gate.proofs.Queues.{on_any_err, queued_there}
 use Rattle.phase_gate.proofs.work.queue.Goals as goal
 use Rattle.store_spec.specs.Session.{queued}
 
-pub returns : goal.returns
-returns g c =
+pub returns-clause-goes : goal.returns-clause-goes
+returns-clause-goes g c =
     let lists = c.args.lists.now.items in
     let place = c.from-place.result in
     let within : place - 1 < length lists = omega arith in (
@@ -14,3 +15,9 @@ returns g c =
           (c.in_ok-push.ensures.items ∙ ap (λ v. v.items ++ c.args.item ∷ []) c.index_mut.ensures.value)
           ∙ ap (λ t. queued (map (λ list. list.items) lists) t c.args.item) c.from-place.ensures,
     )
+
+pub returns-in_err-push-clause-unchanged : goal.returns-in_err-push-clause-unchanged
+returns-in_err-push-clause-unchanged g c =
+    on_any_err c.from_residual.result
+    (map-set_same (λ list. list.items) c.args.lists.now.items (c.from-place.result - 1) c.push.new.self
+    c.index_mut.result.now (c.in_err-push.ensures.items ∙ ap (λ v. v.items) c.index_mut.ensures.value))

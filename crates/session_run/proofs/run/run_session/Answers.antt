@@ -1,4 +1,4 @@
-use Rattle.std.proofs.Common.{◌≡◌, ◌+◌, length, ◌∙◌, Some, None, Ok, Err, refl, arith, subst, sym, ap}
+use Rattle.std.proofs.Common.{◌≡◌, ◌+◌, [], length, ◌∙◌, Some, None, Ok, Err, inl, refl, arith, subst, sym, ap}
 use Rattle.outside_io.specs.Outside.{input, output}
 use Rattle.phase_gate.specs.Around.{around}
 use Rattle.phase_gate.specs.LineEnds.{IsHandled, LastEnds, LineEnds}
@@ -6,13 +6,15 @@ use Rattle.phase_gate.specs.Telling.{told_by}
 use Rattle.outside_io.proofs.Reading.{few_given, read_nothing, read_whole, read_wide, read_first, read_out}
 use Rattle.session_run.proofs.Beginning.{answer_is, begins, counts_of, no_memory, now_told, refused}
 use Rattle.session_run.proofs.Ending.{SoFarBut, cut_off, failed_at, line_ended, played_out, starts_with}
+use Rattle.session_run.proofs.Queued.{not_queued, queued_more, was_queued}
 use Rattle.session_run.proofs.SoFar.{IsHanded, handled_more}
 use Rattle.session_run.proofs.SoFar.IsHanded.{whole, wide}
+use Rattle.phase_gate.specs.declared.fault.SessionFault.TheVariants as session
 use Rattle.session_run.specs.Faults.{line_fault, recover_fault, session_fault}
 use Rattle.std.specs.Prelude.{IfSome}
 use Rattle.store_spec.specs.Election.{Election}
 use Rattle.store_spec.specs.Medium.{IsMediumOf}
-use Rattle.store_spec.specs.Session.{State, begun}
+use Rattle.store_spec.specs.Session.{Answers, State, begun, replies}
 use Rattle.session_run.specs.Ends.{SessionEnds}
 use Rattle.session_run.proofs.run.run_session.Goals as goal
 use Rattle.session_run.proofs.run.run_session.Goals.{in-Whole, in-TooWide}
@@ -123,6 +125,45 @@ returns-in-End g c =
     (output g.K.Sink.taken g.K.Sink.faults c.lines.out) (output g.K.Sink.taken g.K.Sink.faults c.end.new.out))
     i.telling c.in_ok-end-in-End.ensures)
 
+pub returns-in_err-queue : goal.returns-in_err-queue
+returns-in_err-queue g c =
+    let model = disk_model g.D.Disk.seen g.D.Disk.calls g.D.Disk.may_leave g.D.Disk.faults in
+    let before = around (output g.K.Sink.taken g.K.Sink.faults c.args.out.now) c.args.disk.now c.args.report.now in
+    let mid = around (output g.K.Sink.taken g.K.Sink.faults c.lines.out) c.lines.disk c.lines.report in
+    let e = c.args.election.now in
+    let set = c.telling-session.result.state.set in
+    let state = c.lines.session.state in
+    let index = c.lines.index in
+    let said = c.in_ok-next_line.ensures in
+    let i = c.lines.invariant in
+    let bytes = c.match-branch-5.line.now in
+    let line = c.next_line.new.self.line in
+    let old = input g.S.Source.left g.S.Source.faults c.args.script.now in
+    let new = input g.S.Source.left g.S.Source.faults c.next_line.new.source in
+    let did = c.in_ok-closed.ensures in
+    let starts = starts_with model e set c.args.disk.now c.in_ok-closed.closed
+    (ap (λ (s : State). s.set) c.telling-session.ensures.begun) did.election did.held did.stored in
+    let tell = told_by c.args.telling in
+    let steady = said.fault.steady (λ failed. cc) ∙ i.no_fault in
+    subst (λ r. SessionEnds model (told_by c.args.telling) e r old new before mid)
+    (sym (answer_is c.from_residual-in_err-queue.result (session_fault session.Memory)
+    c.from_residual-in_err-queue.ensures.1))
+    (elim c.match-branch-5.branch [
+      | in-Whole w ↦ failed_at model tell e c.requires.election set before mid mid starts state index old new
+          (Some line) bytes session.Memory
+          (read_first (read_whole {Q = SoFarBut model tell e set state index before mid (Some line)} i.read
+          w.in-Whole.is said.answers said.progress said.within_room (λ lines so_far. (lines, refl, so_far))))
+          (few_given i.read said.answers said.within_room)
+          (subst (λ b. IsHanded (Some line) b) (sym (ap (λ l. l.now) w.line-is ∙ w.line-line.ensures)) (whole line))
+          steady (inl refl)
+      | in-TooWide w ↦ failed_at model tell e c.requires.election set before mid mid starts state index old new None
+          bytes session.Memory
+          (read_first (read_wide {Q = SoFarBut model tell e set state index before mid None} i.read w.in-TooWide.is
+          said.answers said.progress said.within_room (λ lines so_far. (lines, refl, so_far))))
+          (few_given i.read said.answers said.within_room)
+          (subst (λ b. IsHanded None b) (sym (ap (λ l. l.now) w.line-is)) wide) steady (inl refl)
+    ])
+
 pub returns-in_err-session : goal.returns-in_err-session
 returns-in_err-session g c =
     let model = disk_model g.D.Disk.seen g.D.Disk.calls g.D.Disk.may_leave g.D.Disk.faults in
@@ -144,9 +185,14 @@ returns-in_err-session g c =
     (ap (λ (s : State). s.set) c.telling-session.ensures.begun) did.election did.held did.stored in
     let why = c.in_err-session.field-0.0 in
     let tell = told_by c.args.telling in
-    let ends = subst (λ telling. LineEnds model (told_by telling) e (index + 1) state bytes (Err why) mid now) i.telling
-    (subst (λ (x : Election). LineEnds model (told_by c.lines.session.telling) x (index + 1) state bytes (Err why) mid
-    now) i.own c.in_err-session.ensures.ends) in
+    let same = not_queued c.in_ok-queue.field-0 (Answers c.lines.session.election (index + 1) state (Some bytes)) state
+    c.queue.new.self.state c.if-not-branch.true (c.in_ok-queue.ensures.queued (index + 1)) in
+    let ends = subst (λ telling. LineEnds model (told_by telling) e (index + 1) state bytes (Err why) mid now)
+    (c.queue.ensures.telling ∙ i.telling)
+    (subst (λ (x : Election). LineEnds model (told_by c.queue.new.self.telling) x (index + 1) state bytes (Err why) mid
+    now) (c.queue.ensures.election ∙ i.own)
+    (subst (λ (s : State). LineEnds model (told_by c.queue.new.self.telling) c.queue.new.self.election (index + 1) s
+    bytes (Err why) mid now) same c.in_err-session.ensures.ends)) in
     let steady = said.fault.steady (λ failed. cc) ∙ i.no_fault in
     subst (λ r. SessionEnds model (told_by c.args.telling) e r old new before now)
     (sym (answer_is c.from_residual-in_err-session.result (session_fault why)
@@ -169,6 +215,41 @@ returns-in_err-session g c =
 
 pub lines-preserved : goal.lines-preserved
 lines-preserved g c =
+    let mid = around (output g.K.Sink.taken g.K.Sink.faults c.lines.out) c.lines.disk c.lines.report in
+    let state = c.lines.session.state in
+    let index = c.lines.index in
+    let said = c.in_ok-next_line.ensures in
+    let i = c.lines.invariant in
+    let bytes = c.match-branch-5.line.now in
+    let line = c.next_line.new.self.line in
+    let next = c.queue.new.self.state in
+    let e = c.args.election.now in
+    let answers = subst (λ (x : Election). Answers x (index + 1) state (Some bytes) (replies [] next)) i.own
+    (was_queued c.in_ok-queue.field-0 (Answers c.lines.session.election (index + 1) state (Some bytes)) state next
+    c.if-not-branch.false (c.in_ok-queue.ensures.queued (index + 1))) in
+    record {
+      read = elim c.match-branch-5.branch [
+        | in-Whole w ↦ read_whole i.read w.in-Whole.is said.answers said.progress said.within_room (λ lines so_far.
+            queued_more _ c.args.telling _ _ lines _ next _ _ mid (Some line) _ c.requires.election
+            (subst (λ b. IsHanded (Some line) b) (sym (ap (λ l. l.now) w.line-is ∙ w.line-line.ensures))
+            (whole line)) so_far answers c.queue.ensures.set)
+        | in-TooWide w ↦ read_wide i.read w.in-TooWide.is said.answers said.progress said.within_room (λ lines so_far.
+            queued_more _ c.args.telling _ _ lines _ next _ _ mid None _ c.requires.election
+            (subst (λ b. IsHanded None b) (sym (ap (λ l. l.now) w.line-is)) wide) so_far answers c.queue.ensures.set)
+      ];
+      own = c.queue.ensures.election ∙ i.own;
+      telling = c.queue.ensures.telling ∙ i.telling;
+      counted = elim c.match-branch-5.branch [
+        | in-Whole w ↦ let less =
+            said.progress (λ is. let clash = sym w.in-Whole.is ∙ is in cc) in omega (arith, less, i.counted)
+        | in-TooWide w ↦ let less =
+            said.progress (λ is. let clash = sym w.in-TooWide.is ∙ is in cc) in omega (arith, less, i.counted)
+      ];
+      no_fault = said.fault.steady (λ failed. cc) ∙ i.no_fault;
+    }
+
+pub lines-preserved-then-not-branch : goal.lines-preserved-then-not-branch
+lines-preserved-then-not-branch g c =
     let model = disk_model g.D.Disk.seen g.D.Disk.calls g.D.Disk.may_leave g.D.Disk.faults in
     let mid = around (output g.K.Sink.taken g.K.Sink.faults c.lines.out) c.lines.disk c.lines.report in
     let now = around (output g.K.Sink.taken g.K.Sink.faults c.line.new.out) c.line.new.disk c.line.new.report in
@@ -181,9 +262,14 @@ lines-preserved g c =
     let next = c.in_ok-session.session.state in
     let e = c.args.election.now in
     let tell = told_by c.args.telling in
-    let did = subst (λ telling. IsHandled model (told_by telling) e (index + 1) state bytes next mid now) i.telling
-    (subst (λ (x : Election). IsHandled model (told_by c.lines.session.telling) x (index + 1) state bytes next mid
-    now) i.own c.in_ok-session.ensures.ends) in
+    let same = not_queued c.in_ok-queue.field-0 (Answers c.lines.session.election (index + 1) state (Some bytes)) state
+    c.queue.new.self.state c.if-not-branch.true (c.in_ok-queue.ensures.queued (index + 1)) in
+    let own = c.queue.ensures.election ∙ i.own in
+    let told = c.queue.ensures.telling ∙ i.telling in
+    let did = subst (λ telling. IsHandled model (told_by telling) e (index + 1) state bytes next mid now) told
+    (subst (λ (x : Election). IsHandled model (told_by c.queue.new.self.telling) x (index + 1) state bytes next mid now)
+    own (subst (λ (s : State). IsHandled model (told_by c.queue.new.self.telling) c.queue.new.self.election (index + 1) s
+    bytes next mid now) same c.in_ok-session.ensures.ends)) in
     record {
       read = elim c.match-branch-5.branch [
         | in-Whole w ↦ read_whole i.read w.in-Whole.is said.answers said.progress said.within_room (λ lines so_far.
@@ -194,8 +280,8 @@ lines-preserved g c =
             handled_more _ tell _ _ lines _ next _ _ _ now None _ c.requires.election
             (subst (λ b. IsHanded None b) (sym (ap (λ l. l.now) w.line-is)) wide) so_far did)
       ];
-      own = c.in_ok-session.ensures.election ∙ i.own;
-      telling = c.in_ok-session.ensures.telling ∙ i.telling;
+      own = c.in_ok-session.ensures.election ∙ own;
+      telling = c.in_ok-session.ensures.telling ∙ told;
       counted = elim c.match-branch-5.branch [
         | in-Whole w ↦ let less =
             said.progress (λ is. let clash = sym w.in-Whole.is ∙ is in cc) in omega (arith, less, i.counted)

@@ -5,7 +5,7 @@ use Rattle.body_store.specs.Contents.{ballots_of}
 use Rattle.image_builder.proofs.Fed.{IsBehind, IsOwn, behind_header, feeding_more, front_in_cells, own_parts, parts_more, refused_header}
 use Rattle.image_builder.proofs.FirstCells.{refused_within}
 use Rattle.image_builder.proofs.reader.ImageReader.feed.Goals as goal
-use Rattle.image_builder.specs.Cells.{HasSpace, front_of}
+use Rattle.image_builder.specs.Cells.{HasSpace, front_of, numbers_read}
 use Rattle.image_builder.specs.Feeding.{IsFront, IsRefusedPiece}
 use Rattle.image_builder.specs.declared.read.ImageFault.TheVariants.{OtherElection}
 use Rattle.store_spec.specs.Ballot.{Ballot}
@@ -23,11 +23,11 @@ pub returns-in_err-check_header-clause-refused : goal.returns-in_err-check_heade
 returns-in_err-check_header-clause-refused c =
     let e = c.args.election.now in
     let kept = c.self.inside in
-    let numbers = kept.cells.numbers.items in
+    let numbers = numbers_read kept.cells in
     let ballots = ballots_of kept.cells.records.items in
     let part = kept.part.items in
     let now = c.take-rest.new.self in
-    let own = own_parts e kept.election kept.header numbers kept.cells.reaches.items ballots part c.args.self c.self.view_is c.requires.own c.self.invariant.parts in
+    let own = own_parts e kept.election.value kept.header numbers kept.cells.reaches.items ballots part c.args.self c.self.view_is c.requires.own c.self.invariant.parts in
     let said = c.in_err-check_header.ensures in
     let whole : length now ≡ 32 = omega (arith, c.bytes.ensures.within, c.if-bytes-lt-HEADER_BYTES.false, ap length c.bytes.ensures.bytes) in
     let other : take 32 now ≢ header_of e = λ is. said.other (ap (take 32) c.bytes-2.ensures.bytes ∙ is) in
@@ -39,10 +39,10 @@ pub read_cells-requires-clause-within : goal.read_cells-requires-clause-within
 read_cells-requires-clause-within c =
     let e = c.args.election.now in
     let kept = c.self.inside in
-    let numbers = kept.cells.numbers.items in
+    let numbers = numbers_read kept.cells in
     let ballots = ballots_of kept.cells.records.items in
     let part = kept.part.items in
-    let own = own_parts e kept.election kept.header numbers kept.cells.reaches.items ballots part c.args.self c.self.view_is c.requires.own c.self.invariant.parts in
+    let own = own_parts e kept.election.value kept.header numbers kept.cells.reaches.items ballots part c.args.self c.self.view_is c.requires.own c.self.invariant.parts in
     let stands = behind e kept.header c.take-rest.new.self c.bytes-2.result.now c.take-rest.result.now c.args.bytes.now numbers kept.cells.reaches.items ballots part c.args.self.fed own
     c.take-rest.ensures.joined c.bytes-2.ensures.bytes c.bytes-2.ensures.within c.in_ok-check_header.ensures.own in
     subst (λ (all : List ℕ). length all ≤ bank_size e) (sym stands.joined) c.requires.within
@@ -51,12 +51,12 @@ pub returns-in_err-read_cells-clause-refused : goal.returns-in_err-read_cells-cl
 returns-in_err-read_cells-clause-refused c =
     let e = c.args.election.now in
     let kept = c.self.inside in
-    let numbers = kept.cells.numbers.items in
+    let numbers = numbers_read kept.cells in
     let ballots = ballots_of kept.cells.records.items in
     let part = kept.part.items in
     let rest = c.take-rest.result.now in
     let bytes = c.args.bytes.now in
-    let own = own_parts e kept.election kept.header numbers kept.cells.reaches.items ballots part c.args.self c.self.view_is c.requires.own c.self.invariant.parts in
+    let own = own_parts e kept.election.value kept.header numbers kept.cells.reaches.items ballots part c.args.self c.self.view_is c.requires.own c.self.invariant.parts in
     let stands = behind e kept.header c.take-rest.new.self c.bytes-2.result.now rest bytes numbers kept.cells.reaches.items ballots part c.args.self.fed own
     c.take-rest.ensures.joined c.bytes-2.ensures.bytes c.bytes-2.ensures.within c.in_ok-check_header.ensures.own in
     let front = front_of e numbers ballots ++ part in
@@ -67,20 +67,20 @@ pub invariant_of-result-2 : goal.invariant_of-result-2
 invariant_of-result-2 c =
     let e = c.args.election.now in
     let kept = c.self.inside in
-    let numbers = kept.cells.numbers.items in
+    let numbers = numbers_read kept.cells in
     let ballots = ballots_of kept.cells.records.items in
     let part = kept.part.items in
     let now = c.take-rest.new.self in
     let all = c.args.self.fed ++ c.args.bytes.now in
-    let own = own_parts e kept.election kept.header numbers kept.cells.reaches.items ballots part c.args.self c.self.view_is c.requires.own c.self.invariant.parts in
+    let own = own_parts e kept.election.value kept.header numbers kept.cells.reaches.items ballots part c.args.self c.self.view_is c.requires.own c.self.invariant.parts in
     let stands = behind e kept.header now c.bytes-2.result.now c.take-rest.result.now c.args.bytes.now numbers kept.cells.reaches.items ballots part c.args.self.fed own
     c.take-rest.ensures.joined c.bytes-2.ensures.bytes c.bytes-2.ensures.within c.in_ok-check_header.ensures.own in
     let cells = c.read_cells.new.cells in
     let read = c.in_ok-read_cells.ensures in
-    let same : kept.election ≡ e = ap (λ f. f.election) c.self.view_is ∙ sym c.requires.own in
+    let same : kept.election.value ≡ e = ap (λ f. f.election) c.self.view_is ∙ sym c.requires.own in
     let whole : now ≡ header_of e = sym c.bytes-2.ensures.bytes ∙ sym (take_all 32 c.bytes-2.result.now c.bytes-2.ensures.within) ∙ c.in_ok-check_header.ensures.own in
     record {
-      parts = parts_more e kept.election now cells.numbers.items cells.reaches.items (ballots_of cells.records.items) c.read_cells.new.part.items all same whole read.kept read.short (read.fed ∙ stands.joined) c.requires.within;
+      parts = parts_more e kept.election.value now (numbers_read cells) cells.reaches.items (ballots_of cells.records.items) c.read_cells.new.part.items all same whole read.kept read.short (read.fed ∙ stands.joined) c.requires.within;
       room = subst (λ (x : Election). HasSpace x cells) (sym same) read.wide;
     }
 
@@ -88,31 +88,31 @@ pub returns-clause-fed : goal.returns-clause-fed
 returns-clause-fed c =
     let e = c.args.election.now in
     let kept = c.self.inside in
-    let numbers = kept.cells.numbers.items in
+    let numbers = numbers_read kept.cells in
     let ballots = ballots_of kept.cells.records.items in
     let part = kept.part.items in
     let now = c.take-rest.new.self in
-    let own = own_parts e kept.election kept.header numbers kept.cells.reaches.items ballots part c.args.self c.self.view_is c.requires.own c.self.invariant.parts in
+    let own = own_parts e kept.election.value kept.header numbers kept.cells.reaches.items ballots part c.args.self c.self.view_is c.requires.own c.self.invariant.parts in
     let stands = behind e kept.header now c.bytes-2.result.now c.take-rest.result.now c.args.bytes.now numbers kept.cells.reaches.items ballots part c.args.self.fed own
     c.take-rest.ensures.joined c.bytes-2.ensures.bytes c.bytes-2.ensures.within c.in_ok-check_header.ensures.own in
     let cells = c.read_cells.new.cells in
-    let same : kept.election ≡ e = ap (λ f. f.election) c.self.view_is ∙ sym c.requires.own in
+    let same : kept.election.value ≡ e = ap (λ f. f.election) c.self.view_is ∙ sym c.requires.own in
     let whole : now ≡ header_of e = sym c.bytes-2.ensures.bytes ∙ sym (take_all 32 c.bytes-2.result.now c.bytes-2.ensures.within) ∙ c.in_ok-check_header.ensures.own in
-    feeding_more e kept.election now cells.numbers.items (ballots_of cells.records.items) c.read_cells.new.part.items (c.args.self.fed ++ c.args.bytes.now) same whole (c.in_ok-read_cells.ensures.fed ∙ stands.joined)
+    feeding_more e kept.election.value now (numbers_read cells) (ballots_of cells.records.items) c.read_cells.new.part.items (c.args.self.fed ++ c.args.bytes.now) same whole (c.in_ok-read_cells.ensures.fed ∙ stands.joined)
 
 pub returns-clause-front : goal.returns-clause-front
 returns-clause-front c =
     let e = c.args.election.now in
     let kept = c.self.inside in
-    let numbers = kept.cells.numbers.items in
+    let numbers = numbers_read kept.cells in
     let ballots = ballots_of kept.cells.records.items in
     let part = kept.part.items in
     let all = c.args.self.fed ++ c.args.bytes.now in
-    let own = own_parts e kept.election kept.header numbers kept.cells.reaches.items ballots part c.args.self c.self.view_is c.requires.own c.self.invariant.parts in
+    let own = own_parts e kept.election.value kept.header numbers kept.cells.reaches.items ballots part c.args.self c.self.view_is c.requires.own c.self.invariant.parts in
     let stands = behind e kept.header c.take-rest.new.self c.bytes-2.result.now c.take-rest.result.now c.args.bytes.now numbers kept.cells.reaches.items ballots part c.args.self.fed own
     c.take-rest.ensures.joined c.bytes-2.ensures.bytes c.bytes-2.ensures.within c.in_ok-check_header.ensures.own in
     let cells = c.read_cells.new.cells in
     let read = c.in_ok-read_cells.ensures in
     let fed = read.fed ∙ stands.joined in
-    subst (IsFront e) fed (front_in_cells e cells.numbers.items cells.reaches.items (ballots_of cells.records.items) c.read_cells.new.part.items c.in_ok-check_header.ensures.valid read.kept read.short
+    subst (IsFront e) fed (front_in_cells e (numbers_read cells) cells.reaches.items (ballots_of cells.records.items) c.read_cells.new.part.items c.in_ok-check_header.ensures.valid read.kept read.short
     (subst (λ (bytes : List ℕ). length bytes ≤ bank_size e) (sym fed) c.requires.within))

@@ -10,7 +10,7 @@ use Rattle.store_spec.specs.Session.{Does, in_phase}
 pub invariant_of-queued : goal.invariant_of-queued
 invariant_of-queued c = record {
   waiting = item_may_wait c.args.self.closed.election (phase_of c.args.self.work) c.args.tab c.args.item c.in_ok-queued.queued
-      (phase_of c.wait.new.self) c.requires.tab.0 c.requires.item c.args.self.waiting c.in_ok-queued.ensures;
+      (phase_of c.wait.new.self) c.requires.tab.0 c.requires.item c.args.self.waiting c.in_ok-queued.ensures.goes;
 }
 
 pub returns-clause-does : goal.returns-clause-does
@@ -22,5 +22,5 @@ returns-clause-does c =
     (Does self.closed.election c.args.index (state_of self) (item_line c.args.tab c.args.item) (phase_of self.work))
     (λ answer. effect_of answer (string_bytes c.queued.new.reply))
     (item_does self.closed.election c.args.index self.closed.ballots c.args.tab c.args.item (phase_of self.work)
-    c.in_ok-queued.queued now effect c.in_ok-queued.ensures refl)
+    c.in_ok-queued.queued now effect c.in_ok-queued.ensures.goes refl)
     c.queued.ensures.effect

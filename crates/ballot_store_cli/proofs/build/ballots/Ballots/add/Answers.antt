@@ -14,31 +14,31 @@ pub returns-then-eq : goal.returns-then-eq
 returns-then-eq c =
     let records = c.args.self.now.records.items in
     let held = c.in-Some.held.now in
-    let is : found_in records c.args.cast.number ≡ Some held = ap (λ records. found_in records c.args.cast.number) (sym c.deref.ensures.value) ∙ sym c.in-Some.ensures in
-    let f = found records c.args.cast.number held is in
-    let same : held ≡ c.args.cast = search rules in
-    (f.place, omega (arith, length-map records ballot, f.within), get_or-map ballot records f.place held (ballot c.args.cast) f.within ∙ ap ballot (f.is held ∙ same))
+    let is : found_in records c.args.cast.now.number ≡ Some held = ap (λ records. found_in records c.args.cast.now.number) (sym c.deref.ensures.value) ∙ sym c.in-Some.ensures in
+    let f = found records c.args.cast.now.number held is in
+    let same : held ≡ c.args.cast.now = search rules in
+    (f.place, omega (arith, length-map records ballot, f.within), get_or-map ballot records f.place held (ballot c.args.cast.now) f.within ∙ ap ballot (f.is held ∙ same))
 
 pub returns-else-eq : goal.returns-else-eq
 returns-else-eq c =
     let records = c.args.self.now.records.items in
     let held = c.in-Some.held.now in
-    let is : found_in records c.args.cast.number ≡ Some held = ap (λ records. found_in records c.args.cast.number) (sym c.deref.ensures.value) ∙ sym c.in-Some.ensures in
-    let f = found records c.args.cast.number held is in
-    let other : held ≢ c.args.cast = search rules in
+    let is : found_in records c.args.cast.now.number ≡ Some held = ap (λ records. found_in records c.args.cast.now.number) (sym c.deref.ensures.value) ∙ sym c.in-Some.ensures in
+    let f = found records c.args.cast.now.number held is in
+    let other : held ≢ c.args.cast.now = search rules in
     (f.place, ballot held, omega (arith, length-map records ballot, f.within), get_or-map ballot records f.place held (ballot held) f.within ∙ ap ballot (f.is held), (f.numbered, λ same. other (ap (λ (b : Ballot). record_like b) same)))
 
 pub returns-then-len-limit : goal.returns-then-len-limit
 returns-then-len-limit c =
     let records = c.args.self.now.records.items in
-    let none : found_in records c.args.cast.number ≡ None = ap (λ records. found_in records c.args.cast.number) (sym c.deref.ensures.value) ∙ sym c.in_default.ensures in
+    let none : found_in records c.args.cast.now.number ≡ None = ap (λ records. found_in records c.args.cast.now.number) (sym c.deref.ensures.value) ∙ sym c.in_default.ensures in
     let counted = length-map records ballot in
-    (λ any. ballot_missing records c.args.cast.number none any.0 any.1 any.2 (ap (λ (b : Ballot). b.number) any.3 ∙ any.4), omega (arith, counted, c.requires.sound.within_limit, c.if-len-limit.true))
+    (λ any. ballot_missing records c.args.cast.now.number none any.0 any.1 any.2 (ap (λ (b : Ballot). b.number) any.3 ∙ any.4), omega (arith, counted, c.requires.sound.within_limit, c.if-len-limit.true))
 
 pub returns : goal.returns
 returns c =
     let old = c.args.self.now in
-    let cast = c.args.cast in
+    let cast = c.args.cast.now in
     let records = old.records.items in
     let none : found_in records cast.number ≡ None = ap (λ records. found_in records cast.number) (sym c.deref.ensures.value) ∙ sym c.in_default.ensures in
     let so_far : map ballot c.push.new.self.items ≡ map ballot records ++ ballot cast ∷ [] = ap (map ballot) c.in_ok-push.ensures.items ∙ map_push ballot records cast in

@@ -23,8 +23,8 @@ returns-in_ok-insert c =
     let has = subst (λ slot. HasSlot (slice_get records (slice_index firsts slot)) slot) is (subst (λ place. HasSlot (slice_get records place) slot) place (c.if-has_slot.ensures.0 refl)) in
     record {
       slots = i.slots;
-      held = others_grown firsts others new_others records c.args.cast i.held c.requires.absent has updated;
-      others = others_kept others new_others records c.args.cast c.requires.absent i.others updated;
+      held = others_grown firsts others new_others records c.args.cast.now i.held c.requires.absent has updated;
+      others = others_kept others new_others records c.args.cast.now c.requires.absent i.others updated;
     }
 
 pub returns-else-has_slot : goal.returns-else-has_slot
@@ -39,9 +39,9 @@ returns-else-has_slot c =
     let place = get_or_read firsts slot c.index.result.now (omega (arith, i.slots, c.slot_of-slot.ensures.at_most)) c.index.ensures 0 in
     let free = subst (λ slot. ¬ HasSlot (slice_get records (slice_index firsts slot)) slot) is (subst (λ place. ¬ HasSlot (slice_get records place) slot) place (λ has. false≢true (c.if-has_slot.ensures.1 has))) in
     let here = ap (slice_index new_firsts) (sym is) ∙ get_or-set_same firsts slot (length records) 0 (omega (arith, i.slots, c.slot_of-slot.ensures.at_most)) in
-    let elsewhere = λ (at : ℕ) (differs : at ≢ slot_of c.args.cast.number). get_or-set_other firsts slot at (length records) 0 (λ e. differs (e ∙ is)) in
+    let elsewhere = λ (at : ℕ) (differs : at ≢ slot_of c.args.cast.now.number). get_or-set_other firsts slot at (length records) 0 (λ e. differs (e ∙ is)) in
     record {
       slots = length-set firsts slot (length records) ∙ i.slots;
-      held = first_grown firsts new_firsts others records c.args.cast i.held i.others c.requires.absent free here elsewhere;
-      others = first_kept others records c.args.cast i.others;
+      held = first_grown firsts new_firsts others records c.args.cast.now i.held i.others c.requires.absent free here elsewhere;
+      others = first_kept others records c.args.cast.now i.others;
     }

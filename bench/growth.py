@@ -1,0 +1,121 @@
+#!/usr/bin/env python3
+"""Measures how the cost of a program grows, and how much memory it takes, beside a peer.
+
+    growth.py BINARY PEER [--count]
+
+For 8,000 and 32,768 ballots of each kind of work: instructions by callgrind with --count, else processor time (the
+least of five runs), and peak memory. The last column is the growth of BINARY, that of PEER, and one by the other.
+"""
+import json
+import os
+import random
+import subprocess
+import sys
+import tempfile
+from pathlib import Path
+
+SIZES = (8_000, 32_768)
+
+
+def election(contests, bits, limit=32_768):
+    return {"contests": [{"choices": 4, "allowed": 1}] * contests, "styles": [list(range(1, contests + 1))],
+            "limit": limit, "bits": bits, "salt": "0000000000000000"}
+
+
+def ballots(count, contests):
+    rng = random.Random(7)
+    numbers = {}
+    while len(numbers) < count:
+        numbers[rng.getrandbits(64) | 1] = None
+    return [(number, "/".join(rng.choice("-1234") for _ in range(contests))) for number in numbers]
+
+
+def phase(kind, lines, tabs):
+    return [f"open {kind} {tabs}"] + [f"{kind} {1 + at % tabs} {line}" for at, line in enumerate(lines)] + ["close"]
+
+
+class Work:
+    """A kind of work: its election, its words, its script, and the lines that make the medium before it."""
+
+    def __init__(self, name, make, contests=2, bits=16):
+        self.name, self.make, self.contests, self.bits = name, make, contests, bits
+
+
+def casts(tabs):
+    return lambda cast, _: (["session"], [], phase("cast", cast, tabs) + ["checkpoint"])
+
+
+def on_full(lines):
+    return lambda cast, numbers: (["session"], phase("cast", cast, 1) + ["checkpoint"], lines(numbers))
+
+
+WORKS = [
+    Work("build", lambda cast, _: (["build"], [], cast)),
+    Work("casts, 1 tabulator", casts(1)),
+    Work("casts, 16 tabulators", casts(16)),
+    Work("withdrawals of all", on_full(lambda numbers: phase("withdraw", numbers, 1))),
+    Work("finds of all", on_full(lambda numbers: phase("find", numbers, 1))),
+    Work("ten tallies", on_full(lambda numbers: ["tally"] * 10)),
+    Work("one export", on_full(lambda numbers: ["export"])),
+    Work("audit", lambda cast, _: (["audit"], phase("cast", cast, 1) + ["checkpoint"], [])),
+    Work("large, 16 tabulators", lambda cast, _: (["large", "--seed", "1", "--count", str(len(cast)), "--tabs", "16"],
+                                                  [], [])),
+    Work("casts, all homes equal", casts(1), bits=0),
+    Work("build, all homes equal", lambda cast, _: (["build"], [], cast), bits=0),
+    Work("casts, 16 contests", casts(1), contests=16),
+    Work("large, 16 contests", lambda cast, _: (["large", "--seed", "1", "--count", str(len(cast)), "--tabs", "4"],
+                                                [], []), contests=16),
+    Work("one export, 16 contests", on_full(lambda numbers: ["export"]), contests=16),
+]
+
+
+def run(room, program, words, script, counted):
+    """Runs a program; answers millions of instructions or seconds of processor time, and its peak memory in MiB."""
+    before = ["valgrind", "--tool=callgrind", "--callgrind-out-file=/dev/null"] if counted else []
+    (room / "script").write_bytes("".join(line + "\n" for line in script).encode())
+    files = [str(room / name) for name in ("script", "out", "told")]
+    done = subprocess.run([str(room / "runner"), "600", *files, "--", *before, program, str(room / "medium"),
+                           str(room / "election"), *words], capture_output=True, text=True, check=True)
+    _, user, system, memory, status, *_ = map(int, done.stdout.split())
+    told = (room / "told").read_text()
+    assert status == 0, (program, words, told)
+    if counted:
+        return float(told.split("Collected :")[1].split()[0]) / 1e6, 0
+    return (user + system) / 1e6, memory / 1024
+
+
+def cost(room, program, work, count, counted):
+    lines = ballots(count, work.contests)
+    cast = [f"{number} 1 {groups}" for number, groups in lines]
+    words, before, script = work.make(cast, [str(number) for number, _ in lines])
+    (room / "election").write_text(json.dumps(election(work.contests, work.bits)))
+    times, peak = [], 0
+    for _ in range(1 if counted else 5):
+        (room / "medium").unlink(missing_ok=True)
+        if words != ["build"]:
+            run(room, program, ["init"], [], False)
+            run(room, program, ["session"], before, False)
+        time, memory = run(room, program, words, script, counted)
+        times.append(time)
+        peak = max(peak, memory)
+    return min(times), peak
+
+
+def main():
+    program, peer = (os.path.abspath(path) for path in sys.argv[1:3])
+    counted = "--count" in sys.argv
+    unit = "million instructions" if counted else "seconds"
+    heads = ["Work", f"{unit}, 8,000", "32,768", "MiB", "peer, 8,000", "32,768", "MiB", "ratio, 32,768", "growth"]
+    print("| " + " | ".join([*heads, "peer's", "by it"]) + " |\n|" + "---|" * (len(heads) + 2))
+    with tempfile.TemporaryDirectory(dir="/dev/shm") as folder:
+        source = Path(__file__).resolve().parent / "tools/runner.c"
+        subprocess.run(["cc", "-O2", "-static", "-o", f"{folder}/runner", source], check=True)
+        for work in WORKS:
+            few, many = (cost(Path(folder), program, work, size, counted) for size in SIZES)
+            peer_few, peer_many = (cost(Path(folder), peer, work, size, counted) for size in SIZES)
+            grown, peers = many[0] / few[0], peer_many[0] / peer_few[0]
+            figures = [few[0], *many, peer_few[0], *peer_many, many[0] / peer_many[0], grown, peers, grown / peers]
+            print("| " + " | ".join([work.name] + [f"{figure:.3g}" for figure in figures]) + " |", flush=True)
+
+
+main()

@@ -1,0 +1,15 @@
+use Rattle.std.proofs.Common.{◌≢◌, ◌<◌, ◌≤◌, ◌-◌, length, slice_index}
+use Rattle.body_store.proofs.Numbered.{LeftUpTo, MovedUpTo}
+use Rattle.body_store.proofs.places.leave.Given as goal
+
+-- what is known up to a cell, which changed
+abbrev pub invariant-loop-cell : goal.invariant-loop-cell
+invariant-loop-cell l = record {
+  moved : MovedUpTo l.old_cells l.old_places l.cells l.initial.moved.items l.moved.items l.cell;
+  left : LeftUpTo l.old_cells l.old_places l.cells l.places l.cell;
+  within : l.cell ≤ length l.cells;
+  changed : l.cell < length l.cells → slice_index l.old_cells l.cell ≢ slice_index l.cells l.cell;
+}
+
+abbrev pub decreases-loop-cell : goal.decreases-loop-cell
+decreases-loop-cell l = length l.cells - l.cell
