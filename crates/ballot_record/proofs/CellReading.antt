@@ -155,3 +155,14 @@ all_sets contests bytes place marks rest all so_far =
     let none : contests - place ≡ 0 = omega arith in
     let sets : so_far.before ≡ sets_at contests bytes = sym (append-nil so_far.before) ∙ ap (λ n. so_far.before ++ sets_at n rest) (sym none) ∙ so_far.more in
     so_far.kept ∙ ap₂ (λ x n. x ++ replicate (16 - n) 0) sets all
+
+zero_anywhere : (n k : ℕ) → get_or {A = ℕ} (replicate n 0) k 0 ≡ 0
+zero_anywhere zero k = refl
+zero_anywhere (suc n) zero = refl
+zero_anywhere (suc n) (suc k) = zero_anywhere n k
+
+pub nothing_behind : (contests : ℕ) (bytes marks : List ℕ) → marks ≡ sets_at contests bytes ++ replicate (16 - contests) 0 → (k : ℕ) → contests ≤ k → get_or marks k 0 ≡ 0
+nothing_behind contests bytes marks is k past =
+    ap (λ marks. get_or marks k 0) is
+    ∙ get_or-append_right (sets_at contests bytes) (replicate (16 - contests) 0) contests k 0 (length-sets_at contests bytes) past
+    ∙ zero_anywhere (16 - contests) (k - contests)

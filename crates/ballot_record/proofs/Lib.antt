@@ -9,13 +9,13 @@ mod Counts
 mod Fronts
 mod Joining
 mod LineAnswers
-mod LineFours
 pub mod LineFronts
 pub mod LineGroups
 pub mod LineLaws
 mod LineMarks
 pub mod LineNumbers
 mod LinePrints
+mod LineRuns
 mod LineSets
 pub mod LineWhole
 pub mod Lookups

@@ -38,6 +38,13 @@ four_at (a ∷ b ∷ c ∷ d ∷ bytes) =
     )
     else None
 
+-- the number of the eight digits that stand first, and the bytes after them
+unfoldable pub eight_at : List ℕ → Option (ℕ × List ℕ)
+eight_at bytes =
+    option_and_then (λ (high : ℕ × List ℕ).
+    option_map (λ (low : ℕ × List ℕ). (high.0 * 10000 + low.0, low.1)) (four_at high.1))
+    (four_at bytes)
+
 -- what comes of the bytes after this one where it stands first, and otherwise the last argument
 abbrev pub past_byte : {A : Type 0} → ℕ → List ℕ → (List ℕ → A) → A → A
 past_byte wanted [] goes_on otherwise = otherwise

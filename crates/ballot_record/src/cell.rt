@@ -34,37 +34,35 @@ fn take_set(bytes: &[u8]) -> (u32, &[u8])
     (set, rest)
 }
 
-/// So many mark sets, with zeros behind them.
-fn take_sets(bytes: &[u8], contests: usize) -> [u32; MAX_MARK_SETS]
+/// Puts so many mark sets before the zeros.
+fn put_sets(bytes: &[u8], contests: usize, marks: &mut [u32; MAX_MARK_SETS])
     requires few { contests ≤ MARK_SETS }
     requires long { length bytes.now ≡ 4 * contests }
-    ensures { result ≡ sets_at contests bytes.now ++ replicate (MARK_SETS - contests) 0 }
+    requires empty { marks.old ≡ replicate MAX_MARK_SETS 0 }
+    ensures { marks.new ≡ sets_at contests bytes.now ++ replicate (MARK_SETS - contests) 0 }
 {
-    let mut marks = [0; MAX_MARK_SETS];
     let mut rest = bytes;
     for place in 0..contests {
         let (set, after) = take_set(rest);
         marks[place] = set;
         rest = after;
     }
-    marks
 }
 
-/// The record that the bytes of a cell spell, valid or not.
-fn record_at(bytes: &[u8], contests: usize) -> Record
+/// Puts the parts of the record that the bytes of a cell spell, valid or not. They are written in place, as a record
+/// is long.
+fn put_parts(bytes: &[u8], contests: usize, parts: &mut Record)
     requires few { contests ≤ MARK_SETS }
     requires long { length bytes.now ≡ 9 + 4 * contests }
-    ensures { ballot result ≡ ballot_at contests bytes.now }
+    requires empty { parts.old.marks ≡ replicate MAX_MARK_SETS 0 }
+    ensures { ballot parts.new ≡ ballot_at contests bytes.now }
 {
     let (front, rest) = bytes.split_at(8);
-    let number = u64::from_be_bytes([
+    parts.number = u64::from_be_bytes([
         front[0], front[1], front[2], front[3], front[4], front[5], front[6], front[7],
     ]);
-    Record {
-        number,
-        style: rest[0],
-        marks: take_sets(&rest[1..], contests),
-    }
+    parts.style = rest[0];
+    put_sets(&rest[1..], contests, &mut parts.marks);
 }
 
 fn are_zero(bytes: &[u8]) -> bool
@@ -85,7 +83,12 @@ pub fn take_cell(bytes: &[u8], election: &Election) -> CellRead
         × ((b : Ballot) → ¬ IsCellOf election.now bytes.now b)) }
 {
     let contests = election.contests();
-    let record = record_at(bytes, contests);
+    let mut record = Record {
+        number: 0,
+        style: 0,
+        marks: [0; MAX_MARK_SETS],
+    };
+    put_parts(bytes, contests, &mut record);
     if record.valid_up_to(election, contests) {
         CellRead::Held(record)
     } else if are_zero(bytes) {

@@ -1,6 +1,6 @@
 ghost use Rattle.std.specs.Prelude.{◌≡◌, ℕ, ◌^◌, ◌<◌, ◌≤◌, ◌↔◌, option_map, option_copied, replicate, Some, None, Ok, Err, IfOk};
 ghost use Rattle.store_spec.specs.BallotLine.{IsRecordLine, Spells, IsLineOf};
-ghost use Rattle.ballot_record.specs.LineReading.{digits_at, four_at, past_byte, choices_at, group_at, groups_of, line_of};
+ghost use Rattle.ballot_record.specs.LineReading.{digits_at, four_at, eight_at, past_byte, choices_at, group_at, groups_of, line_of};
 ghost use Rattle.ballot_record.specs.Line.{set_seen, sets_seen, line_seen};
 ghost use Rattle.ballot_record.specs.Record.{ballot};
 
@@ -19,38 +19,73 @@ fn after_byte(bytes: &[u8], byte: u8) -> Option<&[u8]>
 /// What four digits 0 spell where each byte counts as its code.
 const FOUR_ZEROS: u64 = 1111 * b'0' as u64;
 
-/// The number of the four digits that stand first, and the bytes after them.
+/// What eight digits 0 spell where each byte counts as its code.
+const EIGHT_ZEROS: u64 = 11_111_111 * b'0' as u64;
+
+/// The number of the four digits that stand first, and the bytes after them. The bytes are judged together, with `&`,
+/// as all but the last run of a number are digits.
 #[tactic(auto, unfolding(crate::specs::LineReading::four_at))]
 fn four_digits(bytes: &[u8]) -> Option<(u64, &[u8])>
     ensures { option_map (λ x. (x.0, x.1.now)) result ≡ four_at bytes.now }
 {
     match bytes {
-        [
-            a @ b'0'..=b'9',
-            b @ b'0'..=b'9',
-            c @ b'0'..=b'9',
-            d @ b'0'..=b'9',
-            rest @ ..,
-        ] => {
-            let high = u64::from(*a) * 10 + u64::from(*b);
-            let low = u64::from(*c) * 10 + u64::from(*d);
-            Some((high * 100 + low - FOUR_ZEROS, rest))
+        [a, b, c, d, rest @ ..]
+            if a.is_ascii_digit() & b.is_ascii_digit() & c.is_ascii_digit() & d.is_ascii_digit() =>
+            {
+                let ab = u64::from(*a) * 10 + u64::from(*b);
+                let cd = u64::from(*c) * 10 + u64::from(*d);
+                Some((ab * 100 + cd - FOUR_ZEROS, rest))
+            }
+        _ => None,
+    }
+}
+
+/// The number of the eight digits that stand first, and the bytes after them.
+#[tactic(auto, unfolding(crate::specs::LineReading::four_at, crate::specs::LineReading::eight_at))]
+fn eight_digits(bytes: &[u8]) -> Option<(u64, &[u8])>
+    ensures { option_map (λ x. (x.0, x.1.now)) result ≡ eight_at bytes.now }
+{
+    match bytes {
+        [a, b, c, d, e, f, g, h, rest @ ..]
+            if a.is_ascii_digit()
+                & b.is_ascii_digit()
+                & c.is_ascii_digit()
+                & d.is_ascii_digit()
+                & e.is_ascii_digit()
+                & f.is_ascii_digit()
+                & g.is_ascii_digit()
+                & h.is_ascii_digit() => {
+            let ab = u64::from(*a) * 10 + u64::from(*b);
+            let cd = u64::from(*c) * 10 + u64::from(*d);
+            let ef = u64::from(*e) * 10 + u64::from(*f);
+            let gh = u64::from(*g) * 10 + u64::from(*h);
+            Some((
+                (ab * 100 + cd) * 10_000 + (ef * 100 + gh) - EIGHT_ZEROS,
+                rest,
+            ))
         }
         _ => None,
     }
 }
 
-/// The digits that stand first, four at a time as long as no four of them pass the limit, and the bytes after them.
-fn take_fours(bytes: &[u8], limit: u64) -> (u64, &[u8])
+/// The digits that stand first, eight and then four at a time as long as no such run passes the limit, and the bytes
+/// after them.
+fn take_runs(bytes: &[u8], limit: u64) -> (u64, &[u8])
     ensures { digits_at limit result.0 result.1.now ≡ digits_at limit 0 bytes.now }
 {
     let None = after_byte(bytes, b'0') else {
         return (0, bytes);
     };
-    let room = limit / 10_000;
     let mut value = 0;
     let mut rest = bytes;
-    while value < room {
+    while value < limit / 100_000_000 {
+        let Some((eight, after)) = eight_digits(rest) else {
+            break;
+        };
+        value = value * 100_000_000 + eight;
+        rest = after;
+    }
+    while value < limit / 10_000 {
         let Some((four, after)) = four_digits(rest) else {
             break;
         };
@@ -83,11 +118,31 @@ fn take_digits(bytes: &[u8], before: u64, limit: u64) -> Option<(u64, &[u8])>
     }
 }
 
+/// The number from 1 to the limit that stands first, and the bytes after it, where most numbers have one digit.
+#[tactic(auto, unfolding(crate::specs::LineReading::digits_at))]
+fn take_short(bytes: &[u8], limit: u64) -> Option<(u64, &[u8])>
+    requires { 9 ≤ limit }
+    ensures { option_map (λ x. (x.0, x.1.now)) result ≡ digits_at limit 0 bytes.now }
+{
+    let [first @ b'1'..=b'9', rest @ ..] = bytes else {
+        return None;
+    };
+    let value = u64::from(*first - b'0');
+    match rest {
+        [b'0'..=b'9', ..] => take_digits(rest, value, limit),
+        _ => Some((value, rest)),
+    }
+}
+
 /// The number from 1 to the limit that stands first, and the bytes after it.
+#[inline(always)]
 pub fn take_number(bytes: &[u8], limit: u64) -> Option<(u64, &[u8])>
     ensures { option_map (λ x. (x.0, x.1.now)) result ≡ digits_at limit 0 bytes.now }
 {
-    let (value, rest) = take_fours(bytes, limit);
+    if limit < 10_000 {
+        return take_digits(bytes, 0, limit);
+    }
+    let (value, rest) = take_runs(bytes, limit);
     take_digits(rest, value, limit)
 }
 
@@ -100,7 +155,7 @@ fn take_choices(bytes: &[u8]) -> Option<(u32, &[u8])>
     let mut last = 0;
     let mut rest = bytes;
     loop {
-        let (choice, after) = take_digits(rest, 0, MAX_CHOICES as u64)?;
+        let (choice, after) = take_short(rest, MAX_CHOICES as u64)?;
         if choice <= last {
             return None;
         }
@@ -150,7 +205,7 @@ fn put_parts(line: &[u8], parts: &mut Record) -> Option<usize>
         ≡ option_map line_seen (line_of line.now) }
 {
     let (number, rest) = take_number(line, u64::MAX)?;
-    let (style, rest) = take_digits(after_byte(rest, b' ')?, 0, MAX_STYLES as u64)?;
+    let (style, rest) = take_short(after_byte(rest, b' ')?, MAX_STYLES as u64)?;
     parts.number = number;
     parts.style = style as u8;
     put_groups(after_byte(rest, b' ')?, &mut parts.marks)

@@ -3,7 +3,6 @@ use Rattle.std.proofs.Common.{◌≡◌, ◌<◌, ◌^◌, ℕ, List, [], ◌∷
 use Rattle.ballot_store_cli.specs.Large.{HasResult, LargeEnds, with_report}
 use Rattle.ballot_store_cli.specs.Status.{ended_as, run_fault_status}
 use Rattle.ballot_store_cli.specs.World.{Reported, nothing_reported}
-use Rattle.ballot_store_cli.specs.declared.status.Status.{Status}
 use Rattle.ballot_store_cli.specs.declared.status.Status.TheVariants as status
 use Rattle.large_options.specs.declared.options.Options.{Options}
 use Rattle.outside_io.proofs.Told.{told_at}

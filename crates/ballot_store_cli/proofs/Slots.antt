@@ -1,6 +1,8 @@
 -- An index after one record more.
-use Rattle.std.proofs.Common.{◌≡◌, ◌≢◌, ℕ, zero, suc, Bool, cond, eqb, List, [], ◌∷◌, ◌++◌, length, Option, Some, None, refl, ap, sym, subst, ◌∙◌, ◌⊎◌, inl, inr}
-use Rattle.std.proofs.lemmas.Bool.{cases_eq, eq-eqb, ne_eqb}
+use Rattle.std.proofs.Common.{◌≡◌, ◌≢◌, ℕ, zero, suc, ◌<◌, Bool, true, cond, nat_lt, slice_index_or, eqb, List, [], ◌∷◌, ◌++◌, length, Option, Some, None, refl, ap, sym, subst, ◌∙◌, ◌⊎◌, inl, inr}
+use Rattle.std.proofs.lemmas.Bool.{cases_eq, eq-eqb, ltb-true, ne_eqb}
+use Rattle.std.proofs.lemmas.List.{get_or_read}
+use Rattle.std.proofs.lemmas.Option.{slice_get_read}
 use Rattle.std.proofs.lemmas.List.Folds.{find-append}
 use Rattle.std.specs.Option.{option_or}
 use Rattle.std.specs.Ordering.{nat_cmp, is_eq}
@@ -177,3 +179,22 @@ pub unheld : (firsts : List ℕ) (others : ℕ → Option Record) (records : Lis
     → slice_get records (slice_index firsts (slot_of number)) ≡ Some first → slot_of first.number ≢ slot_of number → found_in records number ≡ None
 unheld firsts others records number first held is differs =
     sym (held number) ∙ ap (λ first. held_by first (others number) number) is ∙ held_free (Some first) (others number) number differs
+
+-- nothing is held where the first record of a slot has another number that is in this slot too, and the number is not
+-- among the others
+pub unheld_among : (firsts : List ℕ) (others : ℕ → Option Record) (records : List Record) (number : ℕ) (first : Record)
+    → ((number : ℕ) → held_in firsts others records number ≡ found_in records number)
+    → slice_get records (slice_index firsts (slot_of number)) ≡ Some first → first.number ≢ number → slot_of first.number ≡ slot_of number
+    → others number ≡ None → found_in records number ≡ None
+unheld_among firsts others records number first held is differs same none =
+    sym (held number) ∙ ap (λ first. held_by first (others number) number) is ∙ held_other first (others number) number differs same ∙ none
+
+-- ---- what was read
+
+-- the record that was read at the place in a slot
+pub stands_first : (firsts : List ℕ) (records : List Record) (slot place from : ℕ) (first : Record) → slot < length firsts
+    → place ≡ slice_index_or firsts slot place → from ≡ place → true ≡ nat_lt from (length records) → first ≡ slice_index_or records from first
+    → slice_get records (slice_index firsts slot) ≡ Some first
+stands_first firsts records slot place from first within read same below is =
+    let at : slice_get records from ≡ Some first = slice_get_read records (length records) from first refl (ltb-true from (length records) (sym below)) is in
+    subst (λ place. slice_get records place ≡ Some first) (same ∙ get_or_read firsts slot place within read 0) at

@@ -1,9 +1,11 @@
 -- Where records stand in a list, by their numbers.
-use Rattle.std.specs.Prelude.{◌≡◌, ℕ, ◌*◌, ◌/◌, ◌%◌, ◌^◌, ◌==◌, if◌then◌else◌, List, length, find, Option, Some, None, bit_xor, slice_get, slice_index}
+use Rattle.std.specs.Prelude.{◌≡◌, ℕ, ◌*◌, ◌/◌, ◌%◌, ◌^◌, ◌<◌, ◌==◌, if◌then◌else◌, List, length, find, Option, Some, None, bit_xor, slice_get, slice_index}
 use Rattle.std.specs.BTreeMap.{get}
 use Rattle.std.specs.Ordering.{nat_cmp}
 use Rattle.ballot_record.specs.declared.record.Record.{Record}
 use Rattle.ballot_store_cli.specs.declared.build.index.Index.{Index}
+use Rattle.ballot_store_cli.specs.declared.build.index.Place.{Place}
+use Rattle.ballot_store_cli.specs.declared.build.index.Place.TheVariants.{Slot, Others}
 
 -- the slot of a number
 unfoldable pub slot_of : ℕ → ℕ
@@ -33,3 +35,14 @@ pub record IsIndexOf (index : Index) (records : List Record) : Type 0 where
       ≡ find (λ (r : Record). r.number == number) records
   pub others : (number : ℕ) → (r : Record) → get nat_cmp index.others number ≡ Some r
       → find (λ (r : Record). r.number == number) records ≡ Some r
+
+-- no record has the number
+abbrev pub IsAbsent : List Record → ℕ → Type 0
+IsAbsent records number = find (λ (r : Record). r.number == number) records ≡ None
+
+-- where the record of a number is to be noted: in its slot where no record has that, and else among the others
+abbrev pub IsPlaceOf : Place → Index → List Record → ℕ → Type 0
+IsPlaceOf (Slot slot) index records number =
+    (slot ≡ slot_of number) × (slot < 2 ^ 17) × ¬ HasSlot (slice_get records (slice_index index.firsts.items slot)) slot
+IsPlaceOf Others index records number =
+    HasSlot (slice_get records (slice_index index.firsts.items (slot_of number))) (slot_of number)

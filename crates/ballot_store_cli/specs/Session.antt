@@ -3,7 +3,6 @@ use Rattle.std.specs.Prelude.{◌≡◌, Result}
 use Rattle.ballot_store_cli.specs.Status.{ended_as, run_fault_status}
 use Rattle.ballot_store_cli.specs.World.{Reported, World, nothing_reported}
 use Rattle.ballot_store_cli.specs.declared.status.Status.{Status}
-use Rattle.outside_io.specs.Outside.{Output}
 use Rattle.phase_gate.specs.Around.{Around}
 use Rattle.session_run.specs.Ends.{SessionEnds}
 use Rattle.session_run.specs.declared.fault.RunFault.{RunFault}

@@ -18,11 +18,21 @@ use crash_disk::FileDisk;
 use outside_io::{FileSource, Memory, NoTurns, StdinSource, StdoutSink};
 pub use run::run;
 pub use status::{Status, Which};
+use std::alloc::Global;
 use std::os::unix::fs::FileExt;
 use std::process::ExitCode;
 use std::rt::{Env, Files};
 use std::thread::Threads;
 use std::{env, io};
+
+/// How large the blocks are, in bytes, that the C library keeps when they are freed.
+const KEPT_BLOCK: usize = 2 << 20;
+
+// Each phase takes some megabytes and frees them. The C library gives large blocks back to the system, so that each phase
+// would touch its pages anew, until one as large was freed: from then on it keeps blocks up to that size.
+fn keep_freed_blocks(alloc: Global) {
+    drop(Vec::<u8>::with_capacity(alloc, KEPT_BLOCK));
+}
 
 // The words behind the program's name. Words that are no text form no command.
 fn words_of(rt: &(impl Env + AllocGlobal)) -> Result<Vec<String>, Status> {
@@ -79,6 +89,7 @@ where
 }
 
 fn main(rt: HostRuntime) -> ExitCode {
+    keep_freed_blocks(rt.alloc());
     let status = match streams::hold_numbers(&rt) {
         Ok(()) => status_of(&rt),
         Err(_) => Status::ReadFault {

@@ -10,7 +10,7 @@ pub record LeadTo (numbers cells places : List ℕ) : Type 0 where
 
 -- what stands for a place that is not known yet
 abbrev pub no_place : ℕ
-no_place = 4294967295
+no_place = 65535
 
 -- the same, but for cells that have no place yet
 pub record LeadSoFar (numbers cells places : List ℕ) : Type 0 where

@@ -32,7 +32,7 @@ pub struct Closed {
     election: Box<Election>,
     records: Vec<Record>,
     cells: Vec<u64>,
-    places: Vec<u32>,
+    places: Vec<u16>,
 }
 
 impl Model for Closed {
@@ -227,7 +227,7 @@ fn kept(
     election: &Election,
     records: Vec<Record>,
     cells: Vec<u64>,
-    places: Vec<u32>,
+    places: Vec<u16>,
 ) -> Result<Closed, Memory>
     requires election { IsElection election.now }
     requires listing { IsListing election.now (ballots_of records.items) }

@@ -14,7 +14,7 @@ use probe_order::{Order, Salted};
 use std::alloc::Global;
 
 /// What stands for the place of a number until it is known. There are never so many records.
-const NO_PLACE: u32 = u32::MAX;
+const NO_PLACE: u16 = u16::MAX;
 
 /// How many cells are compared at once with those of before.
 const BLOCK: usize = 64;
@@ -27,11 +27,11 @@ const NEAR: usize = 32;
 #[derive(Clone, Copy)]
 struct Numbered {
     number: u64,
-    place: u32,
+    place: u16,
 }
 
 /// The places of records that come in the order of their cells.
-pub fn in_turn(alloc: Global, cells: &[u64]) -> Result<Vec<u32>, Memory>
+pub fn in_turn(alloc: Global, cells: &[u64]) -> Result<Vec<u16>, Memory>
     requires few { length (numbers_in cells.now) ≤ most_ballots }
     ensures { IfOk result (λ places. LeadTo (numbers_in cells.now) cells.now places.items) }
 {
@@ -52,7 +52,7 @@ pub fn of_all(
     order: &Salted,
     records: &[Record],
     cells: &[u64],
-) -> Result<Vec<u32>, Memory>
+) -> Result<Vec<u16>, Memory>
     ghost numbers: { List ℕ }
     requires few { length numbers ≤ most_ballots }
     requires all { numbers ≡ numbers_of (ballots_of records.now) }
@@ -73,9 +73,9 @@ pub fn renewed(
     held: &[Record],
     more: &[Record],
     old_cells: &[u64],
-    old_places: &[u32],
+    old_places: &[u16],
     cells: &[u64],
-) -> Result<Vec<u32>, Memory>
+) -> Result<Vec<u16>, Memory>
     ghost numbers: { List ℕ }
     requires few { length numbers ≤ most_ballots }
     requires more { drop (length held.now) numbers ≡ numbers_of (ballots_of more.now) }
@@ -107,7 +107,7 @@ fn list_numbers(alloc: Global, records: &[Record], first: usize) -> Result<Vec<N
     for (at, record) in records.iter().enumerate() {
         listed.push(Numbered {
             number: record.number,
-            place: (first + at) as u32,
+            place: (first + at) as u16,
         })?;
     }
     Ok(listed)
@@ -116,9 +116,9 @@ fn list_numbers(alloc: Global, records: &[Record], first: usize) -> Result<Vec<N
 /// Takes their places from the cells that changed, and appends the numbers that stood there, with these places.
 fn leave(
     old_cells: &[u64],
-    old_places: &[u32],
+    old_places: &[u16],
     cells: &[u64],
-    places: &mut [u32],
+    places: &mut [u16],
     moved: &mut Vec<Numbered>,
 ) -> Result<(), Memory>
     requires as_many { length old_cells.now ≡ length cells.now }
@@ -191,7 +191,7 @@ fn place_all(
     order: &Salted,
     cells: &[u64],
     listed: &[Numbered],
-    places: &mut [u32],
+    places: &mut [u16],
 ) -> Result<(), Memory>
     ghost numbers: { List ℕ }
     requires few { length numbers ≤ most_ballots }
@@ -217,7 +217,7 @@ fn place_near(
     order: &Salted,
     cells: &[u64],
     listed: &[Numbered],
-    places: &mut [u32],
+    places: &mut [u16],
 ) -> Result<Vec<Numbered>, Memory>
     ghost numbers: { List ℕ }
     requires one_each { length places.old ≡ length cells.now }
@@ -251,7 +251,7 @@ pub fn near_home(order: &Salted, cells: &[u64], number: u64) -> Option<usize>
 }
 
 /// Gives each cell that has no place yet the place of its number, which is one of these, in order.
-fn place_far(cells: &[u64], far: &[Numbered], places: &mut [u32])
+fn place_far(cells: &[u64], far: &[Numbered], places: &mut [u16])
     ghost numbers: { List ℕ }
     requires right { AreRight numbers far.now }
     requires rising { IsNonDecreasingBy (λ one. one.number) far.now }
@@ -269,7 +269,7 @@ fn place_far(cells: &[u64], far: &[Numbered], places: &mut [u32])
 }
 
 /// The place of a number, which is one of these.
-fn place_of_number(listed: &[Numbered], number: u64) -> u32
+fn place_of_number(listed: &[Numbered], number: u64) -> u16
     requires rising { IsNonDecreasingBy (λ one. one.number) listed.now }
     requires some { Lists listed.now number }
     ensures { Contains listed.now (record { number = number; place = result }) }

@@ -53,7 +53,7 @@ fn numbers(alloc: Global, records: &[Record]) -> Result<Vec<u64>, Memory>
 pub fn in_cell<'a>(
     records: &'a [Record],
     cells: &[u64],
-    places: &[u32],
+    places: &[u16],
     cell: usize,
 ) -> Option<&'a Record>
     requires within { cell < length cells.now }
@@ -73,7 +73,7 @@ pub fn with_number(
     election: &Election,
     records: &[Record],
     cells: &[u64],
-    places: &[u32],
+    places: &[u16],
     number: u64,
 ) -> Option<Record>
     requires listing { IsListing election.now (ballots_of records.now) }

@@ -1,5 +1,5 @@
 -- One cell behind those that were read: the bytes so far, and the cell that is wrong.
-use Rattle.std.proofs.Common.{◌≡◌, ℕ, zero, suc, ◌+◌, ◌-◌, ◌*◌, ◌<◌, ◌≤◌, ⊎_elim, List, [], ◌∷◌, ◌++◌, length, get_or, set, take, drop, replicate, refl, sym, ap, subst, ◌∙◌, arith, append_assoc}
+use Rattle.std.proofs.Common.{◌≡◌, ℕ, zero, suc, ◌+◌, ◌-◌, ◌*◌, ◌<◌, ◌≤◌, ⊎_elim, List, [], ◌∷◌, ◌++◌, length, get_or, take, drop, replicate, refl, sym, ap, subst, ◌∙◌, arith, append_assoc}
 use Rattle.std.proofs.lemmas.Bool.{cases_lt}
 use Rattle.std.proofs.lemmas.List.{append-nil, length-append, length-replicate, replicate-append-replicate, replicate_more, take_at, take_more, drop_at, take-append-drop}
 use Rattle.std.specs.List.{All}
@@ -76,45 +76,45 @@ next_read e bank place numbers more reaches ballots others bytes before after ce
       ∙ sym (append_assoc (header_of e) (bytes_in e numbers ballots) bytes);
 }
 
-pub empty_next : (e : Election) (numbers reaches : List ℕ) (ballots : List Ballot) (bytes : List ℕ) → IsElection e → AreCells e numbers reaches ballots → length numbers < length reaches → length bytes ≡ cell_size e → IsEmptyCell e bytes
+pub empty_next : (e : Election) (numbers reaches : List ℕ) (ballots : List Ballot) (bytes : List ℕ) → IsElection e → AreCells e numbers reaches ballots → length bytes ≡ cell_size e → IsEmptyCell e bytes
     → AreNext e (front_of e numbers ballots) bytes (numbers ++ 0 ∷ []) reaches ballots
-empty_next e numbers reaches ballots bytes election cells place_left long empty =
+empty_next e numbers reaches ballots bytes election cells long empty =
     let bank = front_of e numbers ballots ++ (bytes ++ []) in
     let place = length numbers in
     let read = read_in_front e numbers reaches ballots (bytes ++ []) election cells in
     let cell = next_cell e numbers ballots bytes [] election cells.valid long in
     next_read e bank place numbers (numbers ++ 0 ∷ []) reaches ballots ballots bytes read
-    (empty_read e bank place numbers ballots read (cell ∙ empty)) cell (reaches_empty numbers reaches cells.reached place_left)
+    (empty_read e bank place numbers ballots read (cell ∙ empty)) cell (reaches_empty numbers reaches cells.reached)
 
-pub ballot_next : (e : Election) (numbers reaches : List ℕ) (ballots : List Ballot) (b : Ballot) (from : ℕ) (bytes : List ℕ) → IsElection e → AreCells e numbers reaches ballots → length numbers < length reaches → length bytes ≡ cell_size e
+pub ballot_next : (e : Election) (numbers reaches : List ℕ) (ballots : List Ballot) (b : Ballot) (from : ℕ) (bytes : List ℕ) → IsElection e → AreCells e numbers reaches ballots → length bytes ≡ cell_size e
     → IsValid e b → bytes ≡ ballot_bytes e b → MayStand (home_in e) numbers b.number (length numbers) → length ballots < e.limit → IsReach numbers b.number (length numbers) from
-    → AreNext e (front_of e numbers ballots) bytes (numbers ++ b.number ∷ []) (set reaches (length numbers) from) (ballots ++ b ∷ [])
-ballot_next e numbers reaches ballots b from bytes election cells place_left long valid is may room reach =
+    → AreNext e (front_of e numbers ballots) bytes (numbers ++ b.number ∷ []) (reaches ++ from ∷ []) (ballots ++ b ∷ [])
+ballot_next e numbers reaches ballots b from bytes election cells long valid is may room reach =
     let bank = front_of e numbers ballots ++ (bytes ++ []) in
     let place = length numbers in
     let read = read_in_front e numbers reaches ballots (bytes ++ []) election cells in
     let cell = next_cell e numbers ballots bytes [] election cells.valid long in
-    next_read e bank place numbers (numbers ++ b.number ∷ []) (set reaches place from) ballots (ballots ++ b ∷ []) bytes read
-    (ballot_read e bank place numbers ballots b read valid (cell ∙ is) may room) cell (reaches_more numbers reaches b.number from cells.reached place_left reach)
+    next_read e bank place numbers (numbers ++ b.number ∷ []) (reaches ++ from ∷ []) ballots (ballots ++ b ∷ []) bytes read
+    (ballot_read e bank place numbers ballots b read valid (cell ∙ is) may room) cell (reaches_more numbers reaches b.number from cells.reached (λ none. omega (arith, valid.some_number, none)) reach)
 
 -- ---- empty cells
 
-pub empties_next : (e : Election) (numbers reaches : List ℕ) (ballots : List Ballot) (bytes : List ℕ) (count : ℕ) → IsElection e → AreCells e numbers reaches ballots → length numbers + count ≤ length reaches → bytes ≡ replicate (count * cell_size e) 0
+pub empties_next : (e : Election) (numbers reaches : List ℕ) (ballots : List Ballot) (bytes : List ℕ) (count : ℕ) → IsElection e → AreCells e numbers reaches ballots → bytes ≡ replicate (count * cell_size e) 0
     → AreNext e (front_of e numbers ballots) bytes (numbers ++ replicate count 0) reaches ballots
-empties_next e numbers reaches ballots bytes zero election cells places zeros =
+empties_next e numbers reaches ballots bytes zero election cells zeros =
     let front = front_of e numbers ballots in
     let none : 0 * cell_size e ≡ 0 = omega arith in
     record {
       cells = subst (λ (ns : List ℕ). AreCells e ns reaches ballots) (sym (append-nil numbers)) cells;
       fed = ap (λ ns. front_of e ns ballots) (append-nil numbers) ∙ sym (append-nil front) ∙ ap (λ (bs : List ℕ). front ++ bs) (sym (zeros ∙ ap (λ n. replicate n 0) none));
     }
-empties_next e numbers reaches ballots bytes (suc more) election cells places zeros =
+empties_next e numbers reaches ballots bytes (suc more) election cells zeros =
     let front = front_of e numbers ballots in
     let size = cell_size e in
     let first = replicate size 0 in
     let rest = replicate (more * size) 0 in
-    let one = empty_next e numbers reaches ballots first election cells (omega arith) (length-replicate size 0) refl in
-    let next = empties_next e (numbers ++ 0 ∷ []) reaches ballots rest more election one.cells (omega (arith, length-append numbers (0 ∷ []))) refl in
+    let one = empty_next e numbers reaches ballots first election cells (length-replicate size 0) refl in
+    let next = empties_next e (numbers ++ 0 ∷ []) reaches ballots rest more election one.cells refl in
     let long : suc more * size ≡ size + more * size = omega arith in
     let all : bytes ≡ first ++ rest = zeros ∙ ap (λ n. replicate n 0) long ∙ sym (replicate-append-replicate size (more * size) 0) in
     let same : (numbers ++ 0 ∷ []) ++ replicate more 0 ≡ numbers ++ replicate (suc more) 0 = append_assoc numbers (0 ∷ []) (replicate more 0) in
@@ -137,15 +137,6 @@ blank_more numbers place (suc more) blank within =
     ∙ ap (λ (ns : List ℕ). ns ++ 0 ∷ []) (blank_more numbers place more blank (omega arith))
     ∙ append_assoc (take place numbers) (replicate more 0) (0 ∷ [])
     ∙ ap (λ (ns : List ℕ). take place numbers ++ ns) (replicate_more more 0 ∙ ap (λ n. replicate n 0) one)
-
--- some of the zeros at the front of these bytes, and what stands behind them
-pub behind_zeros : (bytes rest : List ℕ) (zeros count : ℕ) → count ≤ zeros → bytes ≡ replicate zeros 0 ++ rest → bytes ≡ replicate count 0 ++ drop count bytes
-behind_zeros bytes rest zeros count le is =
-    let more = zeros - count in
-    let sum : zeros ≡ count + more = omega arith in
-    let all : bytes ≡ replicate count 0 ++ (replicate more 0 ++ rest) =
-    is ∙ ap (λ (xs : List ℕ). xs ++ rest) (ap (λ n. replicate n 0) sum ∙ sym (replicate-append-replicate count more 0)) ∙ append_assoc (replicate count 0) (replicate more 0) rest in
-    all ∙ ap (λ (xs : List ℕ). replicate count 0 ++ xs) (sym (ap (drop count) all ∙ drop_at (replicate count 0) (replicate more 0 ++ rest) count (length-replicate count 0)))
 
 -- more zeros behind zeros
 pub zeros_more : (bytes rest behind : List ℕ) (k : ℕ) → length rest ≤ length bytes → bytes ≡ replicate (length bytes - length rest) 0 ++ rest → rest ≡ replicate k 0 ++ behind

@@ -1,5 +1,6 @@
 pub mod Fed
 pub mod FirstCells
+pub mod FirstZeros
 pub mod FourTests
 pub mod Held
 pub mod Images

@@ -51,11 +51,11 @@ ordered_more home cells v h stands =
           (cases_lt p (length cells));
     }
 
-numbers_more : (cells : List ℕ) (v : ℕ) → v ≢ 0 → numbers_in (cells ++ v ∷ []) ≡ numbers_in cells ++ v ∷ []
+pub numbers_more : (cells : List ℕ) (v : ℕ) → v ≢ 0 → numbers_in (cells ++ v ∷ []) ≡ numbers_in cells ++ v ∷ []
 numbers_more cells v n =
     filter-append (λ cell. not (cell == 0)) cells (v ∷ []) ∙ ap (λ ns. numbers_in cells ++ ns) (cond-true _ _ _ (ap not (ne_eqb v 0 n)))
 
-numbers_as_before : (cells : List ℕ) → numbers_in (cells ++ 0 ∷ []) ≡ numbers_in cells
+pub numbers_as_before : (cells : List ℕ) → numbers_in (cells ++ 0 ∷ []) ≡ numbers_in cells
 numbers_as_before cells = filter-append (λ cell. not (cell == 0)) cells (0 ∷ []) ∙ append-nil (numbers_in cells)
 
 -- a number that may stand behind ordered cells stands in none of them

@@ -12,7 +12,7 @@ use Rattle.store_spec.specs.Home.{home_in}
 use Rattle.store_spec.specs.Image.{cell_bytes, header_of}
 use Rattle.store_spec.specs.Layout.{IsOrdered, numbers_in}
 
--- the number in each cell, a reach for each, and the ballots in them
+-- the number in each cell, the ballots in them, and a reach for each of these
 pub record AreCells (e : Election) (numbers reaches : List ℕ) (ballots : List Ballot) : Type 0 where
   pub ordered : IsOrdered (home_in e) numbers
   pub same : numbers_of ballots ≡ numbers_in numbers
@@ -28,11 +28,11 @@ abbrev pub AreKept : Election → CellsRead → Type 0
 AreKept e cells = AreCells e (numbers_read cells) cells.reaches.items (ballots_of cells.records.items)
 
 -- a place for each cell of a bank, where those that come are taken to be empty, and room for as many records as a store
--- may hold
+-- may hold, each with its reach
 pub record HasSpace (e : Election) (cells : CellsRead) : Type 0 where
   pub numbers : length cells.numbers.items ≡ cell_count e
-  pub reaches : length cells.reaches.items ≡ cell_count e
   pub records : e.limit ≤ vec_capacity cells.records
+  pub reaches : e.limit ≤ vec_capacity cells.reaches
   pub count : cells.count ≤ cell_count e
   pub blank : (place : ℕ) → cells.count ≤ place → slice_index cells.numbers.items place ≡ 0
 

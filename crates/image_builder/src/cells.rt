@@ -4,38 +4,41 @@ ghost use Rattle.body_store.specs.Contents.{ballots_of};
 ghost use Rattle.image_builder.specs.Cells.{AreKept, HasSpace, IsRefusedAt, kept_front, numbers_read};
 ghost use Rattle.image_builder.specs.Feeding.{IsRefusedPiece};
 ghost use Rattle.image_builder.specs.Reaches.{AreReaches, IsReach};
-ghost use Rattle.std.specs.Prelude.{◌≡◌, ◌+◌, ◌-◌, ◌<◌, ◌≤◌, ◌↔◌, ◌++◌, [], false, length, replicate, slice_set, IfOk, IfErr, IfSome, IsSome, IsTrue, OnOk};
+ghost use Rattle.std.specs.Prelude.{◌≡◌, ◌+◌, ◌-◌, ◌<◌, ◌≤◌, ◌↔◌, ◌++◌, ◌∷◌, [], false, length, slice_set, vec_capacity, vec_len, IfOk, IfErr, IfSome, IsSome, IsTrue, OnOk};
 ghost use Rattle.store_spec.specs.Election.{IsElection, bank_size, cell_count, cell_size};
 ghost use Rattle.store_spec.specs.Home.{home_in};
 ghost use Rattle.store_spec.specs.Layout.{MayStand};
 
 use crate::read::ImageFault;
+use crate::zeros::count_empty;
 use ballot_record::{CellRead, Election, Record, take_cell};
 use probe_order::{Order, Salted};
 use std::alloc::{AllocError, Global};
 
-/// The cells that were read: the number in each, how far back it reaches, and the records in them. There is a place for
-/// each cell of a bank, and in those of cells that are still to be read stands 0, as in those of empty ones.
+/// The cells that were read: the number in each, and the records in them. There is a place for the number of each cell
+/// of a bank, and in those of cells that are still to be read stands 0, as in those of empty ones.
 #[derive(Drop)]
 pub struct CellsRead {
     /// How many cells were read.
     pub count: usize,
     pub numbers: Vec<u64>,
-    pub reaches: Vec<usize>,
     pub records: Vec<Record>,
+    /// How far back the cell of each record reaches.
+    pub reaches: Vec<u32>,
 }
 
 /// No cells, with room for those of a bank.
 pub fn no_cells(alloc: Global, election: &Election) -> Result<CellsRead, AllocError>
     ensures numbers { IfOk result (λ cells. numbers_read cells ≡ []) }
     ensures records { IfOk result (λ cells. cells.records.items ≡ []) }
+    ensures reaches { IfOk result (λ cells. cells.reaches.items ≡ []) }
     ensures wide { IfOk result (HasSpace election.now) }
 {
     Ok(CellsRead {
         count: 0,
         numbers: vec![in alloc; 0; election.cells()]?,
-        reaches: vec![in alloc; 0; election.cells()]?,
         records: Vec::with_capacity(alloc, election.limit() as usize)?,
+        reaches: Vec::with_capacity(alloc, election.limit() as usize)?,
     })
 }
 
@@ -152,7 +155,8 @@ fn read_right_cell(cells: &mut CellsRead, bytes: &[u8], election: &Election) -> 
     ensures refused { (result ≡ false) → IsRefusedAt election.now
         (kept_front election.now cells.old ++ bytes.now) (ImageFault.Damaged cells.old.count) }
 {
-    match take_cell(bytes, election) {
+    let read = take_cell(bytes, election);
+    match &read {
         CellRead::Empty => {
             cells.count += 1;
             true
@@ -165,16 +169,15 @@ fn read_right_cell(cells: &mut CellsRead, bytes: &[u8], election: &Election) -> 
             let Some(reach) = reach_of(election, before, &cells.reaches, record.number) else {
                 return false;
             };
-            let number = record.number;
-            cells.records.push_reserved(record);
-            put(cells, number, reach);
+            put(cells, record, reach);
             true
         }
         CellRead::Bad => false,
     }
 }
 
-/// Passes the empty cells that stand first in these bytes, and answers the bytes behind them.
+/// Passes empty cells that stand first in these bytes, and answers the bytes behind them. One that it misses is read as
+/// any other.
 fn pass_empty<'a>(cells: &mut CellsRead, bytes: &'a [u8], election: &Election) -> &'a [u8]
     requires election { IsElection election.now }
     requires kept { AreKept election.now cells.old }
@@ -188,80 +191,40 @@ fn pass_empty<'a>(cells: &mut CellsRead, bytes: &'a [u8], election: &Election) -
     ensures shorter { length result.now ≤ length bytes.now }
 {
     let size = election.cell_bytes();
-    let zeros = bytes.len() - past_zeros(bytes).len();
-    if zeros < size {
-        return bytes;
-    }
-    let count = zeros / size;
+    let count = count_empty(bytes, size);
     cells.count += count;
     let (_, behind) = bytes.split_at(count * size);
     behind
 }
 
-/// What follows the zeros at the front of these bytes.
-fn past_zeros(bytes: &[u8]) -> &[u8]
-    ensures shorter { length result.now ≤ length bytes.now }
-    ensures zeros { bytes.now ≡ replicate (length bytes.now - length result.now) 0 ++ result.now }
-{
-    let mut rest = bytes;
-    while let Some(behind) = past_eight(rest) {
-        rest = behind;
-    }
-    while let Some(behind) = past_one(rest) {
-        rest = behind;
-    }
-    rest
-}
-
-/// What follows the first eight bytes, where these are 0.
-fn past_eight(bytes: &[u8]) -> Option<&[u8]>
-    ensures { IfSome result (λ rest. bytes.now ≡ replicate 8 0 ++ rest.now) }
-{
-    match bytes {
-        [a, b, c, d, e, f, g, h, rest @ ..]
-            if (*a == 0)
-                & (*b == 0)
-                & (*c == 0)
-                & (*d == 0)
-                & (*e == 0)
-                & (*f == 0)
-                & (*g == 0)
-                & (*h == 0) => { Some(rest) }
-        _ => None,
-    }
-}
-
-/// What follows the first byte, where this is 0.
-fn past_one(bytes: &[u8]) -> Option<&[u8]>
-    ensures { IfSome result (λ rest. bytes.now ≡ replicate 1 0 ++ rest.now) }
-{
-    match bytes {
-        [first, rest @ ..] if *first == 0 => Some(rest),
-        _ => None,
-    }
-}
-
-/// Puts a number and its reach behind those so far. There is a place for them.
-fn put(cells: &mut CellsRead, number: u64, reach: usize)
+/// Puts a record and the reach of its cell behind those so far. There is a place for them.
+#[inline(always)]
+fn put(cells: &mut CellsRead, held: &Record, reach: u32)
     requires numbers { cells.old.count < length cells.old.numbers.items }
-    requires reaches { cells.old.count < length cells.old.reaches.items }
+    requires records { vec_len cells.old.records < vec_capacity cells.old.records }
+    requires reaches { vec_len cells.old.reaches < vec_capacity cells.old.reaches }
     ensures count { cells.new.count ≡ cells.old.count + 1 }
     ensures numbers { cells.new.numbers.items
-        ≡ slice_set cells.old.numbers.items cells.old.count number }
-    ensures reaches { cells.new.reaches.items
-        ≡ slice_set cells.old.reaches.items cells.old.count reach }
-    ensures records { cells.new.records ≡ cells.old.records }
+        ≡ slice_set cells.old.numbers.items cells.old.count held.now.number }
+    ensures records { cells.new.records.items ≡ cells.old.records.items ++ held.now ∷ [] }
+    ensures reaches { cells.new.reaches.items ≡ cells.old.reaches.items ++ reach ∷ [] }
+    ensures room_for_records { vec_capacity cells.new.records ≡ vec_capacity cells.old.records }
+    ensures room_for_reaches { vec_capacity cells.new.reaches ≡ vec_capacity cells.old.reaches }
 {
-    cells.numbers[cells.count] = number;
-    cells.reaches[cells.count] = reach;
+    cells.numbers[cells.count] = held.number;
     cells.count += 1;
+    cells.records.push_reserved(*held);
+    cells.reaches.push_reserved(reach);
 }
 
 /// How far back these cells hold greater numbers than one that is to stand in the cell after them. `None` where it may
 /// not stand there. The reach may go further back than the number's home, and need not be the longest. What a cell
-/// reaches over is passed at once, so that judging all cells of a bank takes each of them twice at most.
-fn reach_of(election: &Election, cells: &[u64], reaches: &[usize], number: u64) -> Option<usize>
-    requires { AreReaches cells.now reaches.now }
+/// reaches over is passed at once, so that judging all cells of a bank takes each of them twice at most. All cells that
+/// are passed have records, so the reach of the one before them is counted from the end.
+#[inline(always)]
+fn reach_of(election: &Election, cells: &[u64], reaches: &[u32], number: u64) -> Option<u32>
+    requires reaches { AreReaches cells.now reaches.now }
+    requires few { length cells.now < cell_count election.now }
     ensures stands { IsSome result
         ↔ MayStand (home_in election.now) cells.now number (length cells.now) }
     ensures reach { IfSome result (IsReach cells.now number (length cells.now)) }
@@ -279,7 +242,7 @@ fn reach_of(election: &Election, cells: &[u64], reaches: &[usize], number: u64) 
         if cells[from - 1] <= number {
             return None;
         }
-        from = reaches[from - 1];
+        from = reaches[reaches.len() - 1 - (cells.len() - from)] as usize;
     }
-    Some(from)
+    Some(from as u32)
 }

@@ -7,6 +7,7 @@ mod read;
 mod reader;
 mod scratch;
 mod write;
+mod zeros;
 
 pub use read::ImageFault;
 pub use reader::{ImageReader, read_image};

@@ -17,9 +17,9 @@ use outside_io::Memory;
 use std::alloc::Global;
 use std::marker::Model;
 
-/// A bank that is read as its bytes come, in pieces of any lengths. It keeps the records, a number and a reach for each
-/// cell, and of the bytes the part of a cell. The election has some thousand bytes, and a reader is moved at each piece,
-/// so the election stands beside it.
+/// A bank that is read as its bytes come, in pieces of any lengths. It keeps the records with a reach for each, a number
+/// for each cell, and of the bytes the part of a cell. The election has some thousand bytes, and a reader is moved at
+/// each piece, so the election stands beside it.
 #[derive(Drop)]
 pub struct ImageReader {
     election: Box<Election>,

@@ -22,18 +22,18 @@ pub fn close_casting<R: Threads + Sync, T: Turns>(
     alloc: Global,
     closed: Closed,
     election: &Election,
-    lists: &[Vec<Record>],
+    lists: Vec<Vec<Record>>,
     turns: &T,
     telling: Telling,
     reply: &mut String,
 ) -> Result<Closed, Memory>
     requires own { election.now ≡ closed.election }
-    requires lists { AreLists lists.now }
-    requires valid { All (λ list. All (IsValid election.now) (ballots_of list.items)) lists.now }
+    requires lists { AreLists lists.items }
+    requires valid { All (λ list. All (IsValid election.now) (ballots_of list.items)) lists.items }
     requires nothing { string_bytes reply.old ≡ [] }
     ensures election { IfOk result (λ store. store.election ≡ election.now) }
     ensures closes { IfOk result (λ store. Tells telling (ClosesCasting election.now closed.ballots
-        (map (λ list. ballots_of list.items) lists.now))
+        (map (λ list. ballots_of list.items) lists.items))
         (replies (string_bytes reply.new) (begun store.ballots))) }
 {
     let (after, finals) = play_casting(rt, alloc, closed, election, lists, turns)?;

@@ -264,7 +264,7 @@ impl Gate {
         let election = *closed.election();
         let closed = match work {
             Work::Casting(lists) => {
-                close_casting(rt, alloc, closed, &election, &lists, turns, telling, reply)?
+                close_casting(rt, alloc, closed, &election, lists, turns, telling, reply)?
             }
             Work::Withdrawing(lists) => {
                 close_withdrawing(rt, alloc, closed, &election, &lists, turns, telling, reply)?

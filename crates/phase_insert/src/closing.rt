@@ -119,11 +119,20 @@ fn accepted(alloc: Global, trays: &[Vec<Cast>]) -> Result<Vec<Record>, Memory>
         (λ accepted. ballots_of accepted.items
         ≡ all_accepted (map (λ tray. tray.items) trays.now)) }
 {
-    let mut accepted = Vec::new(alloc);
+    let mut accepted = Vec::with_capacity(alloc, ballots_in(trays))?;
     for tray in trays {
         push_accepted(&mut accepted, tray)?;
     }
     Ok(accepted)
+}
+
+/// How many ballots the trays have, so that the list of those that were accepted is made as long at once.
+fn ballots_in(trays: &[Vec<Cast>]) -> usize {
+    let mut count: usize = 0;
+    for tray in trays {
+        count = count.saturating_add(tray.len());
+    }
+    count
 }
 
 /// Appends the ballots of a tray that were accepted.

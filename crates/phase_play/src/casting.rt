@@ -14,31 +14,34 @@ use std::alloc::Global;
 use std::thread::Threads;
 
 /// Plays a casting phase: the ballots that wait in lists are cast, one tabulator for each list, all at once. It gives the
-/// store after the phase and a reply to each ballot.
+/// store after the phase and a reply to each ballot. The lists are given up as soon as all is cast, so that their memory
+/// is there for the store.
 pub fn play_casting<R: Threads + Sync, T: Turns>(
     rt: &R,
     alloc: Global,
     closed: Closed,
     election: &Election,
-    work: &[Vec<Record>],
+    work: Vec<Vec<Record>>,
     turns: &T,
 ) -> Result<(Closed, Vec<Vec<Final>>), Memory>
     requires own { election.now ≡ closed.election }
-    requires some_list { 1 ≤ length work.now }
-    requires few_lists { length work.now ≤ 64 }
-    requires valid { All (λ list. All (IsValid election.now) (ballots_of list.items)) work.now }
+    requires some_list { 1 ≤ length work.items }
+    requires few_lists { length work.items ≤ 64 }
+    requires valid { All (λ list. All (IsValid election.now) (ballots_of list.items)) work.items }
     ensures election { IfOk result (λ played. played.0.election ≡ election.now) }
     ensures stored { IfOk result (λ played. IsStored played.0) }
     ensures plays { IfOk result (λ played. PlaysCasting election.now closed.ballots
-        (map (λ list. ballots_of list.items) work.now)
+        (map (λ list. ballots_of list.items) work.items)
         (map (λ list. map reply_of list.items) played.1.items) played.0.ballots) }
 {
-    let plan = plan_of(alloc, work)?;
+    let lists = work.as_slice();
+    let plan = plan_of(alloc, lists)?;
     let (phase, mut tabs) = match CastPhase::begin(alloc, closed, election, &plan) {
         Ok(begun) => begun,
         Err((_, memory)) => return Err(memory),
     };
-    run_cast(rt, &phase, &mut tabs, work, turns);
+    run_cast(rt, &phase, &mut tabs, lists, turns);
+    drop(work);
     match phase.close(alloc, tabs) {
         Ok(ended) => Ok(ended),
         Err((_, memory)) => Err(memory),

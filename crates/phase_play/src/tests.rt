@@ -57,11 +57,11 @@ fn one_phase_after_another(rt: HostRuntime) -> Result<(), Fail> {
     let alloc = rt.alloc();
     let election = Election::example();
     let empty = Closed::empty(alloc, &election)?;
-    let work = [
+    let work = vec![in alloc;
         cast(alloc, &election, &[ballot(9, 1), ballot(1, 0)])?,
         cast(alloc, &election, &[ballot(14, 2)])?,
-    ];
-    let (three, finals) = play_casting(&rt, alloc, empty, &election, &work, &NoTurns)?;
+    ]?;
+    let (three, finals) = play_casting(&rt, alloc, empty, &election, work, &NoTurns)?;
     holds(&rt, &three, &[(4, 9), (5, 14), (6, 1)]);
     same(
         &rt,
@@ -69,12 +69,14 @@ fn one_phase_after_another(rt: HostRuntime) -> Result<(), Fail> {
         &[&[Final::Accepted, Final::Accepted], &[Final::Accepted]],
     );
 
-    let more = [cast(
-        alloc,
-        &election,
-        &[ballot(22, 0), ballot(9, 1), ballot(14, 1), ballot(22, 1)],
-    )?];
-    let (four, finals) = play_casting(&rt, alloc, three, &election, &more, &NoTurns)?;
+    let more = vec![in alloc;
+        cast(
+            alloc,
+            &election,
+            &[ballot(22, 0), ballot(9, 1), ballot(14, 1), ballot(22, 1)],
+        )?,
+    ]?;
+    let (four, finals) = play_casting(&rt, alloc, three, &election, more, &NoTurns)?;
     holds(&rt, &four, &[(4, 22), (5, 14), (6, 9), (7, 1)]);
     same(
         &rt,
@@ -120,8 +122,8 @@ fn a_ninth_ballot(rt: HostRuntime) -> Result<(), Fail> {
     for (place, record) in ballots.iter_mut().enumerate() {
         record.number = place as u64 + 1;
     }
-    let work = [cast(alloc, &election, &ballots)?];
-    let (full, finals) = play_casting(&rt, alloc, empty, &election, &work, &NoTurns)?;
+    let work = vec![in alloc; cast(alloc, &election, &ballots)?]?;
+    let (full, finals) = play_casting(&rt, alloc, empty, &election, work, &NoTurns)?;
     assert_eq!(rt; full.len(), 8);
     let mut wanted = [Final::Accepted; 9];
     wanted[8] = Final::Full;

@@ -5,7 +5,7 @@ use Rattle.std.specs.Prelude.{codes}
 use Rattle.std.specs.List.{join_with_byte, range_with_len, slice_get}
 use Rattle.std.proofs.lemmas.Bool.{eq-eqb, ne_eqb}
 use Rattle.std.proofs.lemmas.List.Elements.{All-cons}
-use Rattle.std.proofs.lemmas.List.FromFn.{map-range_with_len_more, take-map-range_with_len}
+use Rattle.std.proofs.lemmas.List.FromFn.{take-map-range_with_len}
 use Rattle.ballot_record.proofs.MarkSets.{choices_in-mark_set, mark_set-cons}
 use Rattle.ballot_record.specs.Contest.{contest_of}
 use Rattle.ballot_record.specs.declared.contest.Contest.{Contest}
@@ -55,26 +55,19 @@ marked e i k choices other on offered some few =
 
 -- ---- the groups of one ballot
 
--- groups behind others
-pub joined_more : (between : ℕ) (x y : List ℕ) (xs : List (List ℕ)) → join_with_byte between ((x ∷ xs) ++ y ∷ []) ≡ join_with_byte between (x ∷ xs) ++ between ∷ y
-joined_more between x y [] = refl
-joined_more between x y (next ∷ xs) =
-    ap (λ rest. x ++ between ∷ rest) (joined_more between next y xs) ∙ sym (append_assoc x (between ∷ join_with_byte between (next ∷ xs)) (between ∷ y))
+-- the groups of so many contests from one on
+abbrev pub groups_from : Election → ℕ → ℕ → ℕ → List ℕ
+groups_from e i k n = join_with_byte slash (map (group_at e i) (range_with_len k n))
 
--- the groups of so many contests, and one more
-abbrev pub groups_to : Election → ℕ → ℕ → List ℕ
-groups_to e i n = join_with_byte slash (map (group_at e i) (range_with_len 1 n))
-
-pub group_more : (e : Election) (i n : ℕ) (start before apart now : List ℕ) → 1 ≤ n → before ≡ start ++ groups_to e i n → apart ≡ before ++ slash ∷ [] → now ≡ apart ++ group_at e i (n + 1)
-    → now ≡ start ++ groups_to e i (n + 1)
-group_more e i zero start before apart now some so_far put_slash put = absurd (omega arith)
-group_more e i (suc m) start before apart now some so_far put_slash put =
-    let n = suc m in
-    let more : groups_to e i (n + 1) ≡ groups_to e i n ++ slash ∷ group_at e i (n + 1) =
-    ap (join_with_byte slash) (map-range_with_len_more (group_at e i) 1 n (n + 1) (omega arith)) ∙ joined_more slash (group_at e i 1) (group_at e i (n + 1)) (map (group_at e i) (range_with_len (1 + 1) m)) in
-    put ∙ ap (λ text. text ++ group_at e i (n + 1)) (put_slash ∙ ap (λ text. text ++ slash ∷ []) so_far)
-    ∙ append_assoc (start ++ groups_to e i n) (slash ∷ []) (group_at e i (n + 1)) ∙ append_assoc start (groups_to e i n) (slash ∷ group_at e i (n + 1))
-    ∙ ap (λ text. start ++ text) (sym more)
+-- the group of the contest before those whose groups are put
+pub group_before : (e : Election) (i k n more : ℕ) (behind start apart now : List ℕ) → 1 ≤ n → more ≡ n + 1 → start ≡ groups_from e i (k + 1) n ++ behind → apart ≡ slash ∷ start → now ≡ group_at e i k ++ apart
+    → now ≡ groups_from e i k more ++ behind
+group_before e i k zero more behind start apart now some one so_far put_slash put = absurd (omega arith)
+group_before e i k (suc m) more behind start apart now some one so_far put_slash put =
+    let two : more ≡ suc (suc m) = omega arith in
+    put ∙ ap (λ text. group_at e i k ++ text) (put_slash ∙ ap (λ text. slash ∷ text) so_far)
+    ∙ sym (append_assoc (group_at e i k) (slash ∷ groups_from e i (k + 1) (suc m)) behind)
+    ∙ ap (λ n. groups_from e i k n ++ behind) (sym two)
 
 mapped : (e : Election) (i : ℕ) (ks : List ℕ) → map group_text (map (choices_in e) (map (marks_at e i) ks)) ≡ map (group_at e i) ks
 mapped e i [] = refl
@@ -86,12 +79,12 @@ groups_of_ballot e seed i election =
     ap (λ sets. map group_text (map (choices_in e) sets)) (take-map-range_with_len (marks_at e i) 1 16 (length e.contests) election.few_contests)
     ∙ mapped e i (range_with_len 1 (length e.contests))
 
--- the parts of a line that casts, one behind the other
-pub cast_put : (e : Election) (seed tabs i : ℕ) (start word tab number style now : List ℕ) → IsElection e
-    → word ≡ start ++ codes "cast " → tab ≡ word ++ (decimal (1 + i % tabs) ++ space ∷ []) → number ≡ tab ++ (decimal (number_at seed i) ++ space ∷ [])
-    → style ≡ number ++ (decimal (style_at e i) ++ space ∷ []) → now ≡ style ++ groups_to e i (length e.contests)
-    → now ≡ start ++ cast_line e seed tabs i
-cast_put e seed tabs i start word tab number style now election is_word is_tab is_number is_style is_now =
-    let groups : groups_to e i (length e.contests) ≡ join_with_byte slash (map group_text (line_of_ballot e (ballot_at e seed i)).groups) =
+-- the parts of a line that casts, each before what was put before it
+pub cast_put : (e : Election) (seed tabs i : ℕ) (behind groups style number tab now : List ℕ) → IsElection e
+    → groups ≡ groups_from e i 1 (length e.contests) ++ behind → style ≡ decimal (style_at e i) ++ space ∷ groups → number ≡ decimal (number_at seed i) ++ space ∷ style
+    → tab ≡ decimal (1 + i % tabs) ++ space ∷ number → now ≡ codes "cast " ++ tab
+    → now ≡ cast_line e seed tabs i ++ behind
+cast_put e seed tabs i behind groups style number tab now election is_groups is_style is_number is_tab is_now =
+    let same : groups_from e i 1 (length e.contests) ≡ join_with_byte slash (map group_text (line_of_ballot e (ballot_at e seed i)).groups) =
     ap (join_with_byte slash) (sym (groups_of_ballot e seed i election)) in
-    rw (is_now, is_style, is_number, is_tab, is_word, groups) (simp append_assoc refl)
+    rw (is_now, is_tab, is_number, is_style, is_groups, same) (simp append_assoc refl)

@@ -1,6 +1,7 @@
 -- Numbers and tabulators at the front of some bytes, from what was read there.
-use Rattle.std.proofs.Common.{◌≡◌, ◌≢◌, ℕ, ◌^◌, ◌<◌, ◌≤◌, List, [], ◌∷◌, ◌++◌, length, Option, Some, None, refl, sym, ap, ◌∙◌, append-nil, lit<}
-use Rattle.std.proofs.lemmas.List.{nil_from_length}
+use Rattle.std.proofs.Common.{◌≡◌, ◌≢◌, ℕ, ◌+◌, ◌-◌, ◌^◌, ◌<◌, ◌≤◌, List, [], ◌∷◌, ◌++◌, length, take, drop, slice_index_or, Option, Some, None, refl, sym, ap, ◌∙◌, append-nil, arith, lit<}
+use Rattle.std.proofs.lemmas.Fmt.{decimal_digit}
+use Rattle.std.proofs.lemmas.List.{nil_from_length, take_all}
 use Rattle.std.proofs.lemmas.Option.{none-some, some_pair_parts}
 use Rattle.std.specs.Fmt.{decimal}
 use Rattle.ballot_record.proofs.LineNumbers.{StopsDigits, number_again, number_takes}
@@ -56,3 +57,14 @@ pub tab_read : (bytes : List ℕ) (tab : ℕ) (behind rest : List ℕ) → Some 
 tab_read bytes tab behind rest is space =
     let at = number_takes 64 (lit< tt) bytes tab behind (sym is) in
     ((at.some, at.within), at.spelled ∙ ap (λ bs. decimal tab ++ bs) space)
+
+-- a digit other than 0 stands first, with a space behind it
+pub short_tab : (bytes : List ℕ) → 2 ≤ length bytes → 49 ≤ slice_index_or bytes 0 0 → slice_index_or bytes 0 0 ≤ 57 → slice_index_or bytes 1 0 ≡ 32
+    → IsTab (slice_index_or bytes 0 0 - 48) × (bytes ≡ decimal (slice_index_or bytes 0 0 - 48) ++ 32 ∷ take (length bytes - 2) (drop 2 bytes))
+short_tab [] long some few is = absurd (omega arith)
+short_tab (digit ∷ []) long some few is = absurd (omega arith)
+short_tab (digit ∷ behind ∷ rest) long some few is =
+    let same : 48 + (digit - 48) ≡ digit = omega arith in
+    let all : take (length (digit ∷ behind ∷ rest) - 2) rest ≡ rest = take_all (length (digit ∷ behind ∷ rest) - 2) rest (omega arith) in
+    let spelled : decimal (digit - 48) ≡ digit ∷ [] = decimal_digit (digit - 48) (omega arith) ∙ ap (λ d. d ∷ []) same in
+    ((omega arith, omega arith), ap (λ b. digit ∷ b ∷ rest) is ∙ sym (ap (λ text. text ++ 32 ∷ take (length (digit ∷ behind ∷ rest) - 2) rest) spelled ∙ ap (λ rest. digit ∷ 32 ∷ rest) all))

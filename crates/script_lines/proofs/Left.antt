@@ -1,8 +1,9 @@
 -- What the source of the generated script has left.
 use Rattle.std.proofs.Common.{◌≡◌, ℕ, zero, suc, ◌+◌, ◌-◌, ◌*◌, ◌/◌, ◌<◌, ◌≤◌, true, false, List, [], ◌∷◌, ◌++◌, length, map, take, drop, Option, Some, None, refl, sym, ap, ◌∙◌, arith, append_assoc, length-append}
 use Rattle.std.proofs.Math.Seq.{take-append-add}
-use Rattle.std.proofs.lemmas.List.{drop_all, drop_more, length-take-le, take-append-le}
+use Rattle.std.proofs.lemmas.List.{drop_all, drop_more, length-take-le, take-append-le, take_at}
 use Rattle.std.proofs.lemmas.List.FromFn.{length-map-range_with_len}
+use Rattle.std.proofs.lemmas.Simd.{chunk-drop}
 use Rattle.std.proofs.lemmas.Option.{get_or_from_slice_get, slice_get_within}
 use Rattle.std.specs.Prelude.{is_some, unwrap_or, codes}
 use Rattle.std.specs.List.{range_with_len, slice_get}
@@ -39,14 +40,13 @@ nothing_left lines index given line all none =
     rw (drop_all given line (omega arith), none_past lines index (ap (slice_get lines) (sym place) ∙ is_none (slice_get lines (index + 1 - 1)) none)) refl
 
 -- the next line stands ready, and what is left is the same
-pub line_ready : (lines : List (List ℕ)) (index given : ℕ) (line empty put ready : List ℕ) → given ≡ length line → true ≡ is_some (slice_get lines (index + 1 - 1))
-    → empty ≡ [] → put ≡ empty ++ unwrap_or (slice_get lines (index + 1 - 1)) [] → ready ≡ put ++ 10 ∷ []
+pub line_ready : (lines : List (List ℕ)) (index given : ℕ) (line ready : List ℕ) → given ≡ length line → true ≡ is_some (slice_get lines (index + 1 - 1))
+    → ready ≡ unwrap_or (slice_get lines (index + 1 - 1)) [] ++ 10 ∷ []
     → ready ++ lines_text (drop (index + 1) lines) ≡ drop given line ++ lines_text (drop index lines)
-line_ready lines index given line empty put ready all some is_empty is_put is_ready =
+line_ready lines index given line ready all some made =
     let place : index + 1 - 1 ≡ index = omega arith in
     let next = unwrap_or (slice_get lines (index + 1 - 1)) [] in
     let found : slice_get lines index ≡ Some next = ap (slice_get lines) (sym place) ∙ is_there (slice_get lines (index + 1 - 1)) some in
-    let made : ready ≡ next ++ 10 ∷ [] = is_ready ∙ ap (λ text. text ++ 10 ∷ []) (is_put ∙ ap (λ front. front ++ next) is_empty) in
     rw (drop_all given line (omega arith), some_at lines index next found, made) refl
 
 -- ---- how many lines there are
@@ -66,6 +66,16 @@ few_lines e seed count tabs place some =
     omega (arith, length_generated e seed count tabs)
 
 -- ---- a read, piece by piece
+
+-- so many bytes of the line that stands ready were copied to the front of a buffer
+pub copied_on : (given count : ℕ) (line copied behind rest : List ℕ) → length copied ≡ count → copied ≡ take (given + count - given) (drop given line)
+    → drop given line ++ rest ≡ take count (copied ++ behind) ++ (drop (given + count) line ++ rest)
+copied_on given count line copied behind rest size is =
+    let same : given + count - given ≡ count = omega arith in
+    let front : take count (drop given line) ≡ take count (copied ++ behind) =
+    ap (λ n. take n (drop given line)) (sym same) ∙ sym is ∙ sym (take_at copied behind count size) in
+    ap (λ text. text ++ rest) (chunk-drop given count line ∙ ap (λ text. text ++ drop (given + count) line) front)
+    ∙ append_assoc (take count (copied ++ behind)) (drop (given + count) line) rest
 
 -- a further piece was given behind those that the front of the buffer has
 pub piece_more : (whole buf tail behind left after : List ℕ) (count piece : ℕ) → count ≤ length buf → piece ≤ length tail

@@ -1,15 +1,15 @@
-ghost use Rattle.std.specs.Prelude.{◌≡◌, ◌+◌, ◌-◌, ◌^◌, ◌<◌, ◌≤◌, ◌++◌, [], length, map, vec_len, vec_capacity, slice_get, unwrap_or, is_some, IfOk, OnOk, OnErr};
+ghost use Rattle.std.specs.Prelude.{◌≡◌, ◌+◌, ◌-◌, ◌^◌, ◌<◌, ◌≤◌, ◌∷◌, ◌++◌, [], length, drop, map, slice_get, unwrap_or, is_some, IfOk, IfSome, OnOk, OnErr};
 ghost use Rattle.std.specs.List.{join_with_byte, range_with_len};
 ghost use Rattle.std.specs.Option.{option_to_list};
 ghost use Rattle.script_lines.specs.Generated.{ballot_count, cast_line, generated, marks_at, number_at, style_at, withdraw_line};
-ghost use Rattle.script_lines.specs.Parts.{group_at, part_text};
+ghost use Rattle.script_lines.specs.Parts.{group_at, line_room, part_text};
 ghost use Rattle.store_spec.specs.BallotLine.{choices_in, slash};
 ghost use Rattle.store_spec.specs.Election.{IsElection};
 ghost use Rattle.store_spec.specs.ScriptLine.{IsTab, open_text};
 ghost use Rattle.store_spec.specs.ScriptLine.Work.{Casting, Withdrawing};
 
 use crate::part::{Part, part_at};
-use crate::put::{put_bytes, put_group, put_number, put_word};
+use crate::put::{put_byte, put_bytes, put_group, put_number, put_word};
 use ballot_record::{Election, MAX_CONTESTS};
 use outside_io::Memory;
 
@@ -51,103 +51,131 @@ fn marked_choice(i: u32, style: u8, k: usize, election: &Election) -> Option<u64
     Some(1 + (u64::from(i) + k as u64) % choices)
 }
 
-/// Appends the groups of ballot `i`, with slashes between them. There is room for them.
-fn put_groups(i: u32, style: u8, election: &Election, out: &mut Vec<u8>)
+/// Puts the groups of ballot `i` where they end at `end`, with slashes between them, and says where they begin.
+fn put_groups(i: u32, style: u8, election: &Election, line: &mut [u8], end: usize) -> usize
     requires style { style ≡ style_at election.now i }
-    requires room { vec_len out.old + 336 ≤ vec_capacity out.old }
-    ensures text { out.new.items ≡ out.old.items
-        ++ join_with_byte slash (map (group_at election.now i) (range_with_len 1 (length election.now.contests))) }
-    ensures size { vec_len out.new ≤ vec_len out.old + 336 }
-    ensures capacity { vec_capacity out.old ≤ vec_capacity out.new }
+    requires room { 336 ≤ end }
+    requires within { end ≤ length line.old }
+    ensures text { drop result line.new
+        ≡ join_with_byte slash (map (group_at election.now i) (range_with_len 1 (length election.now.contests)))
+        ++ drop end line.old }
+    ensures start { (result ≤ end) × (end ≤ result + 336) }
 {
-    let contests = election.contests();
-    put_group(marked_choice(i, style, 1, election), out);
-    'contests: for place in 1..contests {
-        out.push_reserved(b'/');
-        put_group(marked_choice(i, style, place + 1, election), out);
+    let mut contest = election.contests();
+    let mut start = put_group(marked_choice(i, style, contest, election), line, end);
+    'contests: while contest > 1 {
+        contest -= 1;
+        start = put_byte(b'/', line, start);
+        start = put_group(marked_choice(i, style, contest, election), line, start);
     }
+    start
 }
 
-/// Appends the line that casts ballot `i`. There is room for it.
-fn put_cast(i: u32, seed: u32, tabs: u32, election: &Election, out: &mut Vec<u8>)
+/// Puts the line that casts ballot `i` where it ends at `end`, and says where it begins.
+fn put_cast(i: u32, seed: u32, tabs: u32, election: &Election, line: &mut [u8], end: usize) -> usize
     requires tabs { 1 ≤ tabs }
-    requires room { vec_len out.old + 500 ≤ vec_capacity out.old }
-    ensures text { out.new.items ≡ out.old.items ++ cast_line election.now seed tabs i }
-    ensures size { vec_len out.new ≤ vec_len out.old + 500 }
-    ensures capacity { vec_capacity out.old ≤ vec_capacity out.new }
+    requires room { 500 ≤ end }
+    requires within { end ≤ length line.old }
+    ensures text { drop result line.new ≡ cast_line election.now seed tabs i ++ drop end line.old }
+    ensures start { (result ≤ end) × (end ≤ result + 500) }
 {
     let style = ballot_style(i, election);
-    put_bytes(b"cast ", out);
-    put_word(1 + u64::from(i % tabs), out);
-    put_word(ballot_number(seed, u64::from(i)), out);
-    put_word(u64::from(style), out);
-    put_groups(i, style, election, out);
+    let groups = put_groups(i, style, election, line, end);
+    let style = put_word(u64::from(style), line, groups);
+    let number = put_word(ballot_number(seed, u64::from(i)), line, style);
+    let tab = put_word(1 + u64::from(i % tabs), line, number);
+    put_bytes(b"cast ", line, tab)
 }
 
-/// Appends the line that withdraws the `j`-th of the tenth ballots. There is room for it.
-fn put_withdraw(j: u32, seed: u32, tabs: u32, out: &mut Vec<u8>)
+/// Puts the line that withdraws the `j`-th of the tenth ballots where it ends at `end`, and says where it begins.
+fn put_withdraw(j: u32, seed: u32, tabs: u32, line: &mut [u8], end: usize) -> usize
     requires tabs { 1 ≤ tabs }
-    requires room { vec_len out.old + 500 ≤ vec_capacity out.old }
-    ensures text { out.new.items ≡ out.old.items ++ withdraw_line seed tabs j }
-    ensures size { vec_len out.new ≤ vec_len out.old + 500 }
-    ensures capacity { vec_capacity out.old ≤ vec_capacity out.new }
+    requires room { 500 ≤ end }
+    requires within { end ≤ length line.old }
+    ensures text { drop result line.new ≡ withdraw_line seed tabs j ++ drop end line.old }
+    ensures start { (result ≤ end) × (end ≤ result + 500) }
 {
-    put_bytes(b"withdraw ", out);
-    put_word(1 + u64::from(j % tabs), out);
-    put_number(ballot_number(seed, 10 * u64::from(j)), out);
+    let number = put_number(ballot_number(seed, 10 * u64::from(j)), line, end);
+    let tab = put_word(1 + u64::from(j % tabs), line, number);
+    put_bytes(b"withdraw ", line, tab)
 }
 
-/// Appends a part. There is room for it.
-fn put_part(part: Part, seed: u32, tabs: u32, election: &Election, out: &mut Vec<u8>)
+/// Puts a part where it ends at `end`, and says where it begins.
+fn put_part(
+    part: Part,
+    seed: u32,
+    tabs: u32,
+    election: &Election,
+    line: &mut [u8],
+    end: usize,
+) -> usize
     requires tabs { 1 ≤ tabs }
-    requires room { vec_len out.old + 500 ≤ vec_capacity out.old }
-    ensures text { out.new.items ≡ out.old.items ++ part_text election.now seed tabs part }
-    ensures size { vec_len out.new ≤ vec_len out.old + 500 }
-    ensures capacity { vec_capacity out.old ≤ vec_capacity out.new }
+    requires room { 500 ≤ end }
+    requires within { end ≤ length line.old }
+    ensures text { drop result line.new ≡ part_text election.now seed tabs part ++ drop end line.old }
+    ensures start { (result ≤ end) × (end ≤ result + 500) }
 {
     match part {
         Part::OpenCasting => {
-            put_bytes(b"open cast ", out);
-            put_number(u64::from(tabs), out);
+            let tabs = put_number(u64::from(tabs), line, end);
+            put_bytes(b"open cast ", line, tabs)
         }
-        Part::Cast(i) => put_cast(i, seed, tabs, election, out),
+        Part::Cast(i) => put_cast(i, seed, tabs, election, line, end),
         Part::OpenWithdrawing => {
-            put_bytes(b"open withdraw ", out);
-            put_number(u64::from(tabs), out);
+            let tabs = put_number(u64::from(tabs), line, end);
+            put_bytes(b"open withdraw ", line, tabs)
         }
-        Part::Withdraw(j) => put_withdraw(j, seed, tabs, out),
-        Part::Close => put_bytes(b"close", out),
-        Part::Checkpoint => put_bytes(b"checkpoint", out),
-        Part::Tally => put_bytes(b"tally", out),
+        Part::Withdraw(j) => put_withdraw(j, seed, tabs, line, end),
+        Part::Close => put_bytes(b"close", line, end),
+        Part::Checkpoint => put_bytes(b"checkpoint", line, end),
+        Part::Tally => put_bytes(b"tally", line, end),
     }
 }
 
-/// Appends line `index` of the generated script, counted from 1, where there is one, and answers whether there is.
-/// There is room for it.
-pub fn put_line_at(
+/// Puts line `index` of the generated script, counted from 1, where it ends at `end`, and says where it begins. `None`
+/// is past the end of the script.
+fn put_line_at(
     index: u64,
     seed: u32,
     count: u32,
     tabs: u32,
     election: &Election,
-    out: &mut Vec<u8>,
-) -> bool
+    line: &mut [u8],
+    end: usize,
+) -> Option<usize>
     requires index { 1 ≤ index }
     requires tabs { 1 ≤ tabs }
-    requires room { vec_len out.old + 500 ≤ vec_capacity out.old }
-    ensures some { result ≡ is_some (slice_get (generated election.now seed count tabs) (index - 1)) }
-    ensures line { out.new.items ≡ out.old.items
-        ++ unwrap_or (slice_get (generated election.now seed count tabs) (index - 1)) [] }
-    ensures size { vec_len out.new ≤ vec_len out.old + 500 }
-    ensures capacity { vec_capacity out.old ≤ vec_capacity out.new }
+    requires room { 500 ≤ end }
+    requires within { end ≤ length line.old }
+    ensures some { is_some result ≡ is_some (slice_get (generated election.now seed count tabs) (index - 1)) }
+    ensures text { IfSome result (λ start. drop start line.new
+        ≡ unwrap_or (slice_get (generated election.now seed count tabs) (index - 1)) [] ++ drop end line.old) }
+    ensures start { IfSome result (λ start. start ≤ end) }
 {
-    match part_at(index, count.min(election.limit())) {
-        Some(part) => {
-            put_part(part, seed, tabs, election, out);
-            true
-        }
-        None => false,
-    }
+    let part = part_at(index, count.min(election.limit()))?;
+    Some(put_part(part, seed, tabs, election, line, end))
+}
+
+/// Puts line `index` of the generated script, counted from 1, with its end at the end of the room, and says where it
+/// begins. `None` is past the end of the script.
+pub fn put_ended_line(
+    index: u64,
+    seed: u32,
+    count: u32,
+    tabs: u32,
+    election: &Election,
+    room: &mut [u8],
+) -> Option<usize>
+    requires index { 1 ≤ index }
+    requires tabs { 1 ≤ tabs }
+    requires room { length room.old ≡ line_room }
+    ensures some { is_some result ≡ is_some (slice_get (generated election.now seed count tabs) (index - 1)) }
+    ensures text { IfSome result (λ start. drop start room.new
+        ≡ unwrap_or (slice_get (generated election.now seed count tabs) (index - 1)) [] ++ 10 ∷ []) }
+    ensures start { IfSome result (λ start. start ≤ line_room) }
+{
+    let end = put_byte(b'\n', room, LINE_ROOM);
+    put_line_at(index, seed, count, tabs, election, room, end)
 }
 
 /// Puts line `index` of the generated script, counted from 1, in place of what stands in `out`, without a line end.
@@ -169,6 +197,12 @@ pub fn large_line(
     ensures memory { OnErr result (out.new.items ≡ []) }
 {
     out.clear();
-    out.try_reserve(LINE_ROOM)?;
-    Ok(put_line_at(index, seed, count, tabs, election, out))
+    let mut line = [0; LINE_ROOM];
+    match put_line_at(index, seed, count, tabs, election, &mut line, LINE_ROOM) {
+        Some(start) => {
+            out.extend_from_slice(&line[start..])?;
+            Ok(true)
+        }
+        None => Ok(false),
+    }
 }

@@ -1,16 +1,16 @@
-ghost use Rattle.std.specs.Prelude.{◌≡◌, ℕ, ◌-◌, ◌^◌, ◌<◌, ◌≤◌, List, [], ◌++◌, false, length, take, min, vec_len, vec_capacity, IfOk, IsOk, IsTrue, Some};
+ghost use Rattle.std.specs.Prelude.{◌≡◌, ℕ, ◌-◌, ◌^◌, ◌<◌, ◌≤◌, List, [], ◌++◌, false, length, take, min, vec_len, IfOk, IsOk, IsTrue, Some};
 ghost use Rattle.outside_io.specs.Stream.{Gives};
 ghost use Rattle.script_lines.specs.Generated.{generated_text};
 ghost use Rattle.script_lines.specs.Parts.{line_room};
 ghost use Rattle.store_spec.specs.ScriptLine.{IsTab};
 
-use crate::generated::{LINE_ROOM, put_line_at};
+use crate::generated::{LINE_ROOM, put_ended_line};
 use ballot_record::Election;
 use outside_io::{Failed, Memory, Source};
 use std::alloc::Global;
 
-/// A source of the text of the generated script. It makes one line after another, in room that it takes at first, and
-/// never fails: its count of faults is constant.
+/// A source of the text of the generated script. It makes one line after another, each at the end of room that it takes at
+/// first, and never fails: its count of faults is constant.
 #[derive(Drop)]
 pub struct GeneratedScript {
     seed: u32,
@@ -22,7 +22,7 @@ pub struct GeneratedScript {
     index: u64,
     ghost are_tabs: { IsTab tabs },
     ghost within: { given ≤ vec_len line },
-    ghost room: { line_room ≤ vec_capacity line },
+    ghost room: { vec_len line ≡ line_room },
     ghost few: { index ≤ 2 ^ 34 },
 }
 
@@ -46,8 +46,8 @@ impl GeneratedScript {
             count,
             tabs,
             election: *election,
-            line: Vec::with_capacity(alloc, LINE_ROOM)?,
-            given: 0,
+            line: vec![in alloc; 0; LINE_ROOM]?,
+            given: LINE_ROOM,
             index: 0,
         })
     }
@@ -59,10 +59,8 @@ impl GeneratedScript {
         ensures some { IsTrue result → self.new.given < vec_len self.new.line }
         ensures end { result ≡ false → script_left self.old ≡ [] }
     {
-        self.given = 0;
-        self.line.clear();
         let index = self.index + 1;
-        if !put_line_at(
+        match put_ended_line(
             index,
             self.seed,
             self.count,
@@ -70,11 +68,13 @@ impl GeneratedScript {
             &self.election,
             &mut self.line,
         ) {
-            return false;
+            Some(start) => {
+                self.given = start;
+                self.index = index;
+                true
+            }
+            None => false,
         }
-        self.line.push_reserved(b'\n');
-        self.index = index;
-        true
     }
 
     /// Gives the next bytes of the line that stands ready, as many as fit.

@@ -1,4 +1,4 @@
-ghost use Rattle.std.specs.Prelude.{◌≡◌, ◌≤◌, ◌++◌, ◌∷◌, MatchOption};
+ghost use Rattle.std.specs.Prelude.{◌≡◌, ◌≤◌, ◌++◌, ◌∷◌, IfSome, MatchOption};
 ghost use Rattle.std.specs.Fmt.{decimal};
 ghost use Rattle.store_spec.specs.BallotLine.{space};
 ghost use Rattle.store_spec.specs.ScriptLine.{IsTab, work_text};
@@ -55,11 +55,29 @@ pub fn take_work(bytes: &[u8]) -> Option<(Work, &[u8])>
     None
 }
 
-/// The tabulator that stands first, with a space behind it, and the bytes after that.
+/// The tabulator that stands first, where it has one digit, with a space behind it, and the bytes after that.
+#[inline(always)]
+fn take_short_tab(bytes: &[u8]) -> Option<(u8, &[u8])>
+    ensures { IfSome result
+        (λ x. IsTab x.0 × (bytes.now ≡ decimal x.0 ++ space ∷ x.1.now)) }
+{
+    match bytes {
+        [digit, behind, rest @ ..] if (b'1' <= *digit) & (*digit <= b'9') & (*behind == b' ') => {
+            Some((*digit - b'0', rest))
+        }
+        _ => None,
+    }
+}
+
+/// The tabulator that stands first, with a space behind it, and the bytes after that. Most have one digit, so that is
+/// looked at first.
 pub fn take_tab(bytes: &[u8]) -> Option<(u8, &[u8])>
     ensures { MatchOption result (LacksTab bytes.now)
         (λ x. IsTab x.0 × (bytes.now ≡ decimal x.0 ++ space ∷ x.1.now)) }
 {
+    if let Some(short) = take_short_tab(bytes) {
+        return Some(short);
+    }
     let (tab, rest) = take_number(bytes, MAX_TABS)?;
     let rest = after_word(rest, b" ")?;
     Some((tab as u8, rest))

@@ -88,7 +88,8 @@ pub fn lay_out(alloc: Global, cells: &[u64], more: usize) -> Result<Vec<u64>, Me
     requires { length cells.now + more < 2 ^ 32 }
     ensures { IfOk result (λ v. v.items ≡ cells.now ++ replicate more 0) }
 {
-    let mut words = Vec::from_slice(alloc, cells)?;
+    let mut words = Vec::with_capacity(alloc, cells.len() + more)?;
+    words.extend_from_slice(cells)?;
     words.resize(cells.len() + more, 0)?;
     Ok(words)
 }

@@ -50,13 +50,13 @@ impl Ballots {
     ghost use Rattle.ballot_store_cli.specs.Ballots.{Adds, Judges, IsSound, ballots_so_far};
     ghost use Rattle.store_spec.specs.Election.{Election};
 
-    /// Those of no line.
-    pub fn new(alloc: Global) -> Result<Ballots, Memory>
+    /// Those of no line, with room for as many as the election allows.
+    pub fn new(alloc: Global, election: &Election) -> Result<Ballots, Memory>
         ensures none { IfOk result (λ ballots. ballots_so_far ballots ≡ []) }
         ensures sound { IfOk result (λ ballots. (e : Election) → IsSound e ballots) }
     {
         Ok(Ballots {
-            records: Vec::new(alloc),
+            records: Vec::with_capacity(alloc, election.limit() as usize)?,
             index: Index::new(alloc)?,
         })
     }
@@ -78,17 +78,20 @@ impl Ballots {
         requires valid { IsValid election.now (ballot cast.now) }
         ensures { Adds result election.now cast.now self.old self.new }
     {
-        if let Some(held) = self.index.get(&self.records, cast.number) {
-            return Err(Refusal::Bad(if *held == *cast {
-                LineWhy::Duplicate
-            } else {
-                LineWhy::Conflict
-            }));
-        }
+        let place = match self.index.look(&self.records, cast.number) {
+            Ok(held) => {
+                return Err(Refusal::Bad(if *held == *cast {
+                    LineWhy::Duplicate
+                } else {
+                    LineWhy::Conflict
+                }));
+            }
+            Err(place) => place,
+        };
         if self.records.len() >= election.limit() as usize {
             return Err(Refusal::Bad(LineWhy::Full));
         }
-        self.index.note(&self.records, cast)?;
+        self.index.note(&self.records, cast, place)?;
         self.records.push(*cast)?;
         Ok(())
     }

@@ -1,6 +1,6 @@
-ghost use Rattle.std.specs.Prelude.{◌≡◌, ◌^◌, ◌<◌, ◌↔◌, ◌==◌, ◌++◌, ◌∷◌, [], None, find, length, option_copied, slice_get, slice_index, IfOk, IsTrue, OnOk};
+ghost use Rattle.std.specs.Prelude.{◌≡◌, ◌^◌, ◌<◌, ◌==◌, ◌++◌, ◌∷◌, [], Some, find, length, IfOk, MatchResult, OnOk};
 ghost use Rattle.ballot_record.specs.declared.record.Record as declared;
-ghost use Rattle.ballot_store_cli.specs.Index.{HasSlot, IsIndexOf, slot_of};
+ghost use Rattle.ballot_store_cli.specs.Index.{IsAbsent, IsIndexOf, IsPlaceOf, slot_of};
 
 use ballot_record::Record;
 use outside_io::Memory;
@@ -31,14 +31,13 @@ fn slot_of(number: u64) -> usize
     (mixed.wrapping_mul(MULTIPLIER) >> 47) as usize
 }
 
-/// Whether the number of the record at a place has this slot.
-fn has_slot(records: &[Record], place: u16, slot: usize) -> bool
-    ensures { IsTrue result ↔ HasSlot (slice_get records.now place) slot }
-{
-    match records.get(usize::from(place)) {
-        Some(first) => slot_of(first.number) == slot,
-        None => false,
-    }
+/// Where the record of a number is to be noted that no record has.
+#[derive(Clone, Copy)]
+pub enum Place {
+    /// In this slot, which is that of no record.
+    Slot(usize),
+    /// Among the others, since an earlier record has its slot.
+    Others,
 }
 
 impl Index {
@@ -52,35 +51,42 @@ impl Index {
         })
     }
 
-    /// The record of a number.
-    pub fn get<'a>(&'a self, records: &'a [Record], number: u64) -> Option<&'a Record>
+    /// The record of a number, or else where such a record is to be noted.
+    pub fn look<'a>(&'a self, records: &'a [Record], number: u64) -> Result<&'a Record, Place>
         requires { IsIndexOf self.now records.now }
-        ensures { option_copied result ≡ find (λ (r : declared.Record). r.number == number) records.now }
+        ensures { MatchResult result
+            (λ held. find (λ (r : declared.Record). r.number == number) records.now ≡ Some held.now)
+            (λ place. IsAbsent records.now number × IsPlaceOf place self.now records.now number) }
     {
         let slot = slot_of(number);
-        let first = records.get(usize::from(self.firsts[slot]))?;
+        let Some(first) = records.get(usize::from(self.firsts[slot])) else {
+            return Err(Place::Slot(slot));
+        };
         if first.number == number {
-            return Some(first);
+            return Ok(first);
         }
-        if slot_of(first.number) == slot {
-            self.others.get(&number)
-        } else {
-            None
+        if slot_of(first.number) != slot {
+            return Err(Place::Slot(slot));
+        }
+        match self.others.get(&number) {
+            Some(other) => Ok(other),
+            None => Err(Place::Others),
         }
     }
 
-    /// Notes the record that comes behind these.
-    pub fn note(&mut self, records: &[Record], cast: &Record) -> Result<(), Memory>
+    /// Notes the record that comes behind these, at the place that a look at them gave.
+    pub fn note(&mut self, records: &[Record], cast: &Record, place: Place) -> Result<(), Memory>
         requires index { IsIndexOf self.old records.now }
-        requires absent { find (λ (r : declared.Record). r.number == cast.now.number) records.now ≡ None }
+        requires absent { IsAbsent records.now cast.now.number }
+        requires place { IsPlaceOf place self.old records.now cast.now.number }
         requires few { length records.now < 2 ^ 16 }
         ensures { OnOk result (IsIndexOf self.new (records.now ++ cast.now ∷ [])) }
     {
-        let slot = slot_of(cast.number);
-        if has_slot(records, self.firsts[slot], slot) {
-            self.others.insert(cast.number, *cast)?;
-        } else {
-            self.firsts[slot] = records.len() as u16;
+        match place {
+            Place::Slot(slot) => self.firsts[slot] = records.len() as u16,
+            Place::Others => {
+                self.others.insert(cast.number, *cast)?;
+            }
         }
         Ok(())
     }

@@ -46,7 +46,7 @@ pub fn read_ballots<S: Source>(
     ensures fault { CountsFaultIf (result ≡ Err ScriptFault.ReadFault) (S.faults script.old) (S.faults script.new) }
 {
     let mut lines = Lines::new(alloc)?;
-    let mut ballots = Ballots::new(alloc)?;
+    let mut ballots = Ballots::new(alloc, election)?;
     let mut count = 0;
     'lines: loop {
         match lines.next_line(script) {

@@ -1,5 +1,5 @@
 use Rattle.std.proofs.Common.{map, string_bytes, inr, refl}
-use Rattle.ballot_store_cli.proofs.Carrying.{carried_out, unread}
+use Rattle.ballot_store_cli.proofs.Carrying.{carried_out}
 use Rattle.ballot_store_cli.proofs.Naming.{some_at}
 use Rattle.ballot_store_cli.specs.Command.{Forms}
 use Rattle.ballot_store_cli.specs.World.{reported, world}

@@ -1,17 +1,21 @@
 use Rattle.std.proofs.Common.{◌≡◌, ℕ, ◌+◌, ◌<◌, ◌≤◌, List, ◌∷◌, [], ◌++◌, length, take, set, refl, sym, ap, subst, ◌∙◌, arith}
 use Rattle.std.proofs.lemmas.Bool.{false≢true}
 use Rattle.std.proofs.lemmas.List.{length-map, length-take-le, map_push, take_more_set}
+use Rattle.ballot_record.proofs.BallotNumbers.{length-numbers_of}
 use Rattle.ballot_record.specs.Record.{ballot}
+use Rattle.ballot_record.specs.declared.record.Record as declared
 use Rattle.body_store.specs.Contents.{ballots_of}
-use Rattle.image_builder.proofs.FirstCells.{Goes, ballot_next, blank_more, empty_next, next_as, wrong_next}
+use Rattle.image_builder.proofs.FirstCells.{AreNext, Goes, ballot_next, blank_more, empty_next, next_as, wrong_next}
 use Rattle.image_builder.proofs.Reaches.{reach_as}
 use Rattle.image_builder.proofs.Wrong.{bad_bytes, misplaced, stands_at, stands_behind, too_many}
 use Rattle.image_builder.proofs.cells.read_right_cell.Goals as goal
-use Rattle.image_builder.specs.Cells.{HasSpace, IsRefusedAt, front_of, numbers_read}
+use Rattle.image_builder.specs.Cells.{AreKept, HasSpace, IsRefusedAt, front_of, kept_front, numbers_read}
+use Rattle.image_builder.specs.Reaches.{IsReach}
 use Rattle.image_builder.specs.declared.cells.CellsRead.{CellsRead}
 use Rattle.image_builder.specs.declared.read.ImageFault.TheVariants.{Damaged}
-use Rattle.store_spec.specs.Election.{Election}
+use Rattle.store_spec.specs.Election.{Election, IsElection, cell_count, cell_size}
 use Rattle.store_spec.specs.Home.{home_in}
+use Rattle.store_spec.specs.Image.{IsCellOf, IsEmptyCell}
 use Rattle.store_spec.specs.Layout.{MayStand}
 
 -- how many numbers were read
@@ -25,7 +29,7 @@ returns-in-Bad-clause-refused c _ =
     let ballots = ballots_of c.args.cells.now.records.items in
     let bytes = c.args.bytes.now in
     let at = count_read e c.args.cells.now c.requires.wide in
-    let bad = c.in-Bad.ensures.bad.0 refl in
+    let bad = c.take_cell-read.ensures.bad.0 c.in-Bad.is in
     subst (λ (place : ℕ). IsRefusedAt e (front_of e numbers ballots ++ bytes) (Damaged place)) at
     (wrong_next e numbers c.args.cells.now.reaches.items ballots bytes c.requires.election c.requires.kept c.requires.size c.requires.room
     (λ (bank : List ℕ) (goes : Goes e numbers ballots bytes bank).
@@ -40,7 +44,7 @@ returns-then-len-limit-clause-refused c _ =
     let ballots = ballots_of records in
     let bytes = c.args.bytes.now in
     let at = count_read e c.args.cells.now c.requires.wide in
-    let held = (c.in-Held.ensures.held c.in-Held.record).0 refl in
+    let held = (c.take_cell-read.ensures.held c.in-Held.record).0 c.in-Held.is in
     let full : e.limit ≤ length ballots = omega (arith, c.if-len-limit.true, c.limit.ensures.limit, c.len.ensures, length-map records ballot) in
     subst (λ (place : ℕ). IsRefusedAt e (front_of e numbers ballots ++ bytes) (Damaged place)) at
     (wrong_next e numbers c.args.cells.now.reaches.items ballots bytes c.requires.election c.requires.kept c.requires.size c.requires.room
@@ -54,7 +58,7 @@ returns-in_default-clause-refused c _ =
     let ballots = ballots_of c.args.cells.now.records.items in
     let bytes = c.args.bytes.now in
     let at = count_read e c.args.cells.now c.requires.wide in
-    let held = (c.in-Held.ensures.held c.in-Held.record).0 refl in
+    let held = (c.take_cell-read.ensures.held c.in-Held.record).0 c.in-Held.is in
     let b = ballot c.in-Held.record in
     let may_not : ¬ MayStand (home_in e) numbers b.number (length numbers) =
     λ may. false≢true (c.in_default.ensures.stands.1 (stands_behind (home_in e) (take c.args.cells.now.count c.deref.result.now) numbers b.number (length numbers) (ap (take c.args.cells.now.count) c.deref.ensures.value) refl may)) in
@@ -63,88 +67,74 @@ returns-in_default-clause-refused c _ =
     (λ (bank : List ℕ) (goes : Goes e numbers ballots bytes bank).
     misplaced e bank (length numbers) numbers ballots b c.requires.election c.requires.room goes.read held.0 (goes.cell ∙ held.1) may_not))
 
-pub returns-in-Empty-clause-kept : goal.returns-in-Empty-clause-kept
-returns-in-Empty-clause-kept c _ =
-    let e = c.args.election.now in
-    let cells = c.args.cells.now in
+-- an empty cell more
+empty_read : (e : Election) (cells : CellsRead) (bytes : List ℕ) → IsElection e → AreKept e cells → HasSpace e cells → length (numbers_read cells) < cell_count e → length bytes ≡ cell_size e → IsEmptyCell e bytes
+    → AreNext e (kept_front e cells) bytes (take (cells.count + 1) cells.numbers.items) cells.reaches.items (ballots_of cells.records.items)
+empty_read e cells bytes election kept wide room size empty =
     let numbers = numbers_read cells in
     let reaches = cells.reaches.items in
     let ballots = ballots_of cells.records.items in
-    let wide = c.requires.wide in
-    let places : length numbers < length reaches = omega (arith, c.requires.room, wide.reaches) in
-    let more = blank_more cells.numbers.items cells.count 1 wide.blank (omega (arith, c.requires.room, count_read e cells wide, wide.numbers)) in
-    let next = next_as e (front_of e numbers ballots) c.args.bytes.now (numbers ++ 0 ∷ []) (take (cells.count + 1) cells.numbers.items) reaches reaches ballots ballots
-    (empty_next e numbers reaches ballots c.args.bytes.now c.requires.election c.requires.kept places c.requires.size (c.in-Empty.ensures.empty.0 refl)) more refl refl in
+    next_as e (kept_front e cells) bytes (numbers ++ 0 ∷ []) (take (cells.count + 1) cells.numbers.items) reaches reaches ballots ballots
+    (empty_next e numbers reaches ballots bytes election kept size empty)
+    (blank_more cells.numbers.items cells.count 1 wide.blank (omega (arith, room, count_read e cells wide, wide.numbers))) refl refl
+
+pub returns-in-Empty-clause-kept : goal.returns-in-Empty-clause-kept
+returns-in-Empty-clause-kept c _ =
+    let next = empty_read c.args.election.now c.args.cells.now c.args.bytes.now c.requires.election c.requires.kept c.requires.wide c.requires.room c.requires.size (c.take_cell-read.ensures.empty.0 c.in-Empty.is) in
     next.cells
 
 pub returns-in-Empty-clause-fed : goal.returns-in-Empty-clause-fed
 returns-in-Empty-clause-fed c _ =
-    let e = c.args.election.now in
-    let cells = c.args.cells.now in
+    let next = empty_read c.args.election.now c.args.cells.now c.args.bytes.now c.requires.election c.requires.kept c.requires.wide c.requires.room c.requires.size (c.take_cell-read.ensures.empty.0 c.in-Empty.is) in
+    next.fed
+
+-- the record of the next cell is put behind those so far, with its reach
+record IsPut (cells now : CellsRead) (r : declared.Record) (from : ℕ) : Type 0 where
+  count : now.count ≡ cells.count + 1
+  numbers : now.numbers.items ≡ set cells.numbers.items cells.count r.number
+  records : now.records.items ≡ cells.records.items ++ r ∷ []
+  reaches : now.reaches.items ≡ cells.reaches.items ++ from ∷ []
+
+held_read : (e : Election) (cells now : CellsRead) (r : declared.Record) (from : ℕ) (bytes before : List ℕ) → IsElection e → AreKept e cells → HasSpace e cells → length (numbers_read cells) < cell_count e → length bytes ≡ cell_size e
+    → IsCellOf e bytes (ballot r) → length cells.records.items < e.limit → before ≡ numbers_read cells → MayStand (home_in e) before r.number (length before) → IsReach before r.number (length before) from → IsPut cells now r from
+    → AreNext e (kept_front e cells) bytes (numbers_read now) now.reaches.items (ballots_of now.records.items)
+held_read e cells now r from bytes before election kept wide room size held few same stands reach put =
     let numbers = numbers_read cells in
     let reaches = cells.reaches.items in
-    let ballots = ballots_of cells.records.items in
-    let wide = c.requires.wide in
-    let places : length numbers < length reaches = omega (arith, c.requires.room, wide.reaches) in
-    let more = blank_more cells.numbers.items cells.count 1 wide.blank (omega (arith, c.requires.room, count_read e cells wide, wide.numbers)) in
-    let next = next_as e (front_of e numbers ballots) c.args.bytes.now (numbers ++ 0 ∷ []) (take (cells.count + 1) cells.numbers.items) reaches reaches ballots ballots
-    (empty_next e numbers reaches ballots c.args.bytes.now c.requires.election c.requires.kept places c.requires.size (c.in-Empty.ensures.empty.0 refl)) more refl refl in
-    next.fed
+    let records = cells.records.items in
+    let ballots = ballots_of records in
+    let b = ballot r in
+    next_as e (kept_front e cells) bytes (numbers ++ b.number ∷ []) (numbers_read now) (reaches ++ from ∷ []) now.reaches.items (ballots ++ b ∷ []) (ballots_of now.records.items)
+    (ballot_next e numbers reaches ballots b from bytes election kept size held.0 held.1
+    (stands_at (home_in e) before numbers b.number (length numbers) same refl stands)
+    (omega (arith, few, length-map records ballot))
+    (reach_as numbers before b.number from reach same))
+    (ap (λ n. take n now.numbers.items) put.count ∙ ap (take (cells.count + 1)) put.numbers ∙ take_more_set cells.numbers.items cells.count b.number (omega (arith, room, count_read e cells wide, wide.numbers)))
+    put.reaches
+    (ap ballots_of put.records ∙ map_push ballot records r)
+
+pub put-requires-clause-reaches : goal.put-requires-clause-reaches
+put-requires-clause-reaches c =
+    let kept = c.requires.kept in
+    let records = c.args.cells.now.records.items in
+    omega (arith, kept.reached.count, ap length kept.same, length-numbers_of (ballots_of records), length-map records ballot, c.requires.wide.reaches, c.if-len-limit.false, c.limit.ensures.limit, c.len.ensures)
 
 pub returns-in-Some-clause-kept : goal.returns-in-Some-clause-kept
 returns-in-Some-clause-kept c _ =
-    let e = c.args.election.now in
     let cells = c.args.cells.now in
-    let numbers = numbers_read cells in
-    let reaches = cells.reaches.items in
-    let ballots = ballots_of cells.records.items in
-    let bytes = c.args.bytes.now in
-    let record_read = c.in-Held.record in
-    let b = ballot record_read in
-    let from = c.in-Some.reach in
-    let wide = c.requires.wide in
-    let at = count_read e cells wide in
-    let places : length numbers < length reaches = omega (arith, c.requires.room, wide.reaches) in
-    let held = (c.in-Held.ensures.held record_read).0 refl in
-    let room : length ballots < e.limit = omega (arith, c.if-len-limit.false, c.limit.ensures.limit, c.len.ensures, length-map cells.records.items ballot) in
-    let before = take cells.count c.deref.result.now in
-    let same = ap (take cells.count) c.deref.ensures.value in
-    let may = stands_at (home_in e) before numbers b.number (length numbers) same refl (c.in-Some.ensures.stands.0 refl) in
-    let reach = reach_as numbers before b.number from c.in-Some.ensures.reach same in
-    let now = c.put.new.cells in
+    let wanted = c.requires in
     let is = c.put.ensures in
-    let next = next_as e (front_of e numbers ballots) bytes (numbers ++ b.number ∷ []) (numbers_read now) (set reaches (length numbers) from) now.reaches.items (ballots ++ b ∷ []) (ballots_of now.records.items)
-    (ballot_next e numbers reaches ballots b from bytes c.requires.election c.requires.kept places c.requires.size held.0 held.1 may room reach)
-    (ap (λ n. take n now.numbers.items) is.count ∙ ap (take (cells.count + 1)) is.numbers ∙ take_more_set cells.numbers.items cells.count b.number (omega (arith, c.requires.room, at, wide.numbers)))
-    (is.reaches ∙ ap (λ place. set reaches place from) (sym at))
-    (ap (λ v. ballots_of v.items) is.records ∙ ap ballots_of c.push_reserved.ensures.items ∙ map_push ballot cells.records.items record_read) in
+    let next = held_read c.args.election.now cells c.put.new.cells c.in-Held.record c.in-Some.reach c.args.bytes.now (take cells.count c.deref.result.now) wanted.election wanted.kept wanted.wide wanted.room wanted.size
+    ((c.take_cell-read.ensures.held c.in-Held.record).0 c.in-Held.is) (omega (arith, c.if-len-limit.false, c.limit.ensures.limit, c.len.ensures)) (ap (take cells.count) c.deref.ensures.value)
+    (c.in-Some.ensures.stands.0 refl) c.in-Some.ensures.reach (record { count = is.count; numbers = is.numbers; records = is.records; reaches = is.reaches }) in
     next.cells
 
 pub returns-in-Some-clause-fed : goal.returns-in-Some-clause-fed
 returns-in-Some-clause-fed c _ =
-    let e = c.args.election.now in
     let cells = c.args.cells.now in
-    let numbers = numbers_read cells in
-    let reaches = cells.reaches.items in
-    let ballots = ballots_of cells.records.items in
-    let bytes = c.args.bytes.now in
-    let record_read = c.in-Held.record in
-    let b = ballot record_read in
-    let from = c.in-Some.reach in
-    let wide = c.requires.wide in
-    let at = count_read e cells wide in
-    let places : length numbers < length reaches = omega (arith, c.requires.room, wide.reaches) in
-    let held = (c.in-Held.ensures.held record_read).0 refl in
-    let room : length ballots < e.limit = omega (arith, c.if-len-limit.false, c.limit.ensures.limit, c.len.ensures, length-map cells.records.items ballot) in
-    let before = take cells.count c.deref.result.now in
-    let same = ap (take cells.count) c.deref.ensures.value in
-    let may = stands_at (home_in e) before numbers b.number (length numbers) same refl (c.in-Some.ensures.stands.0 refl) in
-    let reach = reach_as numbers before b.number from c.in-Some.ensures.reach same in
-    let now = c.put.new.cells in
+    let wanted = c.requires in
     let is = c.put.ensures in
-    let next = next_as e (front_of e numbers ballots) bytes (numbers ++ b.number ∷ []) (numbers_read now) (set reaches (length numbers) from) now.reaches.items (ballots ++ b ∷ []) (ballots_of now.records.items)
-    (ballot_next e numbers reaches ballots b from bytes c.requires.election c.requires.kept places c.requires.size held.0 held.1 may room reach)
-    (ap (λ n. take n now.numbers.items) is.count ∙ ap (take (cells.count + 1)) is.numbers ∙ take_more_set cells.numbers.items cells.count b.number (omega (arith, c.requires.room, at, wide.numbers)))
-    (is.reaches ∙ ap (λ place. set reaches place from) (sym at))
-    (ap (λ v. ballots_of v.items) is.records ∙ ap ballots_of c.push_reserved.ensures.items ∙ map_push ballot cells.records.items record_read) in
+    let next = held_read c.args.election.now cells c.put.new.cells c.in-Held.record c.in-Some.reach c.args.bytes.now (take cells.count c.deref.result.now) wanted.election wanted.kept wanted.wide wanted.room wanted.size
+    ((c.take_cell-read.ensures.held c.in-Held.record).0 c.in-Held.is) (omega (arith, c.if-len-limit.false, c.limit.ensures.limit, c.len.ensures)) (ap (take cells.count) c.deref.ensures.value)
+    (c.in-Some.ensures.stands.0 refl) c.in-Some.ensures.reach (record { count = is.count; numbers = is.numbers; records = is.records; reaches = is.reaches }) in
     next.fed

@@ -7,25 +7,26 @@ use Rattle.phase_insert.specs.Tabulator.{new_tabulator}
 use Rattle.phase_play.proofs.Playing.{began, cast_all, cast_belong, cast_may, cast_trays, plays_casting}
 use Rattle.phase_play.specs.Plays.{PlaysCasting}
 use Rattle.phase_play.proofs.casting.play_casting.Goals as goal
+use Rattle.store_spec.specs.Ballot.{Ballot}
 
 pub run_cast-requires-clause-belong : goal.run_cast-requires-clause-belong
 run_cast-requires-clause-belong g c κs within =
     let phase = c.in-Ok.begun.0 in
-    let work = c.args.work.now in
+    let work = c.as_slice-lists.result.now in
     let are : c.deref_mut.result.now ≡ began (λ list. list.items) phase work = c.deref_mut.ensures.value ∙ c.in-Ok.ensures.tabulators ∙ ap (map (new_tabulator phase)) (c.deref.ensures.value ∙ c.in_ok-plan.ensures) in
     cast_belong (λ list. list.items) phase work c.deref_mut.result.now are
 
 pub run_cast-requires-clause-room : goal.run_cast-requires-clause-room
 run_cast-requires-clause-room g c κs within =
     let phase = c.in-Ok.begun.0 in
-    let work = c.args.work.now in
+    let work = c.as_slice-lists.result.now in
     let are : c.deref_mut.result.now ≡ began (λ list. list.items) phase work = c.deref_mut.ensures.value ∙ c.in-Ok.ensures.tabulators ∙ ap (map (new_tabulator phase)) (c.deref.ensures.value ∙ c.in_ok-plan.ensures) in
     cast_may (λ list. list.items) phase work c.deref_mut.result.now are
 
 pub close-requires : goal.close-requires
 close-requires g c =
     let phase = c.in-Ok.begun.0 in
-    let work = c.args.work.now in
+    let work = c.as_slice-lists.result.now in
     let held = c.in-Ok.begun.1 in
     let after = c.run_cast.new.tabs in
     let are : c.deref_mut.result.now ≡ began (λ list. list.items) phase work = c.deref_mut.ensures.value ∙ c.in-Ok.ensures.tabulators ∙ ap (map (new_tabulator phase)) (c.deref.ensures.value ∙ c.in_ok-plan.ensures) in
@@ -36,7 +37,7 @@ close-requires g c =
 pub returns-in-Ok-close-clause-plays : goal.returns-in-Ok-close-clause-plays
 returns-in-Ok-close-clause-plays g c =
     let phase = c.in-Ok.begun.0 in
-    let work = c.args.work.now in
+    let work = c.as_slice-lists.result.now in
     let held = c.in-Ok.begun.1 in
     let after = c.run_cast.new.tabs in
     let ended = c.in-Ok-close.ended in
@@ -46,5 +47,6 @@ returns-in-Ok-close-clause-plays g c =
     let trays = cast_trays (λ list. list.items) phase work c.deref_mut.result.now are after tabs c.run_cast.ensures.as_many whole c.run_cast.ensures.cast in
     let plays = plays_casting c.args.election.now phase.base (map (λ tab. tab.tray) tabs) (map (λ finals. finals.items) ended.1.items) (map (λ list. ballots_of list.items) work) ended.0.ballots
     (ap (λ (store : Contents). store.election) c.in-Ok.ensures.base ∙ sym c.requires.own) c.in-Ok-close.ensures.closes trays in
-    subst (λ (base : Contents). PlaysCasting c.args.election.now base.ballots (map (λ list. ballots_of list.items) work) (map (λ list. map reply_of list.items) ended.1.items) ended.0.ballots) c.in-Ok.ensures.base
-    (subst (λ replies. PlaysCasting c.args.election.now phase.base.ballots (map (λ list. ballots_of list.items) work) replies ended.0.ballots) (map-map (map reply_of) (λ list. list.items) ended.1.items) plays)
+    subst (λ (given : List (List Ballot)). PlaysCasting c.args.election.now c.args.closed.ballots given (map (λ list. map reply_of list.items) ended.1.items) ended.0.ballots) (ap (map (λ list. ballots_of list.items)) c.as_slice-lists.ensures.value)
+    (subst (λ (base : Contents). PlaysCasting c.args.election.now base.ballots (map (λ list. ballots_of list.items) work) (map (λ list. map reply_of list.items) ended.1.items) ended.0.ballots) c.in-Ok.ensures.base
+    (subst (λ replies. PlaysCasting c.args.election.now phase.base.ballots (map (λ list. ballots_of list.items) work) replies ended.0.ballots) (map-map (map reply_of) (λ list. list.items) ended.1.items) plays))

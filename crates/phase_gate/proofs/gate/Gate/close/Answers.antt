@@ -1,4 +1,4 @@
-use Rattle.std.proofs.Common.{◌≡◌, List, ℕ, All, Vec, Global, map, ap, string_bytes, subst, sym}
+use Rattle.std.proofs.Common.{◌≡◌, List, ℕ, All, Vec, Global, map, ap, refl, string_bytes, subst, sym}
 use Rattle.ballot_record.specs.declared.record.Record.{Record}
 use Rattle.body_store.specs.Contents.{Contents, ballots_of}
 use Rattle.phase_gate.proofs.Phases.{close_closed}
@@ -20,19 +20,19 @@ pub close_casting-requires-clause-lists : goal.close_casting-requires-clause-lis
 close_casting-requires-clause-lists g c κs within =
     let lists = c.in-Casting.lists.items in
     let wait = c.args.self.waiting.casts (map (λ list. ballots_of list.items) lists) (ap phase_of c.in-Casting.is) in
-    are_lists (λ list. ballots_of list.items) lists c.deref.result.now c.deref.ensures.value wait.0
+    are_lists (λ list. ballots_of list.items) lists lists refl wait.0
 
 pub close_casting-requires-clause-valid : goal.close_casting-requires-clause-valid
 close_casting-requires-clause-valid g c κs within =
     let lists = c.in-Casting.lists.items in
     let wait = c.args.self.waiting.casts (map (λ list. ballots_of list.items) lists) (ap phase_of c.in-Casting.is) in
     let valid = subst (λ (e : Election). All (All (IsValid e)) (map (λ list. ballots_of list.items) lists)) (sym c.election.ensures.election) wait.1 in
-    all_valid c.election.result.now (λ list. ballots_of list.items) lists c.deref.result.now c.deref.ensures.value valid
+    all_valid c.election.result.now (λ list. ballots_of list.items) lists lists refl valid
 
 pub close_withdrawing-requires-clause-lists : goal.close_withdrawing-requires-clause-lists
 close_withdrawing-requires-clause-lists g c κs within =
     let lists = c.in-Withdrawing.lists.items in
-    are_lists (λ list. list.items) lists c.deref-in-Withdrawing.result.now c.deref-in-Withdrawing.ensures.value
+    are_lists (λ list. list.items) lists c.deref.result.now c.deref.ensures.value
     (c.args.self.waiting.withdraws (map (λ list. list.items) lists) (ap phase_of c.in-Withdrawing.is))
 
 pub close_finding-requires-clause-lists : goal.close_finding-requires-clause-lists
@@ -75,16 +75,15 @@ returns-clause-does g c =
           let own_lists : List (Vec Record Global) = w.in-Casting.lists.items in
           let text = string_bytes w.close_casting.new.reply in
           let after = w.in_ok-closed-in-Casting.closed in
-          let Closes : Election → List (Vec Record Global) → Type 0 = λ e lists. Tells telling (ClosesCasting e ballots (map casts lists)) (replies text (begun after.ballots)) in
-          let of_own = subst (λ e. Closes e w.deref.result.now) same w.in_ok-closed-in-Casting.ensures.closes in
-          let listed : Closes own own_lists = subst (λ lists. Closes own lists) w.deref.ensures.value of_own in
+          let Closes : Election → Type 0 = λ e. Tells telling (ClosesCasting e ballots (map casts own_lists)) (replies text (begun after.ballots)) in
+          let listed : Closes own = subst Closes same w.in_ok-closed-in-Casting.ensures.closes in
           close_told telling own c.args.index (state_of self) (Casts (map casts own_lists)) (phase_of self.work) (ap phase_of w.in-Casting.is) text (string_bytes c.match-work.reply) (ap string_bytes w.reply-is) after c.match-work.closed w.closed-is listed
       | in-Withdrawing+in_ok-closed-in-Withdrawing w ↦
           let own_lists : List (Vec ℕ Global) = w.in-Withdrawing.lists.items in
           let text = string_bytes w.close_withdrawing.new.reply in
           let after = w.in_ok-closed-in-Withdrawing.closed in
           let Closes : List (Vec ℕ Global) → Type 0 = λ lists. Tells telling (ClosesWithdrawing ballots (map numbers lists)) (replies text (begun after.ballots)) in
-          let listed : Closes own_lists = subst Closes w.deref-in-Withdrawing.ensures.value w.in_ok-closed-in-Withdrawing.ensures.closes in
+          let listed : Closes own_lists = subst Closes w.deref.ensures.value w.in_ok-closed-in-Withdrawing.ensures.closes in
           close_told telling own c.args.index (state_of self) (Withdraws (map numbers own_lists)) (phase_of self.work) (ap phase_of w.in-Withdrawing.is) text (string_bytes c.match-work.reply) (ap string_bytes w.reply-is) after c.match-work.closed w.closed-is listed
       | in-Finding+in_ok-close_finding-in-Finding w ↦
           let own_lists : List (Vec ℕ Global) = w.in-Finding.lists.items in
