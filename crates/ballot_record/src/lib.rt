@@ -14,7 +14,7 @@ pub use cell::{CellRead, take_cell};
 pub use contest::{Contest, MAX_CHOICES};
 pub use election::{Election, MAX_BITS, MAX_CONTESTS, MAX_LIMIT, MAX_STYLES};
 pub use fault::{LineFault, LineWhy};
-pub use line::{read_line, take_number};
+pub use line::{read_line, read_line_into, take_number};
 pub use print::put_line;
 pub use record::{MAX_MARK_SETS, Record};
 

@@ -1,4 +1,4 @@
-ghost use Rattle.std.specs.Prelude.{◌≡◌, ℕ, ◌^◌, ◌<◌, ◌≤◌, ◌↔◌, option_map, option_copied, replicate, Some, None, Ok, Err, IfOk};
+ghost use Rattle.std.specs.Prelude.{◌≡◌, ℕ, ◌^◌, ◌<◌, ◌≤◌, ◌↔◌, option_map, option_copied, replicate, Some, None, Ok, Err, IfOk, OnOk};
 ghost use Rattle.store_spec.specs.BallotLine.{IsRecordLine, Spells, IsLineOf};
 ghost use Rattle.ballot_record.specs.LineReading.{digits_at, four_at, eight_at, past_byte, choices_at, group_at, groups_of, line_of};
 ghost use Rattle.ballot_record.specs.Line.{set_seen, sets_seen, line_seen};
@@ -211,9 +211,28 @@ fn put_parts(line: &[u8], parts: &mut Record) -> Option<usize>
     put_groups(after_byte(rest, b' ')?, &mut parts.marks)
 }
 
-/// The record of a line under an election. The whole line is judged by the grammar of record lines before any part
-/// of it is judged by the election: it is `Malformed` where it is not in the grammar, and `Invalid` where it is, but
-/// has not a group for each contest, or its record is not valid.
+/// Puts the record of a line under an election in place of what stands there. The whole line is judged by the grammar of
+/// record lines before any part of it is judged by the election: it is `Malformed` where it is not in the grammar, and
+/// `Invalid` where it is, but has not a group for each contest, or its record is not valid. What stands there after a
+/// fault is no record.
+pub fn read_line_into(line: &[u8], election: &Election, out: &mut Record) -> Result<(), LineFault>
+    ensures read { OnOk result (Spells election.now line.now (ballot out.new)) }
+    ensures malformed { (result ≡ Err LineFault.Malformed)
+        ↔ (¬ IsRecordLine election.now line.now) }
+    ensures invalid { (result ≡ Err LineFault.Invalid)
+        ↔ (IsRecordLine election.now line.now × ¬ IsLineOf election.now line.now) }
+{
+    *out = Record::blank();
+    let Some(groups) = put_parts(line, out) else {
+        return Err(LineFault::Malformed);
+    };
+    if groups != election.contests() || !out.valid_up_to(election, groups) {
+        return Err(LineFault::Invalid);
+    }
+    Ok(())
+}
+
+/// The record of a line under an election, judged as by `read_line_into`.
 pub fn read_line(line: &[u8], election: &Election) -> Result<Record, LineFault>
     ensures read { IfOk result (λ r. Spells election.now line.now (ballot r)) }
     ensures malformed { (result ≡ Err LineFault.Malformed)
@@ -221,16 +240,7 @@ pub fn read_line(line: &[u8], election: &Election) -> Result<Record, LineFault>
     ensures invalid { (result ≡ Err LineFault.Invalid)
         ↔ (IsRecordLine election.now line.now × ¬ IsLineOf election.now line.now) }
 {
-    let mut record = Record {
-        number: 0,
-        style: 0,
-        marks: [0; MAX_MARK_SETS],
-    };
-    let Some(groups) = put_parts(line, &mut record) else {
-        return Err(LineFault::Malformed);
-    };
-    if groups != election.contests() || !record.valid_up_to(election, groups) {
-        return Err(LineFault::Invalid);
-    }
+    let mut record = Record::blank();
+    read_line_into(line, election, &mut record)?;
     Ok(record)
 }

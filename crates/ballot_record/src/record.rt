@@ -1,4 +1,4 @@
-ghost use Rattle.std.specs.Prelude.{◌≡◌, ℕ, ◌-◌, ◌^◌, ◌<◌, ◌≤◌, ◌↔◌, length, IsTrue, slice_index};
+ghost use Rattle.std.specs.Prelude.{◌≡◌, ℕ, ◌-◌, ◌^◌, ◌<◌, ◌≤◌, ◌↔◌, length, replicate, IsTrue, slice_index};
 ghost use Rattle.store_spec.specs.Election.{choices_on, cell_size};
 ghost use Rattle.store_spec.specs.Ballot.{IsValid, HasMarks};
 ghost use Rattle.store_spec.specs.Image.{ballot_bytes};
@@ -26,6 +26,17 @@ fn has_choices(set: u32, election: &Election, style: u8, contest: usize) -> bool
 
 impl Record {
     ghost use Rattle.ballot_record.specs.Record.{ballot};
+
+    /// That of no ballot: no number, no style and no marks.
+    pub fn blank() -> Record
+        ensures marks { result.marks ≡ replicate MAX_MARK_SETS 0 }
+    {
+        Record {
+            number: 0,
+            style: 0,
+            marks: [0; MAX_MARK_SETS],
+        }
+    }
 
     /// Whether the election knows its style, and its marks are choices of contests on it. A record that marks more than
     /// a contest allows is valid: an overvote.

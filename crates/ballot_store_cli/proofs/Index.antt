@@ -41,13 +41,7 @@ missing_front x xs number is =
     ] in
     test (eqb x.number number) (λ h. grind (arith, nat_tests)) is
 
--- where nothing is found no record has the number
-pub missing : (records : List Record) (number : ℕ) → found_in records number ≡ None → (k : ℕ) (d : Record) → k < length records → (get_or records k d).number ≢ number
-missing [] number is k d below = absurd (omega arith)
-missing (x ∷ xs) number is zero d below = (missing_front x xs number is).0
-missing (x ∷ xs) number is (suc k) d below = missing xs number (missing_front x xs number is).1 k d (omega arith)
-
--- the same of the ballots
+-- where nothing is found no ballot has the number
 pub ballot_missing : (records : List Record) (number : ℕ) → found_in records number ≡ None → (k : ℕ) (d : Ballot) → k < length (map ballot records) → (get_or (map ballot records) k d).number ≢ number
 ballot_missing [] number is k d below = absurd (omega arith)
 ballot_missing (x ∷ xs) number is zero d below = (missing_front x xs number is).0

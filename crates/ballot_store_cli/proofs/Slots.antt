@@ -1,14 +1,14 @@
 -- An index after one record more.
-use Rattle.std.proofs.Common.{◌≡◌, ◌≢◌, ℕ, zero, suc, ◌<◌, Bool, true, cond, nat_lt, slice_index_or, eqb, List, [], ◌∷◌, ◌++◌, length, Option, Some, None, refl, ap, sym, subst, ◌∙◌, ◌⊎◌, inl, inr}
-use Rattle.std.proofs.lemmas.Bool.{cases_eq, eq-eqb, ltb-true, ne_eqb}
-use Rattle.std.proofs.lemmas.List.{get_or_read}
-use Rattle.std.proofs.lemmas.Option.{slice_get_read}
+use Rattle.std.proofs.Common.{◌≡◌, ◌≢◌, ℕ, zero, suc, ◌+◌, ◌^◌, ◌<◌, ◌≤◌, Bool, cond, eqb, List, [], ◌∷◌, ◌++◌, length, set, Option, Some, None, refl, ap, sym, subst, ◌∙◌, ◌⊎◌, inl, inr, arith, length-append}
+use Rattle.std.proofs.lemmas.Bool.{cases_eq, cases_lt, eq-eqb, ne_eqb}
+use Rattle.std.proofs.lemmas.List.{get_or-set_same, get_or-set_other}
 use Rattle.std.proofs.lemmas.List.Folds.{find-append}
+use Rattle.std.specs.List.{AllByRecursion}
 use Rattle.std.specs.Option.{option_or}
 use Rattle.std.specs.Ordering.{nat_cmp, is_eq}
 use Rattle.std.specs.Prelude.{◌==◌, slice_get, slice_index}
 use Rattle.ballot_record.specs.declared.record.Record.{Record}
-use Rattle.ballot_store_cli.specs.Index.{HasSlot, held_by, held_in, slot_of}
+use Rattle.ballot_store_cli.specs.Index.{AreTaken, StandsAmong, StandsIn, slot_of}
 use Rattle.ballot_store_cli.proofs.Index.{found_in, same_number, other_number}
 
 -- ---- what is found in a list with one record more
@@ -24,177 +24,173 @@ found_last records cast none =
     found_push records cast cast.number ∙ ap (last_or (found_in records cast.number) cast cast.number) (eq-eqb cast.number cast.number refl)
     ∙ ap (λ found. option_or found (Some cast)) none
 
-or_none : (found : Option Record) → option_or found None ≡ found
-or_none None = refl
-or_none (Some r) = refl
-
-found_before : (records : List Record) (cast : Record) (number : ℕ) → cast.number ≢ number → found_in (records ++ cast ∷ []) number ≡ found_in records number
-found_before records cast number other =
-    found_push records cast number ∙ ap (last_or (found_in records number) cast number) (ne_eqb cast.number number other) ∙ or_none (found_in records number)
-
-found_stays : (records : List Record) (cast : Record) (number : ℕ) (r : Record) → found_in records number ≡ Some r → found_in (records ++ cast ∷ []) number ≡ Some r
+pub found_stays : (records : List Record) (cast : Record) (number : ℕ) (r : Record) → found_in records number ≡ Some r → found_in (records ++ cast ∷ []) number ≡ Some r
 found_stays records cast number r is =
     found_push records cast number ∙ ap (λ found. last_or found cast number (eqb cast.number number)) is
 
-push_before : (records : List Record) (cast : Record) (place : ℕ) (x : Record) → slice_get records place ≡ Some x → slice_get (records ++ cast ∷ []) place ≡ Some x
-push_before [] cast place x is = absurd cc
-push_before (r ∷ records) cast zero x is = is
-push_before (r ∷ records) cast (suc place) x is = push_before records cast place x is
+pushed : (records : List Record) (cast : Record) (k : ℕ) (r : Record) → slice_get (records ++ cast ∷ []) k ≡ Some r
+    → (slice_get records k ≡ Some r) ⊎ ((k ≡ length records) × (cast ≡ r))
+pushed [] cast zero r is = inr (refl, cc)
+pushed [] cast (suc k) r is = absurd cc
+pushed (x ∷ records) cast zero r is = inl is
+pushed (x ∷ records) cast (suc k) r is = elim (pushed records cast k r is) [ inl before ↦ inl before | inr last ↦ inr (omega (arith, last.0), last.1) ]
 
-push_at : (records : List Record) (cast : Record) → slice_get (records ++ cast ∷ []) (length records) ≡ Some cast
-push_at [] cast = refl
-push_at (r ∷ records) cast = push_at records cast
+pub first_pushed : (records : List Record) (cast : Record) → ((k : ℕ) (r : Record) → slice_get records k ≡ Some r → found_in records r.number ≡ Some r)
+    → found_in records cast.number ≡ None
+    → (k : ℕ) (r : Record) → slice_get (records ++ cast ∷ []) k ≡ Some r → found_in (records ++ cast ∷ []) r.number ≡ Some r
+first_pushed records cast first absent k r is = elim (pushed records cast k r is) [
+  | inl before ↦ found_stays records cast r.number r (first k r before)
+  | inr last ↦ subst (λ (r : Record). found_in (records ++ cast ∷ []) r.number ≡ Some r) last.1 (found_last records cast absent)
+]
 
-push_behind : (records : List Record) (cast : Record) (place : ℕ) → slice_get records place ≡ None
-    → (slice_get (records ++ cast ∷ []) place ≡ None) ⊎ (slice_get (records ++ cast ∷ []) place ≡ Some cast)
-push_behind [] cast zero is = inr refl
-push_behind [] cast (suc place) is = inl refl
-push_behind (r ∷ records) cast zero is = absurd cc
-push_behind (r ∷ records) cast (suc place) is = push_behind records cast place is
+-- ---- what a search has passed
 
--- ---- what a look-up gives
+pub slot_below : (number : ℕ) → slot_of number < 2 ^ 17
+unfolding slot_of
+slot_below number = omega arith
 
-held_same : (first : Record) (other : Option Record) (number : ℕ) → first.number ≡ number → held_by (Some first) other number ≡ Some first
-held_same first other number same = rw (eq-eqb first.number number same) refl
+-- in the slots before this one stand records of other numbers
+abbrev pub HasPassed : List ℕ → List Record → ℕ → ℕ → Type 0
+HasPassed slots records number end = (at : ℕ) → slot_of number ≤ at → at < end
+    → (slice_index slots at ≢ 0) × ((k : ℕ) (r : Record) → slice_index slots at ≡ k + 1 → slice_get records k ≡ Some r → r.number ≢ number)
 
-held_other : (first : Record) (other : Option Record) (number : ℕ) → first.number ≢ number → slot_of first.number ≡ slot_of number → held_by (Some first) other number ≡ other
-held_other first other number differs slot = rw (ne_eqb first.number number differs, eq-eqb (slot_of first.number) (slot_of number) slot) refl
+pub passed_taken : (slots : List ℕ) (records : List Record) (number end : ℕ) → HasPassed slots records number end → AreTaken slots (slot_of number) end
+passed_taken slots records number end passed at from below = (passed at from below).0
 
--- nothing where no record has the number's slot
-held_free : (first other : Option Record) (number : ℕ) → ¬ HasSlot first (slot_of number) → held_by first other number ≡ None
-held_free None other number free = refl
-held_free (Some first) other number free =
-    rw (ne_eqb first.number number (λ same. free (ap slot_of same)), ne_eqb (slot_of first.number) (slot_of number) free) refl
+-- the search passes one slot more
+pub passed_more : (slots : List ℕ) (records : List Record) (number here k : ℕ) (held : Record) → HasPassed slots records number here
+    → slice_index slots here ≡ k + 1 → slice_get records k ≡ Some held → held.number ≢ number → HasPassed slots records number (here + 1)
+passed_more slots records number here k held passed taken there other at from below = elim (cases_eq here at) [
+  | inl same ↦
+      let is : slice_index slots at ≡ k + 1 = ap (slice_index slots) (sym same) ∙ taken in (
+        λ free. omega (arith, is, free),
+        λ j r named stands.
+            let place : k ≡ j = omega (arith, is, named) in
+            let both : Some held ≡ Some r = sym there ∙ ap (slice_get records) place ∙ stands in
+            let record_is : held ≡ r = cc in
+            subst (λ (r : Record). r.number ≢ number) record_is other,
+      )
+  | inr differs ↦ passed at from (omega (arith, differs, below))
+]
 
--- the same of a number with another slot as before the last record
-pushed_same : (records : List Record) (cast : Record) (place : ℕ) (other : Option Record) (number : ℕ) → slot_of cast.number ≢ slot_of number
-    → (o : Option Record) → slice_get records place ≡ o → held_by (slice_get (records ++ cast ∷ []) place) other number ≡ held_by (slice_get records place) other number
-pushed_same records cast place other number differs None is =
-    let before : held_by (slice_get records place) other number ≡ None = ap (λ first. held_by first other number) is in
-    elim (push_behind records cast place is) [
-      | inl none ↦ ap (λ first. held_by first other number) none ∙ sym before
-      | inr last ↦ ap (λ first. held_by first other number) last ∙ held_free (Some cast) other number differs ∙ sym before
-    ]
-pushed_same records cast place other number differs (Some x) is =
-    ap (λ first. held_by first other number) (push_before records cast place x is ∙ sym is)
+unfound : (records : List Record) (number : ℕ) → ((k : ℕ) (r : Record) → slice_get records k ≡ Some r → r.number ≢ number) → found_in records number ≡ None
+unfound [] number other = refl
+unfound (x ∷ xs) number other = rw (ne_eqb x.number number (other 0 x refl)) (unfound xs number (λ k r is. other (suc k) r is))
 
-none_other : (other found : Option Record) → ((r : Record) → other ≡ Some r → found ≡ Some r) → found ≡ None → other ≡ None
-none_other None found kept none = refl
-none_other (Some r) found kept none = let there = kept r refl in absurd cc
+module _ (slots : List ℕ) (others : ℕ → Option Record) (records : List Record) (number : ℕ)
+    (noted : (k : ℕ) (r : Record) → slice_get records k ≡ Some r → StandsIn slots k r ⊎ StandsAmong slots others r) where
+  -- a record of the number stands in no slot that its search has passed
+  ahead : (end k : ℕ) (r : Record) → HasPassed slots records number end → slice_get records k ≡ Some r → r.number ≡ number → (s : StandsIn slots k r) → end ≤ s.at
+  ahead end k r passed is same s =
+      let home : slot_of r.number ≡ slot_of number = ap slot_of same in
+      elim (cases_lt s.at end) [
+        | inl below ↦ absurd ((passed s.at (omega (arith, s.from, home)) below).1 k r s.is is same)
+        | inr behind ↦ omega (arith, behind)
+      ]
+
+  -- no record has the number where its search has come to a free slot
+  pub absent_at : (at : ℕ) → slot_of number ≤ at → at < slot_of number + 8 → slice_index slots at ≡ 0 → HasPassed slots records number at → found_in records number ≡ None
+  absent_at at from within free passed = unfound records number (λ k r is same.
+      let home : slot_of r.number ≡ slot_of number = ap slot_of same in
+      let far : StandsIn slots k r ⊎ StandsAmong slots others r → ⊥ = elim [
+        | inl s ↦
+            let behind = ahead at k r passed is same s in
+            let other : at ≢ s.at = λ here. let taken = sym free ∙ ap (slice_index slots) here ∙ s.is in omega (arith, taken) in
+            s.before at (omega (arith, home, from)) (omega (arith, behind, other)) free
+        | inr a ↦ a.taken at (omega (arith, home, from)) (omega (arith, home, within)) free
+      ] in
+      far (noted k r is))
+
+  -- nor where it has come to the others, and the number is not among them
+  pub absent_among : others number ≡ None → HasPassed slots records number (slot_of number + 8) → found_in records number ≡ None
+  absent_among none passed = unfound records number (λ k r is same.
+      let home : slot_of r.number ≡ slot_of number = ap slot_of same in
+      let far : StandsIn slots k r ⊎ StandsAmong slots others r → ⊥ = elim [
+        | inl s ↦ let behind = ahead (slot_of number + 8) k r passed is same s in omega (arith, behind, home, s.within)
+        | inr a ↦ let held : Some r ≡ None = sym a.is ∙ ap others same ∙ none in absurd cc
+      ] in
+      far (noted k r is))
+
+-- ---- no record
+
+pub all_free : (slots : List ℕ) → AllByRecursion (λ place. (place ≡ 0) ⊎ (place ≡ 0)) slots → (at : ℕ) → slice_index slots at ≡ 0
+all_free [] each at = refl
+all_free (place ∷ slots) each zero = elim each.0 [ inl is ↦ is | inr is ↦ is ]
+all_free (place ∷ slots) each (suc at) = all_free slots each.1 at
 
 -- ---- one record more
 
--- its place stands in its slot, which no record had
-pub first_grown : (firsts new_firsts : List ℕ) (others : ℕ → Option Record) (records : List Record) (cast : Record)
-    → ((number : ℕ) → held_in firsts others records number ≡ found_in records number)
-    → ((number : ℕ) → (r : Record) → others number ≡ Some r → found_in records number ≡ Some r)
-    → found_in records cast.number ≡ None
-    → ¬ HasSlot (slice_get records (slice_index firsts (slot_of cast.number))) (slot_of cast.number)
-    → slice_index new_firsts (slot_of cast.number) ≡ length records
-    → ((slot : ℕ) → slot ≢ slot_of cast.number → slice_index new_firsts slot ≡ slice_index firsts slot)
-    → (number : ℕ) → held_in new_firsts others (records ++ cast ∷ []) number ≡ found_in (records ++ cast ∷ []) number
-first_grown firsts new_firsts others records cast held kept absent free here elsewhere number =
-    let all = records ++ cast ∷ [] in
-    let place = slice_index firsts (slot_of number) in
-    elim (cases_eq (slot_of cast.number) (slot_of number)) [
-      | inl same ↦
-          let first : slice_get all (slice_index new_firsts (slot_of number)) ≡ Some cast = ap (slice_get all) (ap (slice_index new_firsts) (sym same) ∙ here) ∙ push_at records cast in
-          let given = ap (λ first. held_by first (others number) number) first in
-          elim (cases_eq cast.number number) [
-            | inl is ↦ given ∙ held_same cast (others number) number is ∙ sym (ap (found_in all) (sym is) ∙ found_last records cast absent)
-            | inr differs ↦
-                let unheld = subst (λ slot. ¬ HasSlot (slice_get records (slice_index firsts slot)) slot) same free in
-                let none : found_in records number ≡ None = sym (held number) ∙ held_free (slice_get records place) (others number) number unheld in
-                given ∙ held_other cast (others number) number differs same ∙ none_other (others number) (found_in records number) (kept number) none
-                ∙ sym none ∙ sym (found_before records cast number differs)
-          ]
-      | inr other ↦
-          ap (λ place. held_by (slice_get all place) (others number) number) (elsewhere (slot_of number) (λ e. other (sym e)))
-          ∙ pushed_same records cast place (others number) number other (slice_get records place) refl
-          ∙ held number ∙ sym (found_before records cast number (λ e. other (ap slot_of e)))
-    ]
+-- its place comes into a free slot, and the other slots stay
+module _ (slots : List ℕ) (records : List Record) (cast : Record) (free : ℕ) (is_free : slice_index slots free ≡ 0) (within : free < length slots) where
+  kept : (at : ℕ) → slice_index slots at ≢ 0 → slice_index (set slots free (length records + 1)) at ≡ slice_index slots at
+  kept at taken = get_or-set_other slots free at (length records + 1) 0 (λ same. taken (ap (slice_index slots) same ∙ is_free))
 
-pub first_kept : (others : ℕ → Option Record) (records : List Record) (cast : Record) → ((number : ℕ) → (r : Record) → others number ≡ Some r → found_in records number ≡ Some r)
-    → (number : ℕ) → (r : Record) → others number ≡ Some r → found_in (records ++ cast ∷ []) number ≡ Some r
-first_kept others records cast kept number r is = found_stays records cast number r (kept number r is)
+  still_taken : (home end : ℕ) → AreTaken slots home end → AreTaken (set slots free (length records + 1)) home end
+  still_taken home end taken at from below = λ none. taken at from below (sym (kept at (taken at from below)) ∙ none)
 
-record IsTaken (first : Option Record) (slot : ℕ) : Type 0 where
-  r : Record
-  is : first ≡ Some r
-  has : slot_of r.number ≡ slot
+  pub places_grown : ((at : ℕ) → slice_index slots at ≤ length records)
+      → (at : ℕ) → slice_index (set slots free (length records + 1)) at ≤ length (records ++ cast ∷ [])
+  places_grown places at =
+      let counted = length-append records (cast ∷ []) in
+      elim (cases_eq free at) [
+        | inl same ↦
+            let last = ap (slice_index (set slots free (length records + 1))) (sym same) ∙ get_or-set_same slots free (length records + 1) 0 within in
+            omega (arith, last, counted)
+        | inr other ↦
+            let before = get_or-set_other slots free at (length records + 1) 0 (λ e. other (sym e)) in
+            omega (arith, before, counted, places at)
+      ]
 
-taken : (first : Option Record) (slot : ℕ) → HasSlot first slot → IsTaken first slot
-taken None slot has = absurd has
-taken (Some r) slot has = record { r = r; is = refl; has = has }
+  pub noted_in : (others : ℕ → Option Record) → slot_of cast.number ≤ free → free < slot_of cast.number + 8 → AreTaken slots (slot_of cast.number) free
+      → ((k : ℕ) (r : Record) → slice_get records k ≡ Some r → StandsIn slots k r ⊎ StandsAmong slots others r)
+      → (k : ℕ) (r : Record) → slice_get (records ++ cast ∷ []) k ≡ Some r
+      → StandsIn (set slots free (length records + 1)) k r ⊎ StandsAmong (set slots free (length records + 1)) others r
+  noted_in others from near before noted k r is =
+      let new_slots = set slots free (length records + 1) in
+      let still : StandsIn slots k r ⊎ StandsAmong slots others r → StandsIn new_slots k r ⊎ StandsAmong new_slots others r = elim [
+        | inl s ↦ inl (record {
+          at = s.at;
+          from = s.from;
+          within = s.within;
+          is = kept s.at (λ none. omega (arith, s.is, none)) ∙ s.is;
+          before = still_taken (slot_of r.number) s.at s.before;
+        })
+        | inr a ↦ inr (record { taken = still_taken (slot_of r.number) (slot_of r.number + 8) a.taken; is = a.is })
+      ] in
+      elim (pushed records cast k r is) [
+        | inl older ↦ still (noted k r older)
+        | inr last ↦ inl (subst (λ (r : Record). StandsIn new_slots k r) last.1 (record {
+          at = free;
+          from = from;
+          within = near;
+          is = get_or-set_same slots free (length records + 1) 0 within ∙ ap (λ n. n + 1) (sym last.0);
+          before = still_taken (slot_of cast.number) free before;
+        }))
+      ]
 
--- it stands among the others, since an earlier record has its slot
-pub others_grown : (firsts : List ℕ) (others new_others : ℕ → Option Record) (records : List Record) (cast : Record)
-    → ((number : ℕ) → held_in firsts others records number ≡ found_in records number)
-    → found_in records cast.number ≡ None
-    → HasSlot (slice_get records (slice_index firsts (slot_of cast.number))) (slot_of cast.number)
-    → ((number : ℕ) → new_others number ≡ cond (is_eq (nat_cmp cast.number number)) (Some cast) (others number))
-    → (number : ℕ) → held_in firsts new_others (records ++ cast ∷ []) number ≡ found_in (records ++ cast ∷ []) number
-others_grown firsts others new_others records cast held absent has updated number =
-    let all = records ++ cast ∷ [] in
-    let slot = slot_of cast.number in
-    let t = taken (slice_get records (slice_index firsts slot)) slot has in
-    let first : slice_get all (slice_index firsts slot) ≡ Some t.r = push_before records cast (slice_index firsts slot) t.r t.is in
-    elim (cases_eq cast.number number) [
-      | inl is ↦
-          let there = λ (number : ℕ). held_in firsts new_others all number ≡ found_in all number in
-          let differs : t.r.number ≢ cast.number = λ same.
-          let held_now : Some t.r ≡ None = sym (ap (λ first. held_by first (others cast.number) cast.number) t.is ∙ held_same t.r (others cast.number) cast.number same) ∙ held cast.number ∙ absent in
-          absurd cc in
-          subst there is (ap (λ first. held_by first (new_others cast.number) cast.number) first ∙ held_other t.r (new_others cast.number) cast.number differs t.has
-          ∙ updated cast.number ∙ ap (λ test. cond test (Some cast) (others cast.number)) (same_number cast.number cast.number refl) ∙ sym (found_last records cast absent))
-      | inr differs ↦
-          let place = slice_index firsts (slot_of number) in
-          let other : new_others number ≡ others number = updated number ∙ ap (λ test. cond test (Some cast) (others number)) (other_number cast.number number differs) in
-          let same : held_by (slice_get all place) (others number) number ≡ held_by (slice_get records place) (others number) number =
-          elim (cases_eq slot (slot_of number)) [
-            | inl here ↦ ap (λ first. held_by first (others number) number) (subst (λ slot. slice_get all (slice_index firsts slot) ≡ slice_get records (slice_index firsts slot)) here (first ∙ sym t.is))
-            | inr elsewhere ↦ pushed_same records cast place (others number) number elsewhere (slice_get records place) refl
-          ] in
-          ap (λ other. held_by (slice_get all place) other number) other ∙ same ∙ held number ∙ sym (found_before records cast number differs)
-    ]
+-- it comes to the others, since none of its slots is free
+module _ (others new_others : ℕ → Option Record) (records : List Record) (cast : Record) (absent : found_in records cast.number ≡ None)
+    (updated : (number : ℕ) → new_others number ≡ cond (is_eq (nat_cmp cast.number number)) (Some cast) (others number)) where
+  there : new_others cast.number ≡ Some cast
+  there = updated cast.number ∙ ap (λ test. cond test (Some cast) (others cast.number)) (same_number cast.number cast.number refl)
 
-pub others_kept : (others new_others : ℕ → Option Record) (records : List Record) (cast : Record) → found_in records cast.number ≡ None
-    → ((number : ℕ) → (r : Record) → others number ≡ Some r → found_in records number ≡ Some r)
-    → ((number : ℕ) → new_others number ≡ cond (is_eq (nat_cmp cast.number number)) (Some cast) (others number))
-    → (number : ℕ) → (r : Record) → new_others number ≡ Some r → found_in (records ++ cast ∷ []) number ≡ Some r
-others_kept others new_others records cast absent kept updated number r is =
-    let all = records ++ cast ∷ [] in
-    elim (cases_eq cast.number number) [
-      | inl same ↦
-          let last : Some cast ≡ Some r = sym (updated number ∙ ap (λ test. cond test (Some cast) (others number)) (same_number cast.number number same)) ∙ is in
-          ap (found_in all) (sym same) ∙ found_last records cast absent ∙ last
-      | inr differs ↦
-          let before : others number ≡ Some r = sym (updated number ∙ ap (λ test. cond test (Some cast) (others number)) (other_number cast.number number differs)) ∙ is in
-          found_stays records cast number r (kept number r before)
-    ]
+  elsewhere : (number : ℕ) → cast.number ≢ number → new_others number ≡ others number
+  elsewhere number differs = updated number ∙ ap (λ test. cond test (Some cast) (others number)) (other_number cast.number number differs)
 
--- nothing is held where the first record of a slot is of another slot
-pub unheld : (firsts : List ℕ) (others : ℕ → Option Record) (records : List Record) (number : ℕ) (first : Record)
-    → ((number : ℕ) → held_in firsts others records number ≡ found_in records number)
-    → slice_get records (slice_index firsts (slot_of number)) ≡ Some first → slot_of first.number ≢ slot_of number → found_in records number ≡ None
-unheld firsts others records number first held is differs =
-    sym (held number) ∙ ap (λ first. held_by first (others number) number) is ∙ held_free (Some first) (others number) number differs
+  pub noted_among : (slots : List ℕ) → AreTaken slots (slot_of cast.number) (slot_of cast.number + 8)
+      → ((k : ℕ) (r : Record) → slice_get records k ≡ Some r → found_in records r.number ≡ Some r)
+      → ((k : ℕ) (r : Record) → slice_get records k ≡ Some r → StandsIn slots k r ⊎ StandsAmong slots others r)
+      → (k : ℕ) (r : Record) → slice_get (records ++ cast ∷ []) k ≡ Some r → StandsIn slots k r ⊎ StandsAmong slots new_others r
+  noted_among slots taken first noted k r is = elim (pushed records cast k r is) [
+    | inl older ↦
+        let differs : cast.number ≢ r.number = λ same. let held : Some r ≡ None = sym (first k r older) ∙ ap (found_in records) (sym same) ∙ absent in absurd cc in
+        elim (noted k r older) [ inl s ↦ inl s | inr a ↦ inr (record { taken = a.taken; is = elsewhere r.number differs ∙ a.is }) ]
+    | inr last ↦ inr (subst (λ (r : Record). StandsAmong slots new_others r) last.1 (record { taken = taken; is = there }))
+  ]
 
--- nothing is held where the first record of a slot has another number that is in this slot too, and the number is not
--- among the others
-pub unheld_among : (firsts : List ℕ) (others : ℕ → Option Record) (records : List Record) (number : ℕ) (first : Record)
-    → ((number : ℕ) → held_in firsts others records number ≡ found_in records number)
-    → slice_get records (slice_index firsts (slot_of number)) ≡ Some first → first.number ≢ number → slot_of first.number ≡ slot_of number
-    → others number ≡ None → found_in records number ≡ None
-unheld_among firsts others records number first held is differs same none =
-    sym (held number) ∙ ap (λ first. held_by first (others number) number) is ∙ held_other first (others number) number differs same ∙ none
-
--- ---- what was read
-
--- the record that was read at the place in a slot
-pub stands_first : (firsts : List ℕ) (records : List Record) (slot place from : ℕ) (first : Record) → slot < length firsts
-    → place ≡ slice_index_or firsts slot place → from ≡ place → true ≡ nat_lt from (length records) → first ≡ slice_index_or records from first
-    → slice_get records (slice_index firsts slot) ≡ Some first
-stands_first firsts records slot place from first within read same below is =
-    let at : slice_get records from ≡ Some first = slice_get_read records (length records) from first refl (ltb-true from (length records) (sym below)) is in
-    subst (λ place. slice_get records place ≡ Some first) (same ∙ get_or_read firsts slot place within read 0) at
+  pub others_grown : ((number : ℕ) (r : Record) → others number ≡ Some r → found_in records number ≡ Some r)
+      → (number : ℕ) (r : Record) → new_others number ≡ Some r → found_in (records ++ cast ∷ []) number ≡ Some r
+  others_grown kept number r is = elim (cases_eq cast.number number) [
+    | inl same ↦ ap (found_in (records ++ cast ∷ [])) (sym same) ∙ found_last records cast absent ∙ sym there ∙ ap new_others same ∙ is
+    | inr differs ↦ found_stays records cast number r (kept number r (sym (elsewhere number differs) ∙ is))
+  ]

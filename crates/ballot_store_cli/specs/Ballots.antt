@@ -1,5 +1,5 @@
 -- The ballots of the lines so far, and what the next line does to them.
-use Rattle.std.specs.Prelude.{◌≡◌, ◌≢◌, ℕ, List, ◌++◌, [], ◌∷◌, length, map, Contains, Any, Result, Ok, Err}
+use Rattle.std.specs.Prelude.{◌≡◌, ◌≢◌, ℕ, ◌≤◌, List, ◌++◌, [], ◌∷◌, length, map, vec_capacity, Contains, Any, Result, Ok, Err}
 use Rattle.ballot_record.specs.Record.{ballot}
 use Rattle.ballot_record.specs.LineWhy.{reason}
 use Rattle.ballot_record.specs.declared.record.Record.{Record}
@@ -21,11 +21,13 @@ ballots_so_far ballots = map ballot ballots.records.items
 abbrev pub IsIndexed : Ballots → Type 0
 IsIndexed ballots = IsIndexOf ballots.index ballots.records.items
 
--- the ballots so far are the listing of a set that the election's store may hold, and are found by their numbers
+-- the ballots so far are the listing of a set that the election's store may hold, and are found by their numbers; there is
+-- room for as many as it may hold
 pub record IsSound (e : Election) (ballots : Ballots) : Type 0 where
   pub listing : IsListing e (ballots_so_far ballots)
   pub within_limit : IsWithinLimit e (ballots_so_far ballots)
   pub indexed : IsIndexed ballots
+  pub room : e.limit ≤ vec_capacity ballots.records
 
 -- what becomes of a valid ballot after those of the lines before
 abbrev pub Adds : Result (Unit {0}) Refusal → Election → Record → Ballots → Ballots → Type 0

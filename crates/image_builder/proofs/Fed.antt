@@ -1,7 +1,7 @@
 -- What a reader keeps, and the bytes that it was fed.
 use Rattle.std.proofs.Common.{◌≡◌, ◌≢◌, ℕ, ◌+◌, ◌*◌, ◌<◌, ◌≤◌, ⊎_elim, List, [], ◌++◌, length, take, refl, sym, ap, subst, ◌∙◌, arith, append_assoc}
 use Rattle.std.proofs.lemmas.Bool.{cases_lt}
-use Rattle.std.proofs.lemmas.List.{append-nil, length-append, length-take, take_all, take_at}
+use Rattle.std.proofs.lemmas.List.{append-nil, length-append, take_all, take_at}
 use Rattle.image_builder.proofs.FirstCells.{fewer_cells, header_in_front, length-front_of, read_in_front}
 use Rattle.image_builder.proofs.Reading.{AreRead, begins_fewer, begins_read, front_read, layout_read, listing_read, split_same}
 use Rattle.image_builder.proofs.Wrong.{whole_bank}
@@ -172,13 +172,6 @@ cells_fed e header numbers reaches ballots part election parts whole =
     let fed = whole_fed e header numbers reaches ballots part election parts whole in
     let layout = layout_read e ballots election (listing_read e bank (cell_count e) numbers ballots fed.read) in
     sym (front_read e bank (cell_count e) numbers ballots election (omega arith) fed.read) ∙ take_all (cell_count e) (cells_of e ballots) (omega (arith, layout.size))
-
--- and there is no place left for another one
-pub all_fed : (e : Election) (header places : List ℕ) (count : ℕ) (reaches : List ℕ) (ballots : List Ballot) (part : List ℕ) → IsElection e → AreParts e header (take count places) reaches ballots part
-    → length (fed_of e header (take count places) ballots part) ≡ bank_size e → length places ≡ cell_count e → take count places ≡ places
-all_fed e header places count reaches ballots part election parts whole long =
-    let fed = whole_fed e header (take count places) reaches ballots part election parts whole in
-    take_all count places (omega (arith, fed.read.size, length-take count places, long))
 
 -- ---- under one name for the election
 

@@ -1,17 +1,19 @@
 -- One cell behind those that were read: the bytes so far, and the cell that is wrong.
-use Rattle.std.proofs.Common.{◌≡◌, ℕ, zero, suc, ◌+◌, ◌-◌, ◌*◌, ◌<◌, ◌≤◌, ⊎_elim, List, [], ◌∷◌, ◌++◌, length, get_or, take, drop, replicate, refl, sym, ap, subst, ◌∙◌, arith, append_assoc}
+use Rattle.std.proofs.Common.{◌≡◌, ℕ, zero, suc, ◌+◌, ◌-◌, ◌*◌, ◌<◌, ◌≤◌, ⊎_elim, List, [], ◌∷◌, ◌++◌, length, take, drop, replicate, refl, sym, ap, subst, ◌∙◌, arith, append_assoc}
 use Rattle.std.proofs.lemmas.Bool.{cases_lt}
-use Rattle.std.proofs.lemmas.List.{append-nil, length-append, length-replicate, replicate-append-replicate, replicate_more, take_at, take_more, drop_at, take-append-drop}
+use Rattle.std.proofs.lemmas.List.{append-nil, length-append, length-replicate, replicate-append-replicate, take_at, drop_at, take-append-drop}
 use Rattle.std.specs.List.{All}
+use Rattle.body_store.specs.Contents.{ballots_of}
 use Rattle.image_builder.proofs.Images.{length_pieces, length-cell_bytes}
 use Rattle.image_builder.proofs.Reaches.{reaches_empty, reaches_more}
 use Rattle.image_builder.proofs.Reading.{AreRead, one_cell_more}
 use Rattle.image_builder.proofs.Steps.{ballot_read, empty_read}
 use Rattle.image_builder.proofs.Wrong.{first_wrong}
-use Rattle.image_builder.specs.Cells.{AreCells, IsRefusedAt, bytes_in, front_of}
+use Rattle.image_builder.specs.Cells.{AreCells, AreKept, IsRefusedAt, bytes_in, front_of, kept_front, numbers_read}
 use Rattle.image_builder.specs.Feeding.{Completes, IsRefusedPiece}
 use Rattle.image_builder.specs.Reaches.{AreReaches, IsReach}
 use Rattle.image_builder.specs.Reading.{IsRefusedBank}
+use Rattle.image_builder.specs.declared.cells.CellsRead.{CellsRead}
 use Rattle.image_builder.specs.declared.read.ImageFault.{ImageFault}
 use Rattle.image_builder.specs.declared.read.ImageFault.TheVariants.{OtherElection, Damaged, Memory}
 use Rattle.store_spec.specs.Ballot.{Ballot, IsValid}
@@ -99,7 +101,7 @@ ballot_next e numbers reaches ballots b from bytes election cells long valid is 
 
 -- ---- empty cells
 
-pub empties_next : (e : Election) (numbers reaches : List ℕ) (ballots : List Ballot) (bytes : List ℕ) (count : ℕ) → IsElection e → AreCells e numbers reaches ballots → bytes ≡ replicate (count * cell_size e) 0
+empties_next : (e : Election) (numbers reaches : List ℕ) (ballots : List Ballot) (bytes : List ℕ) (count : ℕ) → IsElection e → AreCells e numbers reaches ballots → bytes ≡ replicate (count * cell_size e) 0
     → AreNext e (front_of e numbers ballots) bytes (numbers ++ replicate count 0) reaches ballots
 empties_next e numbers reaches ballots bytes zero election cells zeros =
     let front = front_of e numbers ballots in
@@ -111,11 +113,11 @@ empties_next e numbers reaches ballots bytes zero election cells zeros =
 empties_next e numbers reaches ballots bytes (suc more) election cells zeros =
     let front = front_of e numbers ballots in
     let size = cell_size e in
+    let long : suc more * size ≡ size + more * size = omega arith in
     let first = replicate size 0 in
     let rest = replicate (more * size) 0 in
     let one = empty_next e numbers reaches ballots first election cells (length-replicate size 0) refl in
     let next = empties_next e (numbers ++ 0 ∷ []) reaches ballots rest more election one.cells refl in
-    let long : suc more * size ≡ size + more * size = omega arith in
     let all : bytes ≡ first ++ rest = zeros ∙ ap (λ n. replicate n 0) long ∙ sym (replicate-append-replicate size (more * size) 0) in
     let same : (numbers ++ 0 ∷ []) ++ replicate more 0 ≡ numbers ++ replicate (suc more) 0 = append_assoc numbers (0 ∷ []) (replicate more 0) in
     record {
@@ -123,20 +125,19 @@ empties_next e numbers reaches ballots bytes (suc more) election cells zeros =
       fed = ap (λ ns. front_of e ns ballots) (sym same) ∙ next.fed ∙ ap (λ (xs : List ℕ). xs ++ rest) one.fed ∙ append_assoc front first rest ∙ ap (λ (xs : List ℕ). front ++ xs) (sym all);
     }
 
--- the places behind those that were read are taken to be empty
-pub blank_more : (numbers : List ℕ) (place count : ℕ) → ((k : ℕ) → place ≤ k → get_or numbers k 0 ≡ 0) → place + count ≤ length numbers → take (place + count) numbers ≡ take place numbers ++ replicate count 0
-blank_more numbers place zero blank within =
-    let none : place + 0 ≡ place = omega arith in
-    ap (λ n. take n numbers) none ∙ sym (append-nil (take place numbers))
-blank_more numbers place (suc more) blank within =
-    let on : place + suc more ≡ (place + more) + 1 = omega arith in
-    let one : more + 1 ≡ suc more = omega arith in
-    ap (λ n. take n numbers) on
-    ∙ take_more numbers (place + more) 0 (omega arith)
-    ∙ ap (λ (n : ℕ). take (place + more) numbers ++ n ∷ []) (blank (place + more) (omega arith))
-    ∙ ap (λ (ns : List ℕ). ns ++ 0 ∷ []) (blank_more numbers place more blank (omega arith))
-    ∙ append_assoc (take place numbers) (replicate more 0) (0 ∷ [])
-    ∙ ap (λ (ns : List ℕ). take place numbers ++ ns) (replicate_more more 0 ∙ ap (λ n. replicate n 0) one)
+-- and their numbers are put behind those so far
+pub empties_put : (e : Election) (cells : CellsRead) (numbers bytes : List ℕ) (count : ℕ) → IsElection e → AreKept e cells → bytes ≡ replicate (count * cell_size e) 0 → numbers ≡ numbers_read cells ++ replicate count 0
+    → AreNext e (kept_front e cells) bytes numbers cells.reaches.items (ballots_of cells.records.items)
+empties_put e cells numbers bytes count election kept zeros put =
+    let reaches = cells.reaches.items in
+    let ballots = ballots_of cells.records.items in
+    subst (λ (ns : List ℕ). AreNext e (kept_front e cells) bytes ns reaches ballots) (sym put) (empties_next e (numbers_read cells) reaches ballots bytes count election kept zeros)
+
+pub empty_put : (e : Election) (cells : CellsRead) (numbers bytes : List ℕ) → IsElection e → AreKept e cells → IsEmptyCell e bytes → numbers ≡ numbers_read cells ++ 0 ∷ []
+    → AreNext e (kept_front e cells) bytes numbers cells.reaches.items (ballots_of cells.records.items)
+empty_put e cells numbers bytes election kept empty put =
+    let one : cell_size e ≡ 1 * cell_size e = omega arith in
+    empties_put e cells numbers bytes 1 election kept (empty ∙ ap (λ n. replicate n 0) one) put
 
 -- more zeros behind zeros
 pub zeros_more : (bytes rest behind : List ℕ) (k : ℕ) → length rest ≤ length bytes → bytes ≡ replicate (length bytes - length rest) 0 ++ rest → rest ≡ replicate k 0 ++ behind

@@ -1,8 +1,6 @@
 -- Zeros at the front of bytes.
-use Rattle.std.proofs.Common.{◌≡◌, ℕ, ◌+◌, ◌-◌, ◌*◌, ◌/◌, ◌%◌, ◌<◌, ◌≤◌, ⊎_elim, List, length, get_or, take, drop, replicate, sym, ap, ◌∙◌, arith}
-use Rattle.std.proofs.Math.Nat.{div-mul-le_self, mod-lt}
+use Rattle.std.proofs.Common.{◌≡◌, ℕ, ◌+◌, ◌-◌, ◌<◌, ◌≤◌, ⊎_elim, List, length, get_or, take, drop, replicate, sym, ap, ◌∙◌, arith}
 use Rattle.std.proofs.lemmas.Bool.{cases_lt}
-use Rattle.std.proofs.lemmas.Nat.{div-add-mod'}
 use Rattle.std.proofs.lemmas.List.{ext_get_or, get_or-drop, get_or-replicate, get_or-take, length-drop, length-replicate, length-take-le}
 
 -- each of the first bytes is 0
@@ -24,19 +22,3 @@ zeros_on bytes zeros start end begins within before part k lt = ⊎_elim
     let at : start + i ≡ k = omega arith in
     ap (λ k. get_or bytes k 0) (sym at) ∙ sym (get_or-drop start bytes i 0) ∙ sym (get_or-take (end - start) (drop start bytes) i 0 less) ∙ part i (omega (arith, long)))
     (cases_lt k zeros)
-
--- the cells that end within the zeros
-pub whole_cells : (bytes : List ℕ) (zeros size : ℕ) → zeros ≤ length bytes → ((k : ℕ) → k < zeros → get_or bytes k 0 ≡ 0) → take (zeros / size * size) bytes ≡ replicate (zeros / size * size) 0
-whole_cells bytes zeros size within each =
-    let less = div-mul-le_self zeros size in
-    zeros_front bytes (zeros / size * size) (omega (arith, within, less)) (λ k lt. each k (omega (arith, lt, less)))
-
--- and the cell that begins there
-pub cell_more : (bytes : List ℕ) (zeros size : ℕ) → 0 < size → zeros + (size - zeros % size) ≤ length bytes → ((k : ℕ) → k < zeros + (size - zeros % size) → get_or bytes k 0 ≡ 0)
-    → take ((zeros / size + 1) * size) bytes ≡ replicate ((zeros / size + 1) * size) 0
-cell_more bytes zeros size some within each =
-    let part = mod-lt zeros some in
-    let whole = div-add-mod' zeros size in
-    let more : (zeros / size + 1) * size ≡ zeros / size * size + size = omega arith in
-    let end : (zeros / size + 1) * size ≡ zeros + (size - zeros % size) = omega (arith, whole, more, part) in
-    zeros_front bytes ((zeros / size + 1) * size) (omega (arith, end, within)) (λ k lt. each k (omega (arith, end, lt)))

@@ -1,5 +1,5 @@
 -- The first cells of a bank, as they are kept once they were read.
-use Rattle.std.specs.Prelude.{◌≡◌, ℕ, ◌-◌, ◌≤◌, List, ◌++◌, All, flat_map, length, slice_index, take, vec_capacity}
+use Rattle.std.specs.Prelude.{◌≡◌, ℕ, ◌-◌, ◌≤◌, List, ◌++◌, All, flat_map, length, vec_capacity}
 use Rattle.body_store.specs.Contents.{ballots_of}
 use Rattle.image_builder.specs.Feeding.{Completes}
 use Rattle.image_builder.specs.Reaches.{AreReaches}
@@ -22,19 +22,16 @@ pub record AreCells (e : Election) (numbers reaches : List ℕ) (ballots : List 
 
 -- the number in each of the cells that were read
 abbrev pub numbers_read : CellsRead → List ℕ
-numbers_read cells = take cells.count cells.numbers.items
+numbers_read cells = cells.numbers.items
 
 abbrev pub AreKept : Election → CellsRead → Type 0
 AreKept e cells = AreCells e (numbers_read cells) cells.reaches.items (ballots_of cells.records.items)
 
--- a place for each cell of a bank, where those that come are taken to be empty, and room for as many records as a store
--- may hold, each with its reach
+-- room for the number of each cell of a bank, and for as many records as a store may hold, each with its reach
 pub record HasSpace (e : Election) (cells : CellsRead) : Type 0 where
-  pub numbers : length cells.numbers.items ≡ cell_count e
+  pub numbers : cell_count e ≤ vec_capacity cells.numbers
   pub records : e.limit ≤ vec_capacity cells.records
   pub reaches : e.limit ≤ vec_capacity cells.reaches
-  pub count : cells.count ≤ cell_count e
-  pub blank : (place : ℕ) → cells.count ≤ place → slice_index cells.numbers.items place ≡ 0
 
 -- the bytes of cells with these numbers
 abbrev pub bytes_in : Election → List ℕ → List Ballot → List ℕ

@@ -4,23 +4,23 @@ ghost use Rattle.body_store.specs.Contents.{ballots_of};
 ghost use Rattle.image_builder.specs.Cells.{AreKept, HasSpace, IsRefusedAt, kept_front, numbers_read};
 ghost use Rattle.image_builder.specs.Feeding.{IsRefusedPiece};
 ghost use Rattle.image_builder.specs.Reaches.{AreReaches, IsReach};
-ghost use Rattle.std.specs.Prelude.{◌≡◌, ◌+◌, ◌-◌, ◌<◌, ◌≤◌, ◌↔◌, ◌++◌, ◌∷◌, [], false, length, slice_set, vec_capacity, vec_len, IfOk, IfErr, IfSome, IsSome, IsTrue, OnOk};
+ghost use Rattle.std.specs.Prelude.{◌≡◌, ◌+◌, ◌-◌, ◌<◌, ◌≤◌, ◌↔◌, ◌++◌, ◌∷◌, [], false, length, vec_capacity, vec_len, IfOk, IfErr, IfSome, IsSome, IsTrue, OnOk};
 ghost use Rattle.store_spec.specs.Election.{IsElection, bank_size, cell_count, cell_size};
 ghost use Rattle.store_spec.specs.Home.{home_in};
 ghost use Rattle.store_spec.specs.Layout.{MayStand};
 
 use crate::read::ImageFault;
-use crate::zeros::count_empty;
+use crate::zeros::is_empty;
 use ballot_record::{CellRead, Election, Record, take_cell};
 use probe_order::{Order, Salted};
 use std::alloc::{AllocError, Global};
 
-/// The cells that were read: the number in each, and the records in them. There is a place for the number of each cell
-/// of a bank, and in those of cells that are still to be read stands 0, as in those of empty ones.
+/// How many empty cells are passed at once.
+const BLOCK: usize = 16;
+
+/// The cells that were read: the number in each, or 0 where it is empty, and the records in them.
 #[derive(Drop)]
 pub struct CellsRead {
-    /// How many cells were read.
-    pub count: usize,
     pub numbers: Vec<u64>,
     pub records: Vec<Record>,
     /// How far back the cell of each record reaches.
@@ -35,8 +35,7 @@ pub fn no_cells(alloc: Global, election: &Election) -> Result<CellsRead, AllocEr
     ensures wide { IfOk result (HasSpace election.now) }
 {
     Ok(CellsRead {
-        count: 0,
-        numbers: vec![in alloc; 0; election.cells()]?,
+        numbers: Vec::with_capacity(alloc, election.cells())?,
         records: Vec::with_capacity(alloc, election.limit() as usize)?,
         reaches: Vec::with_capacity(alloc, election.limit() as usize)?,
     })
@@ -113,12 +112,37 @@ fn read_whole_cells<'a>(
     while rest.len() >= size {
         let (cell, behind) = rest.split_at(size);
         read_cell(cells, cell, election)?;
-        rest = pass_empty(cells, behind, election);
+        rest = behind;
     }
     Ok(rest)
 }
 
-/// Reads one cell more.
+/// Passes blocks of empty cells that stand first in these bytes, and answers the bytes behind them. Where few ballots are
+/// kept, that is most of a page.
+fn pass_empty<'a>(cells: &mut CellsRead, bytes: &'a [u8], election: &Election) -> &'a [u8]
+    requires election { IsElection election.now }
+    requires kept { AreKept election.now cells.old }
+    requires wide { HasSpace election.now cells.old }
+    requires within { length (kept_front election.now cells.old ++ bytes.now)
+        ≤ bank_size election.now }
+    ensures kept { AreKept election.now cells.new }
+    ensures wide { HasSpace election.now cells.new }
+    ensures fed { kept_front election.now cells.new ++ result.now
+        ≡ kept_front election.now cells.old ++ bytes.now }
+    ensures shorter { length result.now ≤ length bytes.now }
+{
+    let size = BLOCK * election.cell_bytes();
+    let mut rest = bytes;
+    while rest.len() >= size && is_empty(&rest[..size]) {
+        let fits = cells.numbers.extend_from_slice(&[0; BLOCK]).is_ok();
+        prove!(fits);
+        (_, rest) = rest.split_at(size);
+    }
+    rest
+}
+
+/// Reads one cell more. Most cells are empty, and judged with no call.
+#[inline(always)]
 fn read_cell(cells: &mut CellsRead, bytes: &[u8], election: &Election) -> Result<(), ImageFault>
     requires election { IsElection election.now }
     requires size { length bytes.now ≡ cell_size election.now }
@@ -132,7 +156,11 @@ fn read_cell(cells: &mut CellsRead, bytes: &[u8], election: &Election) -> Result
     ensures refused { IfErr result
         (IsRefusedAt election.now (kept_front election.now cells.old ++ bytes.now)) }
 {
-    let place = cells.count;
+    if is_empty(bytes) {
+        cells.numbers.push_reserved(0);
+        return Ok(());
+    }
+    let place = cells.numbers.len();
     if read_right_cell(cells, bytes, election) {
         Ok(())
     } else {
@@ -153,20 +181,21 @@ fn read_right_cell(cells: &mut CellsRead, bytes: &[u8], election: &Election) -> 
     ensures fed { IsTrue result
         → kept_front election.now cells.new ≡ kept_front election.now cells.old ++ bytes.now }
     ensures refused { (result ≡ false) → IsRefusedAt election.now
-        (kept_front election.now cells.old ++ bytes.now) (ImageFault.Damaged cells.old.count) }
+        (kept_front election.now cells.old ++ bytes.now)
+        (ImageFault.Damaged (length (numbers_read cells.old))) }
 {
     let read = take_cell(bytes, election);
     match &read {
         CellRead::Empty => {
-            cells.count += 1;
+            cells.numbers.push_reserved(0);
             true
         }
         CellRead::Held(record) => {
             if cells.records.len() >= election.limit() as usize {
                 return false;
             }
-            let before = &cells.numbers[..cells.count];
-            let Some(reach) = reach_of(election, before, &cells.reaches, record.number) else {
+            let number = record.number;
+            let Some(reach) = reach_of(election, &cells.numbers, &cells.reaches, number) else {
                 return false;
             };
             put(cells, record, reach);
@@ -176,43 +205,21 @@ fn read_right_cell(cells: &mut CellsRead, bytes: &[u8], election: &Election) -> 
     }
 }
 
-/// Passes empty cells that stand first in these bytes, and answers the bytes behind them. One that it misses is read as
-/// any other.
-fn pass_empty<'a>(cells: &mut CellsRead, bytes: &'a [u8], election: &Election) -> &'a [u8]
-    requires election { IsElection election.now }
-    requires kept { AreKept election.now cells.old }
-    requires wide { HasSpace election.now cells.old }
-    requires within { length (kept_front election.now cells.old ++ bytes.now)
-        ≤ bank_size election.now }
-    ensures kept { AreKept election.now cells.new }
-    ensures wide { HasSpace election.now cells.new }
-    ensures fed { kept_front election.now cells.new ++ result.now
-        ≡ kept_front election.now cells.old ++ bytes.now }
-    ensures shorter { length result.now ≤ length bytes.now }
-{
-    let size = election.cell_bytes();
-    let count = count_empty(bytes, size);
-    cells.count += count;
-    let (_, behind) = bytes.split_at(count * size);
-    behind
-}
-
 /// Puts a record and the reach of its cell behind those so far. There is a place for them.
 #[inline(always)]
 fn put(cells: &mut CellsRead, held: &Record, reach: u32)
-    requires numbers { cells.old.count < length cells.old.numbers.items }
+    requires numbers { vec_len cells.old.numbers < vec_capacity cells.old.numbers }
     requires records { vec_len cells.old.records < vec_capacity cells.old.records }
     requires reaches { vec_len cells.old.reaches < vec_capacity cells.old.reaches }
-    ensures count { cells.new.count ≡ cells.old.count + 1 }
     ensures numbers { cells.new.numbers.items
-        ≡ slice_set cells.old.numbers.items cells.old.count held.now.number }
+        ≡ cells.old.numbers.items ++ held.now.number ∷ [] }
     ensures records { cells.new.records.items ≡ cells.old.records.items ++ held.now ∷ [] }
     ensures reaches { cells.new.reaches.items ≡ cells.old.reaches.items ++ reach ∷ [] }
+    ensures room_for_numbers { vec_capacity cells.new.numbers ≡ vec_capacity cells.old.numbers }
     ensures room_for_records { vec_capacity cells.new.records ≡ vec_capacity cells.old.records }
     ensures room_for_reaches { vec_capacity cells.new.reaches ≡ vec_capacity cells.old.reaches }
 {
-    cells.numbers[cells.count] = held.number;
-    cells.count += 1;
+    cells.numbers.push_reserved(held.number);
     cells.records.push_reserved(*held);
     cells.reaches.push_reserved(reach);
 }

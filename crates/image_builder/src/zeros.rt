@@ -1,43 +1,25 @@
-//! Empty cells at the front of bytes. Zeros are looked for in as many bytes at once as one comparison takes.
+//! Whether a cell is empty. Zeros are looked for in as many bytes at once as one comparison takes.
 
-ghost use Rattle.std.specs.Prelude.{◌≡◌, ℕ, ◌+◌, ◌*◌, ◌<◌, ◌≤◌, length, replicate, slice_index, take, IsTrue};
+ghost use Rattle.std.specs.Prelude.{◌≡◌, ℕ, ◌<◌, ◌≤◌, length, replicate, slice_index, IsTrue};
 
-/// How many bytes are compared at once.
-const STEP: usize = 16;
+/// How many bytes are compared at once. Every cell has more.
+const STEP: usize = 8;
 
-/// How many cells of this size stand first in these bytes and are empty. One that has fewer bytes than are compared at
-/// once may be missed.
-pub fn count_empty(bytes: &[u8], size: usize) -> usize
-    requires some { 0 < size }
-    ensures within { result * size ≤ length bytes.now }
-    ensures empty { take (result * size) bytes.now ≡ replicate (result * size) 0 }
+/// Whether all bytes of a cell are 0.
+#[inline(always)]
+pub fn is_empty(cell: &[u8]) -> bool
+    requires long { 8 ≤ length cell.now }
+    ensures { IsTrue result → cell.now ≡ replicate (length cell.now) 0 }
 {
-    let zeros = count_zeros(bytes);
-    if zeros < STEP {
-        return 0;
-    }
-    let count = zeros / size;
-    // Fewer zeros than a step may be left, which end one cell more.
-    let missing = size - zeros % size;
-    if missing < STEP && missing <= bytes.len() - zeros {
-        let end = zeros + missing;
-        if are_zero(&bytes[end - STEP..end]) {
-            return count + 1;
+    let last = cell.len() - STEP;
+    let mut from = 0;
+    while from < last {
+        if !are_zero(&cell[from..from + STEP]) {
+            return false;
         }
+        from += STEP;
     }
-    count
-}
-
-/// How many bytes at the front are 0, counted by whole steps.
-fn count_zeros(bytes: &[u8]) -> usize
-    ensures within { result ≤ length bytes.now }
-    ensures zeros { (k : ℕ) → k < result → slice_index bytes.now k ≡ 0 }
-{
-    let mut count = 0;
-    while bytes.len() - count >= STEP && are_zero(&bytes[count..count + STEP]) {
-        count += STEP;
-    }
-    count
+    are_zero(&cell[last..last + STEP])
 }
 
 /// Whether all these bytes are 0. It does not stop at the first that is not, so that many are compared at once.

@@ -1,9 +1,9 @@
 -- The bytes between two places of a buffer, behind the zeros that stand for forgotten ones.
-use Rattle.std.proofs.Common.{◌≡◌, ℕ, ◌+◌, ◌-◌, ◌<◌, ◌≤◌, List, ◌++◌, length, take, drop, replicate, None, Some, cond, ltb, ap, sym, ◌∙◌, inl, inr, arith, length-append, length-drop, take-append-drop}
+use Rattle.std.proofs.Common.{◌≡◌, ℕ, ◌+◌, ◌-◌, ◌<◌, ◌≤◌, Bool, true, false, List, ◌++◌, length, take, drop, get_or, replicate, refl, ap, sym, ◌∙◌, arith, length-append, length-drop, take-append-drop}
 use Rattle.std.proofs.lemmas.List.{take-append-le, take-take, drop_at, drop-drop, drop-take, take_rest, length-take-le, length-replicate}
-use Rattle.std.proofs.lemmas.Bool.{cases_lt}
-use Rattle.std.proofs.lemmas.Bool.Decides.{nat_tests}
-use Rattle.std.specs.Prelude.{position, slice_range, ◌==◌, Vec, vec_len}
+use Rattle.std.proofs.lemmas.List.Sums.{position_or_len_is}
+use Rattle.std.specs.Prelude.{slice_range, ◌==◌, Vec, vec_len}
+use Rattle.memchr.specs.Find.{Nowhere, Passes, is_byte}
 use Rattle.std.specs.declared.alloc.Global.{Global}
 use Rattle.std.proofs.Math.Seq.{take-add}
 use Rattle.outside_io.specs.declared.lines.Lines.TheInside.{Inside}
@@ -11,14 +11,14 @@ use Rattle.outside_io.specs.Window.{window_of, kept_of, IsWindow}
 use Rattle.outside_io.proofs.FirstLine.{first_width-le, first_width-append, first_width-zeros}
 use Rattle.store_spec.specs.Input.{first_width}
 
--- no line end was found
-pub none_found : (bytes : List ℕ) → position (λ byte. byte == 10) bytes ≡ None → length bytes ≡ first_width bytes
-none_found bytes is =
-    let w = first_width bytes in
-    elim (cases_lt w (length bytes)) [
-      | inl ends ↦ absurd (let found : cond (ltb w (length bytes)) (Some w) None ≡ Some w = grind (arith, nat_tests) in let clash : None ≡ Some w = sym is ∙ found in cc)
-      | inr none ↦ omega (arith, first_width-le bytes)
-    ]
+not_passed : (b : Bool) → ¬ (b ≡ true) → b ≡ false
+not_passed true not = absurd (not refl)
+not_passed false not = refl
+
+-- the first place at which a line ends is the width of the line
+pub found_first : (bytes : List ℕ) (place : ℕ) → place ≤ length bytes → Nowhere (Passes (is_byte 10) bytes) 0 place → (place < length bytes → Passes (is_byte 10) bytes place) → place ≡ first_width bytes
+found_first bytes place within nowhere ends =
+    sym (position_or_len_is (λ byte. byte == 10) bytes place 0 within (λ k before. not_passed (get_or bytes k 0 == 10) (nowhere k (omega arith) before)) ends)
 
 -- a front with no line end was searched before
 pub searched_width : (window : List ℕ) (searched width : ℕ) → first_width (take searched window) ≡ searched → searched ≤ length window → width ≡ first_width (drop searched window) → searched + width ≡ first_width window

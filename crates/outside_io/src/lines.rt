@@ -1,10 +1,11 @@
-ghost use Rattle.std.specs.Prelude.{◌≡◌, ◌≢◌, ◌==◌, ℕ, ◌+◌, position, ◌≤◌, ◌<◌, [], ◌++◌, length, take, slice_range, Some, Err, IfOk, IfSome, OnErr};
+ghost use Rattle.std.specs.Prelude.{◌≡◌, ◌≢◌, ◌+◌, ◌≤◌, ◌<◌, [], ◌++◌, length, take, slice_range, Some, Err, IfOk, IfSome, OnErr};
 ghost use Rattle.store_spec.specs.Fault.{CountsFault, CountsFaultIf};
 ghost use Rattle.outside_io.specs.Stream.{GivesFront};
 ghost use Rattle.outside_io.specs.Told.{AsTold};
 ghost use Rattle.store_spec.specs.Input.{first_width, line_end, line_limit, script_limit, IsTooLong};
 
 use crate::{Failed, Memory, Source, read_piece};
+use memchr::memchr;
 use std::alloc::Global;
 use std::error::Error;
 use std::fmt;
@@ -98,46 +99,13 @@ impl Model for Lines {
     ghost invariant = { IsWindow };
 }
 
-// Where the first line end stands.
-fn first_end(bytes: &[u8]) -> Option<usize>
-    ensures { result ≡ position (λ byte. byte == line_end) bytes.now }
-{
-    bytes.iter().position(|byte| *byte == LINE_END)
-}
-
-// What follows the first eight bytes, where no line ends among them.
-#[tactic(auto, unfolding(store_spec::specs::Input::first_width))]
-fn past_eight(bytes: &[u8]) -> Option<&[u8]>
-    ensures { IfSome result (λ rest. (first_width bytes.now ≡ 8 + first_width rest.now)
-        × (length bytes.now ≡ 8 + length rest.now)) }
-{
-    match bytes {
-        [a, b, c, d, e, f, g, h, rest @ ..]
-            if (*a != LINE_END)
-                & (*b != LINE_END)
-                & (*c != LINE_END)
-                & (*d != LINE_END)
-                & (*e != LINE_END)
-                & (*f != LINE_END)
-                & (*g != LINE_END)
-                & (*h != LINE_END) => { Some(rest) }
-        _ => None,
-    }
-}
-
 // How many bytes stand before the first line end, or in all where there is none.
 fn line_width(bytes: &[u8]) -> usize
     ensures { result ≡ first_width bytes.now }
 {
-    let mut rest = bytes;
-    let mut before = 0;
-    while let Some(after) = past_eight(rest) {
-        rest = after;
-        before += 8;
-    }
-    match first_end(rest) {
-        Some(place) => before + place,
-        None => before + rest.len(),
+    match memchr(LINE_END, bytes) {
+        Some(place) => place,
+        None => bytes.len(),
     }
 }
 

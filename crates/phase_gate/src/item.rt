@@ -1,16 +1,16 @@
 //! What nearly all lines of a script bring: an item, which waits in its list, and of which nothing is told.
 
-ghost use Rattle.std.specs.Prelude.{◌≡◌, ℕ, List, IfOk, OnErr, Some};
+ghost use Rattle.std.specs.Prelude.{◌≡◌, ℕ, IfOk, OnErr, Some};
 ghost use Rattle.phase_gate.specs.Gate.{IsQueued, state_of};
 ghost use Rattle.phase_gate.specs.Work.{CanWait, item_line, phase_of};
-ghost use Rattle.script_lines.specs.Line.{script_line};
-ghost use Rattle.store_spec.specs.ScriptLine.{IsTab, Says};
+ghost use Rattle.store_spec.specs.ScriptLine.{IsTab};
 ghost use Rattle.store_spec.specs.Session.{Answers, Does};
 
 use crate::gate::Gate;
-use crate::work::{Item, Queued, item_of};
+use crate::work::{Item, Queued, entered};
+use ballot_record::Record;
 use outside_io::Memory;
-use script_lines::{Line, read_script_line};
+use script_lines::read_entry;
 
 impl Gate {
     /// Lets what a line brings wait for the close of the phase. `false` where it brings nothing that can wait in this
@@ -22,24 +22,9 @@ impl Gate {
         ensures closed { self.new.closed ≡ self.old.closed }
         ensures unchanged { OnErr result (state_of self.new ≡ state_of self.old) }
     {
-        let said = read_script_line(line, self.closed.election());
-        match &said {
-            Some(said) => self.queue_said(said),
-            None => Ok(false),
-        }
-    }
-
-    /// The same of what a line says.
-    fn queue_said(&mut self, line: &Line) -> Result<bool, Memory>
-        requires said { (bytes : List ℕ) × Says self.old.closed.election bytes (script_line line.now) }
-        ensures queued { (index : ℕ) → IfOk result (λ waits. IsQueued waits
-            (Does self.old.closed.election index (state_of self.old) (script_line line.now)
-            (phase_of self.old.work)) (state_of self.old) (state_of self.new)) }
-        ensures closed { self.new.closed ≡ self.old.closed }
-        ensures unchanged { OnErr result (state_of self.new ≡ state_of self.old) }
-    {
-        match item_of(line) {
-            Some((tab, item)) => self.queue_item(tab, item),
+        let mut ballot = Record::blank();
+        match read_entry(line, self.closed.election(), &mut ballot) {
+            Some((tab, entry)) => self.queue_item(tab, entered(entry, &ballot)),
             None => Ok(false),
         }
     }

@@ -3,12 +3,12 @@
 ghost use Rattle.std.specs.Prelude.{◌≡◌, ℕ, ◌≤◌, ◌++◌, [], IfOk, codes, map, replicate, MatchOption, OnErr};
 ghost use Rattle.ballot_record.specs.Record as records;
 ghost use Rattle.phase_gate.specs.Work.{CastsInto, FindsInto, GoesInto, IsCommand, WaitsIn, WithdrawsInto, item_line, kind_of, phase_of};
-ghost use Rattle.script_lines.specs.Line.{script_line};
+ghost use Rattle.script_lines.specs.Line.{entry_line, script_line};
 ghost use Rattle.store_spec.specs.Session.{last_reply, opened, phase_text};
 
 use ballot_record::Record;
 use outside_io::Memory;
-use script_lines::Line;
+use script_lines::{Entry, Line};
 use std::alloc::Global;
 
 /// A phase, and a list for each tabulator of what waits for its close.
@@ -162,6 +162,17 @@ pub fn item_of(line: &Line) -> Option<(u8, Item<'_>)>
         Line::Withdraw { tab, number } => Some((*tab, Item::Withdraw(*number))),
         Line::Find { tab, number } => Some((*tab, Item::Find(*number))),
         _ => None,
+    }
+}
+
+/// What is to be done for an entry, whose ballot is this where it is a cast.
+pub fn entered(entry: Entry, ballot: &Record) -> Item<'_>
+    ensures { (tab : ℕ) → entry_line tab entry ballot.now ≡ item_line tab result }
+{
+    match entry {
+        Entry::Cast => Item::Cast(ballot),
+        Entry::Withdraw { number } => Item::Withdraw(number),
+        Entry::Find { number } => Item::Find(number),
     }
 }
 

@@ -1,11 +1,9 @@
 pub mod CastLists
+pub mod Claimed
 pub mod Compared
-pub mod Hands
 pub mod HeldNumbers
-pub mod Notes
 pub mod Opened
 pub mod Outcome
-pub mod Probing
 pub mod Rows
 pub mod Sent
 pub mod Trays

@@ -3,9 +3,8 @@ use Rattle.std.specs.Prelude.{◌≡◌, ◌≢◌, ◌⊎◌, ℕ, [], Contains
 use Rattle.phase_insert.specs.declared.reply.CastReply.{CastReply}
 use Rattle.phase_insert.specs.declared.reply.CastReply.TheVariants.{Accepted, Duplicate, Conflict, Taken, Full}
 use Rattle.store_spec.specs.CastStep as note
-use Rattle.store_spec.specs.CastStep.{CastNote, CastView, Table, view_after}
-use Rattle.store_spec.specs.CastStep.CastState.{Probing, Rest}
-use Rattle.word_rule.specs.CastSeats.{MakesRow}
+use Rattle.store_spec.specs.CastStep.{CastView, view_after}
+use Rattle.store_spec.specs.CastStep.CastState.{Rest}
 
 -- The number is in the list that the reply names, and the seat is at rest. Where the base answers, or there are no claim
 -- words, nothing changes.
@@ -30,8 +29,3 @@ pub record IsNewTo (claims : ℕ) (view : CastView) (number : ℕ) : Type 0 wher
   pub not_accepted : ¬ Contains view.accepted number
   pub not_taken : ¬ Contains view.taken number
   pub no_full : view.full ≡ []
-
--- the last of some probes for a number, of which those before told nothing
-pub record Probes (t : Table) (number : ℕ) (old : CastView) (told : CastNote) (now : CastView) : Type 0 where
-  pub tries : ℕ
-  pub row : MakesRow t (Probing number tries) old told now

@@ -1,5 +1,9 @@
 -- What a line of the program says, as the definitions see it.
 use Rattle.ballot_record.specs.Record.{ballot}
+use Rattle.std.specs.Prelude.{ℕ}
+use Rattle.ballot_record.specs.declared.record.Record.{Record}
+use Rattle.script_lines.specs.declared.line.Entry.{Entry}
+use Rattle.script_lines.specs.declared.line.Entry.TheVariants as entries
 use Rattle.script_lines.specs.declared.line.Line.{Line}
 use Rattle.script_lines.specs.declared.line.Line.TheVariants as lines
 use Rattle.store_spec.specs.ScriptLine.{ScriptLine}
@@ -18,3 +22,9 @@ script_line lines.Close = Close
 script_line lines.Checkpoint = Checkpoint
 script_line lines.Tally = Tally
 script_line lines.Export = Export
+
+-- what a line says that brings this for a tabulator, with the ballot where it is cast
+abbrev pub entry_line : ℕ → Entry → Record → ScriptLine
+entry_line tab entries.Cast r = Cast tab (ballot r)
+entry_line tab (entries.Withdraw number) r = Withdraw tab number
+entry_line tab (entries.Find number) r = Find tab number

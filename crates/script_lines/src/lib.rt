@@ -12,8 +12,8 @@ mod words;
 
 pub use generated::large_line;
 pub use generated_script::GeneratedScript;
-pub use line::Line;
-pub use reading::read_script_line;
+pub use line::{Entry, Line};
+pub use reading::{read_entry, read_script_line};
 
 #[cfg(test)]
 mod tests;

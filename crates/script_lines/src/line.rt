@@ -26,3 +26,15 @@ pub enum Line {
     /// The ballots that are held are written.
     Export,
 }
+
+/// What a line brings for the list of a tabulator. The ballot that is cast stands elsewhere: it is long, and these are
+/// most lines.
+#[derive(Clone, Copy, Debug, PartialEq, Eq)]
+pub enum Entry {
+    /// A ballot is cast.
+    Cast,
+    /// The ballot of a number is withdrawn.
+    Withdraw { number: u64 },
+    /// A number is looked for.
+    Find { number: u64 },
+}

@@ -1,13 +1,13 @@
-ghost use Rattle.std.specs.Prelude.{◌++◌, ◌∷◌, IfNone, IfSome, MatchOption};
+ghost use Rattle.std.specs.Prelude.{ℕ, ◌++◌, ◌∷◌, IfNone, IfSome, MatchOption};
 ghost use Rattle.store_spec.specs.BallotLine.{IsRecordLine, space};
 ghost use Rattle.store_spec.specs.ScriptLine.{IsMalformed, IsTab, Says, item_text, work_text};
 ghost use Rattle.store_spec.specs.Election as definition;
-ghost use Rattle.script_lines.specs.Line.{script_line};
+ghost use Rattle.script_lines.specs.Line.{entry_line, script_line};
 ghost use Rattle.script_lines.specs.Words.{IsNoCommand, IsNoItem, IsNoOpening, work};
 
-use crate::Line;
 use crate::words::{MAX_TABS, Work, after_word, take_tab, take_work, whole_number};
-use ballot_record::{Election, LineFault, read_line};
+use crate::{Entry, Line};
+use ballot_record::{Election, LineFault, Record, read_line, read_line_into};
 
 /// What a line says that opens a phase.
 fn read_open(line: &[u8]) -> Option<Line>
@@ -86,4 +86,37 @@ pub fn read_script_line(line: &[u8], election: &Election) -> Option<Line>
         Some((work, behind)) => read_item(work, behind, election),
         None => read_command(line),
     }
+}
+
+/// What this work does with the bytes behind its tabulator.
+fn entry_of(named: Work, rest: &[u8], election: &Election, out: &mut Record) -> Option<Entry>
+    ensures { IfSome result (λ entry. (tab : ℕ) → IsTab tab
+        → Says election.now (item_text (work named) tab rest.now) (entry_line tab entry out.new)) }
+{
+    match named {
+        Work::Casting => {
+            read_line_into(rest, election, out).ok()?;
+            Some(Entry::Cast)
+        }
+        Work::Withdrawing => {
+            let number = whole_number(rest, u64::MAX)?;
+            Some(Entry::Withdraw { number })
+        }
+        Work::Finding => {
+            let number = whole_number(rest, u64::MAX)?;
+            Some(Entry::Find { number })
+        }
+    }
+}
+
+/// What a line brings for the list of a tabulator, and of which. The ballot of a cast is put in place of what stands in
+/// `out`. `None` where it brings nothing for a list, or no valid ballot.
+pub fn read_entry(line: &[u8], election: &Election, out: &mut Record) -> Option<(u8, Entry)>
+    ensures { IfSome result
+        (λ x. IsTab x.0 × Says election.now line.now (entry_line x.0 x.1 out.new)) }
+{
+    let (named, behind) = take_work(line)?;
+    let (tab, rest) = take_tab(behind)?;
+    let entry = entry_of(named, rest, election, out)?;
+    Some((tab, entry))
 }

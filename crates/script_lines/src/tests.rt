@@ -106,6 +106,27 @@ exported
 9 1 1/-";
 
 #[test]
+fn what_lines_bring_for_a_list(rt: HostRuntime) {
+    let election = Election::example();
+    let mut cast = Record::blank();
+    let entries = [
+        ("cast 64 14 1 -/2", 64, Entry::Cast),
+        ("withdraw 3 9", 3, Entry::Withdraw { number: 9 }),
+        ("find 10 1", 10, Entry::Find { number: 1 }),
+    ];
+    for (line, tab, entry) in entries.iter() {
+        let brought = read_entry(line.as_bytes(), &election, &mut cast);
+        assert_eq!(rt; brought, Some((*tab, *entry)));
+    }
+    assert_eq!(rt; cast, ballot(14, [0, 0b10]));
+    let others = ["", "close", "open find 10", "cast 1 9 1 5/-", "find 65 9"];
+    for line in others.iter() {
+        let brought = read_entry(line.as_bytes(), &election, &mut cast);
+        assert_eq!(rt; brought, None);
+    }
+}
+
+#[test]
 fn malformed_lines(rt: HostRuntime) {
     for line in MALFORMED.lines() {
         assert_eq!(rt; read(line), None);

@@ -1,34 +1,37 @@
 -- What a step leaves of a seat, from what it told and from the table of steps.
 use Rattle.std.proofs.Common.{◌≡◌, ℕ, [], refl, sym, ap, ◌∙◌, subst, pos_of_ne-zero}
 use Rattle.atomic_table.specs.Table.{Allows, Me}
+use Rattle.atomic_table.specs.declared.shared.Seat.{Seat}
+use Rattle.crossbeam_utils.specs.Padded.{padded_value}
 use Rattle.step_core.proofs.CastBegins.{begins_on}
 use Rattle.step_core.specs.CastTables.{BeginsAt, FitsIn, LeadsTo}
 use Rattle.step_core.specs.Shape.{table_of}
 use Rattle.step_core.specs.declared.shape.Shape.{Shape}
 use Rattle.store_spec.specs.Act.{Act, left_by, word_of}
-use Rattle.store_spec.specs.CastStep.{CastNote, CastState, CastView, GoesFrom, cast_act, fresh_view, number_of, view_after}
+use Rattle.store_spec.specs.CastStep.{CastNote, CastState, CastView, GoesFrom, cast_act, cast_measure, fresh_view, number_of, view_after}
 use Rattle.store_spec.specs.CastStep as definition
 use Rattle.store_spec.specs.CastStep.CastState.{Rest, Probing}
 use Rattle.store_spec.specs.Layout.{numbers_in}
+use Rattle.store_spec.specs.Measure.{Falls}
 use Rattle.word_rule.proofs.CastFound.{one_row}
 use Rattle.word_rule.proofs.CastKept.{allows, state_after}
 use Rattle.word_rule.specs.CastSeats.{IsCast, IsToldAlike, MakesRow, StepsFrom, begins}
-use Rattle.word_rule.specs.CastWords.{AreWords, MayBegin, seat_seen}
-use Rattle.word_rule.specs.Places.{Place, words_seen}
+use Rattle.word_rule.specs.CastWords.{IsAbout, IsSeat, MayBegin}
 use Rattle.word_rule.specs.Seats.{IsSeated, SharedWords, words_of}
 use Rattle.word_rule.specs.Steps.{step_of}
 use Rattle.word_rule.specs.declared.cast.CastSeat.TheInside as seats
-use Rattle.word_rule.specs.declared.cast.CastWords.TheInside as words
 use Rattle.word_rule.specs.declared.seats.Known.{Known}
 use Rattle.word_rule.specs.declared.seats.Opening.{Opening}
 
 abbrev Here : Type 0
 Here = Me (Unit {0}) (Known CastView)
 
--- a seat that belongs to words has their shape
-pub same_shape : (w : words.Inside) (s : seats.Inside) (of : SharedWords) (place : Place CastView) → words_seen w.table.shared ≡ of → seat_seen s ≡ place → place.words ≡ of → AreWords w → w.shape ≡ s.seat.me.0.shape
-same_shape w s of place seen_words seen belongs kept =
-    kept.shape ∙ ap (λ (v : SharedWords). v.shape) (seen_words ∙ sym belongs) ∙ sym (ap (λ (p : Place CastView). p.words.shape) seen)
+abbrev OneSeat : Type 0
+OneSeat = Seat (Unit {0}) (Known CastView)
+
+-- a seat of words has their shape
+pub same_shape : (of : SharedWords) (state : CastState) (seat : OneSeat) → IsAbout of state seat → of.shape ≡ seat.me.0.shape
+same_shape of state seat about = sym (ap (λ (v : SharedWords). v.shape) about.belongs)
 
 -- the act of a state, as the code has it
 pub allows_act : (opening : Opening) (slots id : ℕ) (me : Here) (from : CastState) (shape : Shape) (act : Act) → shape ≡ me.0.shape → act ≡ cast_act (table_of shape) from → me.0.weight ≡ 1 → GoesFrom (table_of me.0.shape) (numbers_in me.0.base) me.0.view.state from → Allows (IsSeated IsCast fresh_view opening) slots id me (word_of act) (left_by act) (StepsFrom from me)
@@ -77,19 +80,40 @@ module _ (from : CastState) (me : Here) (found : ℕ) (now : Here) (told : Steps
         (subst (FitsIn (table_of me.0.shape)) (sym state_now) told.fits);
   }
 
-  -- the claim word at which its number began is still that
-  pub begins_still : (first : ℕ) → BeginsAt (table_of me.0.shape) from first → BeginsAt (table_of now.0.shape) now.0.view.state first
-  begins_still first begins =
-      subst (λ (s : Shape). BeginsAt (table_of s) now.0.view.state first) (sym (ap (λ (m : Here). m.0.shape) told.is))
-      (subst (λ (s : CastState). BeginsAt (table_of me.0.shape) s first) (sym state_now) (begins_on (table_of me.0.shape) from found told.new told.note first told.leads begins))
+-- what a step from a state leaves of a seat
+pub record HasStepped (of : SharedWords) (from : CastState) (seat now : OneSeat) (new : CastState) (note : CastNote) : Type 0 where
+  pub about : IsAbout of new now
+  pub row : MakesRow (table_of of.shape) from seat.me.0.view note now.me.0.view
+  pub told_alike : IsToldAlike seat.me.0.view (number_of from) note
+  pub begins : (first : ℕ) → BeginsAt (table_of of.shape) from first → BeginsAt (table_of of.shape) new first
+  pub falls : Falls (cast_measure (table_of of.shape) new) (cast_measure (table_of of.shape) from)
+
+pub has_stepped : (of : SharedWords) (state from : CastState) (seat now : OneSeat) (found : ℕ) (new : CastState) (note : CastNote) → IsAbout of state seat → now.table_id ≡ seat.table_id → FitsIn (table_of of.shape) from → StepsFrom from seat.me found now.me → LeadsTo (table_of of.shape) from found new note → HasStepped of from seat now new note
+has_stepped of state from seat now found new note about table fits told leads =
+    let same = same_shape of state seat about in
+    let own : seat.me.0.shape ≡ of.shape = sym same in
+    let end = same_end from seat.me found now.me told of.shape new note same (subst (λ (s : Shape). FitsIn (table_of s) from) same fits) leads in
+    let left = stays from seat.me found now.me told new end.0 about.single.holds_none about.single.weight in
+    record {
+      about = record {
+        belongs = ap (λ t. words_of t now.me.0) table ∙ ap (λ (m : Here). words_of seat.table_id m.0) told.is ∙ about.belongs;
+        state_is = sym left.state;
+        single = record { holds_none = left.holds_none; weight = left.weight };
+        fits = subst (λ (s : Shape). FitsIn (table_of s) new) own (subst (FitsIn (table_of seat.me.0.shape)) end.0 told.fits);
+      };
+      row = subst (λ (s : Shape). MakesRow (table_of s) from seat.me.0.view note now.me.0.view) own (makes_row from seat.me found now.me told note end.1);
+      told_alike = tells from seat.me found now.me told note end.1;
+      begins = λ first. begins_on (table_of of.shape) from found new note first leads;
+      falls = subst (λ (s : Shape). Falls (cast_measure (table_of s) new) (cast_measure (table_of s) from)) own
+          (subst (λ (s : CastState). Falls (cast_measure (table_of seat.me.0.shape) s) (cast_measure (table_of seat.me.0.shape) from)) end.0 told.falls);
+    }
 
 -- ---- the first step of a number
 
 -- a number that may be begun with at a seat's words
-pub may_begin : (of : SharedWords) (place : Place CastView) (s : seats.Inside) (x : ℕ) → seat_seen s ≡ place → place.words ≡ of → MayBegin of x → definition.MayBegin (table_of s.seat.me.0.shape) (numbers_in s.seat.me.0.base) x
-may_begin of place s x seen belongs may =
-    let words : words_of s.seat.table_id s.seat.me.0 ≡ of = ap (λ (p : Place CastView). p.words) seen ∙ belongs in
-    let own = subst (λ (w : SharedWords). MayBegin w x) (sym words) may in
+pub may_begin : (of : SharedWords) (seat : OneSeat) (x : ℕ) → words_of seat.table_id seat.me.0 ≡ of → MayBegin of x → definition.MayBegin (table_of seat.me.0.shape) (numbers_in seat.me.0.base) x
+may_begin of seat x belongs may =
+    let own = subst (λ (w : SharedWords). MayBegin w x) (sym belongs) may in
     record { some = own.some; not_held = own.not_held; claims = pos_of_ne-zero own.claims }
 
 pub allows_first : (opening : Opening) (slots id : ℕ) (me : Here) (x : ℕ) (shape : Shape) (act : Act) → shape ≡ me.0.shape → act ≡ cast_act (table_of shape) (Probing x 0) → me.0.weight ≡ 1 → me.0.view.state ≡ Rest → definition.MayBegin (table_of me.0.shape) (numbers_in me.0.base) x → Allows (IsSeated IsCast fresh_view opening) slots id me (word_of act) (left_by act) (begins (step_of slots act) me)
@@ -99,3 +123,12 @@ allows_first opening slots id me x shape act same is weight rest may =
     (sym (is ∙ ap (λ (s : Shape). cast_act (table_of s) (Probing x 0)) same))
     (allows opening slots id me (Probing x 0) (λ none. absurd (let one = weight in cc))
     (subst (λ (s : CastState). GoesFrom (table_of me.0.shape) (numbers_in me.0.base) s (Probing x 0)) (sym rest) (x, may, refl)))
+
+-- a seat that rests, where it rested before, is kept with what it stood for
+pub rest_again : (of : SharedWords) (s : seats.Inside) (seat : OneSeat) → IsSeat s → s.seat.me.0.view.state ≡ Rest → IsAbout of Rest seat → IsSeat (record { standing = s.standing; seat = seat })
+rest_again of s seat kept rested about = record {
+  state = kept.state ∙ rested ∙ sym about.state_is;
+  first = subst (λ (state : CastState). BeginsAt (table_of seat.me.0.shape) state (padded_value s.standing).first) (sym about.state_is) tt;
+  single = about.single;
+  fits = subst (FitsIn (table_of seat.me.0.shape)) (sym about.state_is) tt;
+}

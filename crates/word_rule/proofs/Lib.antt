@@ -3,8 +3,11 @@ pub mod CastAnswers
 pub mod CastCloses
 pub mod CastEnds
 pub mod CastFound
+pub mod CastHands
 pub mod CastKept
 pub mod CastLaws
+pub mod CastProbes
+pub mod CastStates
 pub mod CastTold
 pub mod Closing
 pub mod Copying

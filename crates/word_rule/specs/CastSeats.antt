@@ -6,7 +6,7 @@ use Rattle.step_core.specs.Shape.{table_of}
 use Rattle.step_core.specs.declared.shape.Shape.{Shape}
 use Rattle.store_spec.specs.CastInvariant.{CastInvariant, HasRoomFor}
 use Rattle.store_spec.specs.CastStep.{CastNote, CastState, CastView, Table, cast_measure, number_of, view_after}
-use Rattle.store_spec.specs.CastStep.CastNote.{Claimed, Taken, Full}
+use Rattle.store_spec.specs.CastStep.CastNote.{Quiet, Claimed, Taken, Full, Placed}
 use Rattle.store_spec.specs.CastStep.CastState.{Probing, Rest}
 use Rattle.store_spec.specs.Layout.{numbers_in}
 use Rattle.store_spec.specs.Measure.{Falls}
@@ -34,6 +34,19 @@ pub record MakesRow (t : Table) (from : CastState) (old : CastView) (note : Cast
   pub found : ℕ
   pub leads : LeadsTo t from found now.state note
   pub is : now ≡ view_after old (number_of from) now.state note
+
+-- the last of some probes for a number, of which those before told nothing
+pub record Probes (t : Table) (number : ℕ) (old : CastView) (told : CastNote) (now : CastView) : Type 0 where
+  pub tries : ℕ
+  pub row : MakesRow t (Probing number tries) old told now
+
+-- what is told of a number that was cast
+abbrev pub IsAnswer : CastNote → Type 0
+IsAnswer Quiet = ⊥
+IsAnswer Claimed = Unit {0}
+IsAnswer Taken = Unit {0}
+IsAnswer Full = Unit {0}
+IsAnswer Placed = ⊥
 
 -- what a step from a state tells of the word that it found and of the seat after it
 pub record StepsFrom (from : CastState) (me : Me (Unit {0}) (Known CastView)) (found : ℕ) (now : Me (Unit {0}) (Known CastView)) : Type 0 where

@@ -1,16 +1,18 @@
 -- Shared words of casting and their seats, as callers see them.
 use Rattle.std.specs.Prelude.{◌≡◌, ◌≢◌, ℕ, ◌+◌, ◌^◌, ◌<◌, ◌≤◌, List, ◌++◌, length, map, All, Contains}
+use Rattle.atomic_table.specs.declared.shared.Seat.{Seat}
 use Rattle.crossbeam_utils.specs.Padded.{padded_value}
 use Rattle.step_core.specs.CastTables.{BeginsAt, FitsIn, state_of}
 use Rattle.step_core.specs.Shape.{homes_of, table_of}
 use Rattle.step_core.specs.declared.shape.Shape.{Shape}
 use Rattle.store_spec.specs.CastInvariant.{EachOnce, accepted_of}
-use Rattle.store_spec.specs.CastStep.{CastView}
+use Rattle.store_spec.specs.CastStep.{CastState, CastView}
 use Rattle.store_spec.specs.Layout.{IsOrdered, layout_of, numbers_in}
 use Rattle.word_rule.specs.Places.{IsSingle, Place, place_of}
-use Rattle.word_rule.specs.Seats.{SharedWords}
+use Rattle.word_rule.specs.Seats.{SharedWords, words_of}
 use Rattle.word_rule.specs.declared.cast.CastSeat.TheInside as seats
 use Rattle.word_rule.specs.declared.cast.CastWords.TheInside as words
+use Rattle.word_rule.specs.declared.seats.Known.{Known}
 
 -- what words may be made of: ordered cells, with room for what stands in them, each claim word and each home
 pub record MayHold (shape : Shape) (cells : List ℕ) : Type 0 where
@@ -61,3 +63,10 @@ pub record IsSeat (s : seats.Inside) : Type 0 where
   pub first : BeginsAt (table_of s.seat.me.0.shape) s.seat.me.0.view.state (padded_value s.standing).first
   pub single : IsSingle s.seat
   pub fits : FitsIn (table_of s.seat.me.0.shape) s.seat.me.0.view.state
+
+-- a seat of these words that is about this state
+pub record IsAbout (of : SharedWords) (state : CastState) (seat : Seat (Unit {0}) (Known CastView)) : Type 0 where
+  pub belongs : words_of seat.table_id seat.me.0 ≡ of
+  pub state_is : seat.me.0.view.state ≡ state
+  pub single : IsSingle seat
+  pub fits : FitsIn (table_of of.shape) state

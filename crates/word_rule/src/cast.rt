@@ -3,14 +3,15 @@
 #[cfg(test)]
 mod tests;
 
-ghost use Rattle.std.specs.Prelude.{◌≡◌, ◌≢◌, ℕ, ◌<◌, ◌≤◌, All, IfOk, length, map};
-ghost use Rattle.step_core.specs.CastTables.{note_of, state_of};
+ghost use Rattle.std.specs.Prelude.{◌≡◌, ◌≢◌, ℕ, ◌+◌, ◌^◌, ◌<◌, ◌≤◌, All, IfOk, length, map};
+ghost use Rattle.step_core.specs.CastTables.{BeginsAt, note_of, state_of};
 ghost use Rattle.step_core.specs.Shape.{table_of};
-ghost use Rattle.store_spec.specs.CastStep.{cast_measure, fresh_view, number_of};
-ghost use Rattle.store_spec.specs.CastStep.CastState.{Probing, Rest};
+ghost use Rattle.store_spec.specs.CastStep.{cast_measure, fresh_view, number_of, view_after};
+ghost use Rattle.store_spec.specs.CastStep.CastNote.{Quiet};
+ghost use Rattle.store_spec.specs.CastStep.CastState.{Carrying, Probing, Rest};
 ghost use Rattle.store_spec.specs.Measure.{Falls};
-ghost use Rattle.word_rule.specs.CastSeats.{IsAtRest, IsToldAlike, MakesRow};
-ghost use Rattle.word_rule.specs.CastWords.{AgreeOn, MayBegin, MayHold, cells_after};
+ghost use Rattle.word_rule.specs.CastSeats.{IsAnswer, IsAtRest, IsToldAlike, MakesRow, Probes};
+ghost use Rattle.word_rule.specs.CastWords.{AgreeOn, IsAbout, MayBegin, MayHold, cells_after};
 ghost use Rattle.word_rule.specs.Places.{AreAll, AreMadeOf, AreWhole, IsSingle, place_of};
 
 use crate::seats::{Known, Opening, Phase, Seated, close_table, deal_seats, join_seats, lay_out};
@@ -173,16 +174,12 @@ impl CastWords {
         ensures told_alike { IsToldAlike seat.old.view number (note_of result) }
     {
         let first = first_claim_place(number, self.shape.claims);
-        let probing = CastState::Probing { number, tries: 0 };
-        let act = cast_act_from(&self.shape, probing, first);
-        let found = perform::<_, _, _, Begins>(&self.table.shared, &mut seat.seat, act);
-        let (state, note) = cast_first(&self.shape, number, found);
+        let (state, note) = self.begin(self.shape, &mut seat.seat, number, first);
         *seat.standing = Standing { state, first };
         note
     }
 
     /// The next step of a seat that is not at rest.
-    #[inline(always)]
     pub fn next(&self, seat: &mut CastSeat) -> CastNote
         requires belongs { seat.old.words ≡ self.now }
         requires moving { seat.old.view.state ≢ Rest }
@@ -195,11 +192,127 @@ impl CastWords {
             (cast_measure (table_of self.now.shape) seat.old.view.state) }
     {
         let Standing { state, first } = *seat.standing;
-        let act = cast_act_from(&self.shape, state, first);
-        let found = perform::<_, _, _, GoesOn>(&self.table.shared, &mut seat.seat, act);
-        let (after, told) = cast_after(&self.shape, state, found);
+        let (after, told) = self.step(self.shape, &mut seat.seat, state, first);
         seat.standing.state = after;
         told
+    }
+
+    /// All steps of a number, by a seat at rest: it is claimed, and then it and each number that it displaces is placed.
+    /// `Claimed`, `Taken` or `Full` is told of it. The seat is at rest again, and no state of it is written meanwhile.
+    pub fn cast(&self, seat: &mut CastSeat, number: u64) -> CastNote
+        requires belongs { seat.old.words ≡ self.now }
+        requires at_rest { seat.old.view.state ≡ Rest }
+        requires may_begin { MayBegin self.now number }
+        ensures words { seat.new.words ≡ seat.old.words }
+        ensures answers { IsAnswer (note_of result) }
+        ensures view { seat.new.view ≡ view_after seat.old.view number Rest (note_of result) }
+        ensures told_alike { IsToldAlike seat.old.view number (note_of result) }
+    {
+        let (state, note) = self.claim(&mut seat.seat, number);
+        if let CastState::Carrying { .. } = state {
+            self.place(&mut seat.seat, state);
+        }
+        note
+    }
+
+    /// Tries one claim word after another, until one is won or holds the number, or none is left.
+    #[inline(always)]
+    fn claim(&self, seat: &mut Seat<(), Known<CastSight>>, number: u64) -> (CastState, CastNote)
+        requires at_rest { IsAbout self.now Rest seat.old }
+        requires may_begin { MayBegin self.now number }
+        ensures about { IsAbout self.now (state_of result.0) seat.new }
+        ensures probes { Probes (table_of self.now.shape) number seat.old.me.0.view
+            (note_of result.1) seat.new.me.0.view }
+        ensures told { note_of result.1 ≢ Quiet }
+        ensures told_alike { IsToldAlike seat.old.me.0.view number (note_of result.1) }
+    {
+        let shape = self.shape;
+        let first = first_claim_place(number, shape.claims);
+        let (state, note) = self.begin(shape, seat, number, first);
+        let CastState::Probing { mut tries, .. } = state else {
+            return (state, note);
+        };
+        'tries: loop {
+            let probing = CastState::Probing { number, tries };
+            let (after, told) = self.step(shape, seat, probing, first);
+            let CastState::Probing { tries: more, .. } = after else {
+                return (after, told);
+            };
+            tries = more;
+        }
+    }
+
+    /// Places the number in hand, and each number that it displaces. A look at a cell comes before the exchanges for it.
+    #[inline(always)]
+    fn place(&self, seat: &mut Seat<(), Known<CastSight>>, in_hand: CastState)
+        requires about { IsAbout self.now (state_of in_hand) seat.old }
+        requires in_hand { (number place : ℕ) × (state_of in_hand ≡ Carrying number place) }
+        ensures at_rest { IsAbout self.now Rest seat.new }
+        ensures placed { seat.new.me.0.view ≡ record seat.old.me.0.view { state = Rest } }
+    {
+        let mut state = in_hand;
+        'cells: while let CastState::Carrying { .. } = state {
+            (state, _) = self.step(self.shape, seat, state, 0);
+            'exchanges: while let CastState::Ready { .. } = state {
+                (state, _) = self.step(self.shape, seat, state, 0);
+            }
+        }
+    }
+
+    /// The first step of a number, by a seat at rest: its first claim word is tried. The shape is handed in, so that a
+    /// loop of steps reads it once.
+    #[inline(always)]
+    fn begin(
+        &self,
+        shape: Shape,
+        seat: &mut Seat<(), Known<CastSight>>,
+        number: u64,
+        first: usize,
+    ) -> (CastState, CastNote)
+        requires own { shape ≡ self.now.shape }
+        requires small { shape.cells + shape.claims < 2 ^ 32 }
+        requires at_rest { IsAbout self.now Rest seat.old }
+        requires may_begin { MayBegin self.now number }
+        requires begins { BeginsAt (table_of self.now.shape) (Probing number 0) first }
+        ensures about { IsAbout self.now (state_of result.0) seat.new }
+        ensures begins { BeginsAt (table_of self.now.shape) (state_of result.0) first }
+        ensures row { MakesRow (table_of self.now.shape) (Probing number 0) seat.old.me.0.view
+            (note_of result.1) seat.new.me.0.view }
+        ensures told_alike { IsToldAlike seat.old.me.0.view number (note_of result.1) }
+    {
+        let probing = CastState::Probing { number, tries: 0 };
+        let act = cast_act_from(&shape, probing, first);
+        let found = perform::<_, _, _, Begins>(&self.table.shared, seat, act);
+        cast_first(&shape, number, found)
+    }
+
+    /// The next step of a seat that is about a state. While a number looks for a claim word, `first` is the one at which
+    /// it began.
+    #[inline(always)]
+    fn step(
+        &self,
+        shape: Shape,
+        seat: &mut Seat<(), Known<CastSight>>,
+        state: CastState,
+        first: usize,
+    ) -> (CastState, CastNote)
+        requires own { shape ≡ self.now.shape }
+        requires small { shape.cells + shape.claims < 2 ^ 32 }
+        requires about { IsAbout self.now (state_of state) seat.old }
+        requires moving { state_of state ≢ Rest }
+        requires begins { BeginsAt (table_of self.now.shape) (state_of state) first }
+        ensures about { IsAbout self.now (state_of result.0) seat.new }
+        ensures begins { BeginsAt (table_of self.now.shape) (state_of result.0) first }
+        ensures row { MakesRow (table_of self.now.shape) (state_of state) seat.old.me.0.view
+            (note_of result.1) seat.new.me.0.view }
+        ensures told_alike { IsToldAlike seat.old.me.0.view (number_of (state_of state))
+            (note_of result.1) }
+        ensures falls { Falls (cast_measure (table_of self.now.shape) (state_of result.0))
+            (cast_measure (table_of self.now.shape) (state_of state)) }
+    {
+        let act = cast_act_from(&shape, state, first);
+        let found = perform::<_, _, _, GoesOn>(&self.table.shared, seat, act);
+        cast_after(&shape, state, found)
     }
 
     /// One look at a cell, without a seat. It promises nothing of the answer.
@@ -217,9 +330,9 @@ impl CastWords {
     {
         let Self { shape, table } = self;
         let left = left_seats(alloc, seats)?;
-        let mut cells = vec![in alloc; 0; shape.cells]?;
+        let mut cells = Vec::with_capacity(alloc, shape.cells)?;
         let whole = join_seats(&table.shared, left);
-        close_table(table, whole, &mut cells);
+        close_table(table, whole, shape.cells, &mut cells);
         Ok(cells)
     }
 }

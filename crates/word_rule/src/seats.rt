@@ -1,6 +1,6 @@
 //! The seats of shared words, whatever the phase: their making, and their taking in.
 
-ghost use Rattle.std.specs.Prelude.{◌≡◌, ◌+◌, ◌^◌, ◌<◌, ◌≤◌, ◌++◌, [], All, IfOk, length, map, replicate};
+ghost use Rattle.std.specs.Prelude.{◌≡◌, ◌+◌, ◌^◌, ◌<◌, ◌≤◌, ◌++◌, [], All, IfOk, length, map, replicate, vec_capacity};
 ghost use Rattle.word_rule.specs.Seats.{AreDealt, HasEnded, IsSeatAt, KeepsSeats, first_with_all, knows};
 
 use atomic_table::{Join, Seat, Shared, Split, Table, TableRule};
@@ -140,21 +140,24 @@ pub fn join_seats<V, Q: Phase<V>>(
     whole
 }
 
-/// The first words of a table at its end, which a seat saw.
+/// Puts so many first words of a table at its end, which a seat saw, into an empty list, which has room for them.
 pub fn close_table<V, Q: Phase<V>>(
     table: Table<(), Known<V>, Opening, Seated<Q>, Global>,
     seat: Seat<(), Known<V>>,
-    cells: &mut [u64],
+    count: usize,
+    cells: &mut Vec<u64>,
 )
     requires table { seat.table_id ≡ table.shared.table_id }
     requires no_slots { table.shared.table_id.slots ≡ 0 }
-    requires within { length cells.old ≤ table.shared.table_id.words }
-    ensures ended { HasEnded Q.holds Q.fresh table.shared.key seat.id seat.me.0 cells.new }
-    ensures size { length cells.new ≡ length cells.old }
+    requires within { count ≤ table.shared.table_id.words }
+    requires none { cells.old.items ≡ [] }
+    requires room { count ≤ vec_capacity cells.old }
+    ensures ended { HasEnded Q.holds Q.fresh table.shared.key seat.id seat.me.0 cells.new.items }
+    ensures size { length cells.new.items ≡ count }
 {
     let closed = table.close_with(seat);
-    for place in 0..cells.len() {
-        cells[place] = closed.word(place);
+    for place in 0..count {
+        cells.push_reserved(closed.word(place));
     }
     closed.free();
 }

@@ -207,9 +207,9 @@ impl WithdrawWords {
     {
         let Self { shape, table } = self;
         let left = left_seats(alloc, seats)?;
-        let mut cells = vec![in alloc; 0; shape.cells]?;
+        let mut cells = Vec::with_capacity(alloc, shape.cells)?;
         let whole = join_seats(&table.shared, left);
-        close_table(table, whole, &mut cells);
+        close_table(table, whole, shape.cells, &mut cells);
         Ok(cells)
     }
 }

@@ -4,7 +4,7 @@ ghost use Rattle.ballot_record.specs.Record.{ballot};
 ghost use Rattle.body_store.specs.Contents.{ballots_of};
 
 use crate::build::index::Index;
-use ballot_record::{Election, LineFault, LineWhy, Record, read_line};
+use ballot_record::{Election, LineFault, LineWhy, Record, read_line_into};
 use outside_io::Memory;
 use std::alloc::{AllocFailed, Global};
 
@@ -48,12 +48,11 @@ pub struct Ballots {
 
 impl Ballots {
     ghost use Rattle.ballot_store_cli.specs.Ballots.{Adds, Judges, IsSound, ballots_so_far};
-    ghost use Rattle.store_spec.specs.Election.{Election};
 
     /// Those of no line, with room for as many as the election allows.
     pub fn new(alloc: Global, election: &Election) -> Result<Ballots, Memory>
         ensures none { IfOk result (λ ballots. ballots_so_far ballots ≡ []) }
-        ensures sound { IfOk result (λ ballots. (e : Election) → IsSound e ballots) }
+        ensures sound { IfOk result (IsSound election.now) }
     {
         Ok(Ballots {
             records: Vec::with_capacity(alloc, election.limit() as usize)?,
@@ -66,8 +65,9 @@ impl Ballots {
         requires { IsSound election.now self.old }
         ensures { Judges result election.now line.now self.old self.new }
     {
-        match read_line(line, election) {
-            Ok(record) => self.add(&record, election),
+        let mut read = Record::blank();
+        match read_line_into(line, election, &mut read) {
+            Ok(()) => self.add(&read, election),
             Err(LineFault::Malformed) => Err(Refusal::Bad(LineWhy::Malformed)),
             Err(LineFault::Invalid) => Err(Refusal::Bad(LineWhy::Invalid)),
         }
@@ -92,7 +92,7 @@ impl Ballots {
             return Err(Refusal::Bad(LineWhy::Full));
         }
         self.index.note(&self.records, cast, place)?;
-        self.records.push(*cast)?;
+        self.records.push_reserved(*cast);
         Ok(())
     }
 

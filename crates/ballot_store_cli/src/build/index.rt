@@ -1,4 +1,4 @@
-ghost use Rattle.std.specs.Prelude.{◌≡◌, ◌^◌, ◌<◌, ◌==◌, ◌++◌, ◌∷◌, [], Some, find, length, IfOk, MatchResult, OnOk};
+ghost use Rattle.std.specs.Prelude.{◌≡◌, ◌+◌, ◌^◌, ◌<◌, ◌==◌, ◌++◌, ◌∷◌, [], Some, find, length, IfOk, MatchResult, OnOk};
 ghost use Rattle.ballot_record.specs.declared.record.Record as declared;
 ghost use Rattle.ballot_store_cli.specs.Index.{IsAbsent, IsIndexOf, IsPlaceOf, slot_of};
 
@@ -7,19 +7,22 @@ use outside_io::Memory;
 use std::alloc::Global;
 use std::collections::BTreeMap;
 
-/// How many slots an index has.
+/// How many slots there are at which a number's search may begin.
 const SLOTS: usize = 1 << 17;
+
+/// How many slots a number may stand in, from the one at which its search begins.
+const REACH: usize = 8;
 
 /// 2 ^ 64 divided by the golden ratio, the multiplier of a Fibonacci hash.
 const MULTIPLIER: u64 = 0x9E37_79B9_7F4A_7C15;
 
-/// Where records stand in a list, by their numbers. A look-up looks at one slot, and at a tree only where the slot is
-/// that of another number, so that numbers chosen on purpose cost no more than a tree does.
+/// Where records stand in a list, by their numbers. A look-up goes through a few slots, and to a tree only where other
+/// numbers have taken them all, so that numbers chosen on purpose cost no more than a tree and eight looks do.
 #[derive(Drop)]
 pub struct Index {
-    /// In each slot the place of the first record whose number has it, or of a record whose number has another slot.
-    firsts: Vec<u16>,
-    /// The records whose slot an earlier one has.
+    /// In each slot 1 more than the place of a record, or 0 where it is free. There are enough that no search wraps.
+    slots: Vec<u16>,
+    /// The records whose slots others had all taken.
     others: BTreeMap<u64, Record>,
 }
 
@@ -34,9 +37,9 @@ fn slot_of(number: u64) -> usize
 /// Where the record of a number is to be noted that no record has.
 #[derive(Clone, Copy)]
 pub enum Place {
-    /// In this slot, which is that of no record.
+    /// In this slot, which is the first free one of its search.
     Slot(usize),
-    /// Among the others, since an earlier record has its slot.
+    /// Among the others, since none of its slots is free.
     Others,
 }
 
@@ -46,7 +49,7 @@ impl Index {
         ensures { IfOk result (λ index. IsIndexOf index []) }
     {
         Ok(Index {
-            firsts: vec![in alloc; 0; SLOTS]?,
+            slots: vec![in alloc; 0; SLOTS + REACH]?,
             others: BTreeMap::new(alloc),
         })
     }
@@ -56,17 +59,18 @@ impl Index {
         requires { IsIndexOf self.now records.now }
         ensures { MatchResult result
             (λ held. find (λ (r : declared.Record). r.number == number) records.now ≡ Some held.now)
-            (λ place. IsAbsent records.now number × IsPlaceOf place self.now records.now number) }
+            (λ place. IsAbsent records.now number × IsPlaceOf place self.now number) }
     {
-        let slot = slot_of(number);
-        let Some(first) = records.get(usize::from(self.firsts[slot])) else {
-            return Err(Place::Slot(slot));
-        };
-        if first.number == number {
-            return Ok(first);
-        }
-        if slot_of(first.number) != slot {
-            return Err(Place::Slot(slot));
+        let home = slot_of(number);
+        for at in home..home + REACH {
+            let place = usize::from(self.slots[at]);
+            if place == 0 {
+                return Err(Place::Slot(at));
+            }
+            let held = &records[place - 1];
+            if held.number == number {
+                return Ok(held);
+            }
         }
         match self.others.get(&number) {
             Some(other) => Ok(other),
@@ -78,12 +82,12 @@ impl Index {
     pub fn note(&mut self, records: &[Record], cast: &Record, place: Place) -> Result<(), Memory>
         requires index { IsIndexOf self.old records.now }
         requires absent { IsAbsent records.now cast.now.number }
-        requires place { IsPlaceOf place self.old records.now cast.now.number }
-        requires few { length records.now < 2 ^ 16 }
+        requires place { IsPlaceOf place self.old cast.now.number }
+        requires few { length records.now + 1 < 2 ^ 16 }
         ensures { OnOk result (IsIndexOf self.new (records.now ++ cast.now ∷ [])) }
     {
         match place {
-            Place::Slot(slot) => self.firsts[slot] = records.len() as u16,
+            Place::Slot(at) => self.slots[at] = records.len() as u16 + 1,
             Place::Others => {
                 self.others.insert(cast.number, *cast)?;
             }

@@ -117,3 +117,27 @@ fn a_placed_number_is_displaced(rt: HostRuntime) {
         assert_eq!(rt; *cell, number, "cell {place}");
     }
 }
+
+/// All steps of a number tell this.
+fn cast(rt: &impl Abort, words: &CastWords, seat: &mut CastSeat, number: u64, note: CastNote)
+    requires belongs { seat.old.words ≡ words.now }
+    requires at_rest { seat.old.view.state ≡ Rest }
+    requires may_begin { MayBegin words.now number }
+    ensures words { seat.new.words ≡ words.now }
+    ensures at_rest { seat.new.view.state ≡ Rest }
+{
+    assert_eq!(rt; words.cast(seat, number), note);
+    assert!(rt; is_at_rest(seat));
+}
+
+/// The same two numbers, each in one call, and the first of them again.
+#[test]
+fn numbers_in_one_call_each(rt: HostRuntime) {
+    let (words, mut seats) = CastWords::new(rt.alloc(), EXAMPLE, &[0; 16], 1).expect(&rt, "memory");
+    let mut seat = seats.pop().expect(&rt, "a seat");
+    cast(&rt, &words, &mut seat, 1, CastNote::Claimed);
+    cast(&rt, &words, &mut seat, 9, CastNote::Claimed);
+    cast(&rt, &words, &mut seat, 1, CastNote::Taken);
+    assert_eq!(rt; words.peek(4), 9);
+    assert_eq!(rt; words.peek(5), 1);
+}

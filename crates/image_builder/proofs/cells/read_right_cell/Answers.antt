@@ -1,26 +1,21 @@
-use Rattle.std.proofs.Common.{◌≡◌, ℕ, ◌+◌, ◌<◌, ◌≤◌, List, ◌∷◌, [], ◌++◌, length, take, set, refl, sym, ap, subst, ◌∙◌, arith}
+use Rattle.std.proofs.Common.{◌≡◌, ℕ, ◌<◌, ◌≤◌, List, ◌∷◌, [], ◌++◌, length, refl, sym, ap, ◌∙◌, arith}
 use Rattle.std.proofs.lemmas.Bool.{false≢true}
-use Rattle.std.proofs.lemmas.List.{length-map, length-take-le, map_push, take_more_set}
+use Rattle.std.proofs.lemmas.List.{length-map, map_push}
 use Rattle.ballot_record.proofs.BallotNumbers.{length-numbers_of}
 use Rattle.ballot_record.specs.Record.{ballot}
 use Rattle.ballot_record.specs.declared.record.Record as declared
 use Rattle.body_store.specs.Contents.{ballots_of}
-use Rattle.image_builder.proofs.FirstCells.{AreNext, Goes, ballot_next, blank_more, empty_next, next_as, wrong_next}
+use Rattle.image_builder.proofs.FirstCells.{AreNext, Goes, ballot_next, empty_put, next_as, wrong_next}
 use Rattle.image_builder.proofs.Reaches.{reach_as}
 use Rattle.image_builder.proofs.Wrong.{bad_bytes, misplaced, stands_at, stands_behind, too_many}
 use Rattle.image_builder.proofs.cells.read_right_cell.Goals as goal
-use Rattle.image_builder.specs.Cells.{AreKept, HasSpace, IsRefusedAt, front_of, kept_front, numbers_read}
+use Rattle.image_builder.specs.Cells.{AreKept, kept_front, numbers_read}
 use Rattle.image_builder.specs.Reaches.{IsReach}
 use Rattle.image_builder.specs.declared.cells.CellsRead.{CellsRead}
-use Rattle.image_builder.specs.declared.read.ImageFault.TheVariants.{Damaged}
-use Rattle.store_spec.specs.Election.{Election, IsElection, cell_count, cell_size}
+use Rattle.store_spec.specs.Election.{Election, IsElection, cell_size}
 use Rattle.store_spec.specs.Home.{home_in}
-use Rattle.store_spec.specs.Image.{IsCellOf, IsEmptyCell}
+use Rattle.store_spec.specs.Image.{IsCellOf}
 use Rattle.store_spec.specs.Layout.{MayStand}
-
--- how many numbers were read
-count_read : (e : Election) (cells : CellsRead) → HasSpace e cells → length (numbers_read cells) ≡ cells.count
-count_read e cells wide = length-take-le cells.count cells.numbers.items (omega (arith, wide.count, wide.numbers))
 
 pub returns-in-Bad-clause-refused : goal.returns-in-Bad-clause-refused
 returns-in-Bad-clause-refused c _ =
@@ -28,13 +23,11 @@ returns-in-Bad-clause-refused c _ =
     let numbers = numbers_read c.args.cells.now in
     let ballots = ballots_of c.args.cells.now.records.items in
     let bytes = c.args.bytes.now in
-    let at = count_read e c.args.cells.now c.requires.wide in
     let bad = c.take_cell-read.ensures.bad.0 c.in-Bad.is in
-    subst (λ (place : ℕ). IsRefusedAt e (front_of e numbers ballots ++ bytes) (Damaged place)) at
-    (wrong_next e numbers c.args.cells.now.reaches.items ballots bytes c.requires.election c.requires.kept c.requires.size c.requires.room
+    wrong_next e numbers c.args.cells.now.reaches.items ballots bytes c.requires.election c.requires.kept c.requires.size c.requires.room
     (λ (bank : List ℕ) (goes : Goes e numbers ballots bytes bank).
     bad_bytes e bank (length numbers) numbers ballots c.requires.election c.requires.room goes.read
-    (λ empty. bad.0 (sym goes.cell ∙ empty)) (λ b valid is. bad.1 b (valid, sym goes.cell ∙ is))))
+    (λ empty. bad.0 (sym goes.cell ∙ empty)) (λ b valid is. bad.1 b (valid, sym goes.cell ∙ is)))
 
 pub returns-then-len-limit-clause-refused : goal.returns-then-len-limit-clause-refused
 returns-then-len-limit-clause-refused c _ =
@@ -43,13 +36,11 @@ returns-then-len-limit-clause-refused c _ =
     let records = c.args.cells.now.records.items in
     let ballots = ballots_of records in
     let bytes = c.args.bytes.now in
-    let at = count_read e c.args.cells.now c.requires.wide in
     let held = (c.take_cell-read.ensures.held c.in-Held.record).0 c.in-Held.is in
     let full : e.limit ≤ length ballots = omega (arith, c.if-len-limit.true, c.limit.ensures.limit, c.len.ensures, length-map records ballot) in
-    subst (λ (place : ℕ). IsRefusedAt e (front_of e numbers ballots ++ bytes) (Damaged place)) at
-    (wrong_next e numbers c.args.cells.now.reaches.items ballots bytes c.requires.election c.requires.kept c.requires.size c.requires.room
+    wrong_next e numbers c.args.cells.now.reaches.items ballots bytes c.requires.election c.requires.kept c.requires.size c.requires.room
     (λ (bank : List ℕ) (goes : Goes e numbers ballots bytes bank).
-    too_many e bank (length numbers) numbers ballots (ballot c.in-Held.record) c.requires.election c.requires.room goes.read held.0 (goes.cell ∙ held.1) full))
+    too_many e bank (length numbers) numbers ballots (ballot c.in-Held.record) c.requires.election c.requires.room goes.read held.0 (goes.cell ∙ held.1) full)
 
 pub returns-in_default-clause-refused : goal.returns-in_default-clause-refused
 returns-in_default-clause-refused c _ =
@@ -57,48 +48,34 @@ returns-in_default-clause-refused c _ =
     let numbers = numbers_read c.args.cells.now in
     let ballots = ballots_of c.args.cells.now.records.items in
     let bytes = c.args.bytes.now in
-    let at = count_read e c.args.cells.now c.requires.wide in
     let held = (c.take_cell-read.ensures.held c.in-Held.record).0 c.in-Held.is in
     let b = ballot c.in-Held.record in
     let may_not : ¬ MayStand (home_in e) numbers b.number (length numbers) =
-    λ may. false≢true (c.in_default.ensures.stands.1 (stands_behind (home_in e) (take c.args.cells.now.count c.deref.result.now) numbers b.number (length numbers) (ap (take c.args.cells.now.count) c.deref.ensures.value) refl may)) in
-    subst (λ (place : ℕ). IsRefusedAt e (front_of e numbers ballots ++ bytes) (Damaged place)) at
-    (wrong_next e numbers c.args.cells.now.reaches.items ballots bytes c.requires.election c.requires.kept c.requires.size c.requires.room
+    λ may. false≢true (c.in_default.ensures.stands.1 (stands_behind (home_in e) c.deref.result.now numbers b.number (length numbers) c.deref.ensures.value refl may)) in
+    wrong_next e numbers c.args.cells.now.reaches.items ballots bytes c.requires.election c.requires.kept c.requires.size c.requires.room
     (λ (bank : List ℕ) (goes : Goes e numbers ballots bytes bank).
-    misplaced e bank (length numbers) numbers ballots b c.requires.election c.requires.room goes.read held.0 (goes.cell ∙ held.1) may_not))
-
--- an empty cell more
-empty_read : (e : Election) (cells : CellsRead) (bytes : List ℕ) → IsElection e → AreKept e cells → HasSpace e cells → length (numbers_read cells) < cell_count e → length bytes ≡ cell_size e → IsEmptyCell e bytes
-    → AreNext e (kept_front e cells) bytes (take (cells.count + 1) cells.numbers.items) cells.reaches.items (ballots_of cells.records.items)
-empty_read e cells bytes election kept wide room size empty =
-    let numbers = numbers_read cells in
-    let reaches = cells.reaches.items in
-    let ballots = ballots_of cells.records.items in
-    next_as e (kept_front e cells) bytes (numbers ++ 0 ∷ []) (take (cells.count + 1) cells.numbers.items) reaches reaches ballots ballots
-    (empty_next e numbers reaches ballots bytes election kept size empty)
-    (blank_more cells.numbers.items cells.count 1 wide.blank (omega (arith, room, count_read e cells wide, wide.numbers))) refl refl
+    misplaced e bank (length numbers) numbers ballots b c.requires.election c.requires.room goes.read held.0 (goes.cell ∙ held.1) may_not)
 
 pub returns-in-Empty-clause-kept : goal.returns-in-Empty-clause-kept
 returns-in-Empty-clause-kept c _ =
-    let next = empty_read c.args.election.now c.args.cells.now c.args.bytes.now c.requires.election c.requires.kept c.requires.wide c.requires.room c.requires.size (c.take_cell-read.ensures.empty.0 c.in-Empty.is) in
+    let next = empty_put c.args.election.now c.args.cells.now c.push_reserved.new.self.items c.args.bytes.now c.requires.election c.requires.kept (c.take_cell-read.ensures.empty.0 c.in-Empty.is) c.push_reserved.ensures.items in
     next.cells
 
 pub returns-in-Empty-clause-fed : goal.returns-in-Empty-clause-fed
 returns-in-Empty-clause-fed c _ =
-    let next = empty_read c.args.election.now c.args.cells.now c.args.bytes.now c.requires.election c.requires.kept c.requires.wide c.requires.room c.requires.size (c.take_cell-read.ensures.empty.0 c.in-Empty.is) in
+    let next = empty_put c.args.election.now c.args.cells.now c.push_reserved.new.self.items c.args.bytes.now c.requires.election c.requires.kept (c.take_cell-read.ensures.empty.0 c.in-Empty.is) c.push_reserved.ensures.items in
     next.fed
 
 -- the record of the next cell is put behind those so far, with its reach
 record IsPut (cells now : CellsRead) (r : declared.Record) (from : ℕ) : Type 0 where
-  count : now.count ≡ cells.count + 1
-  numbers : now.numbers.items ≡ set cells.numbers.items cells.count r.number
+  numbers : now.numbers.items ≡ cells.numbers.items ++ r.number ∷ []
   records : now.records.items ≡ cells.records.items ++ r ∷ []
   reaches : now.reaches.items ≡ cells.reaches.items ++ from ∷ []
 
-held_read : (e : Election) (cells now : CellsRead) (r : declared.Record) (from : ℕ) (bytes before : List ℕ) → IsElection e → AreKept e cells → HasSpace e cells → length (numbers_read cells) < cell_count e → length bytes ≡ cell_size e
+held_read : (e : Election) (cells now : CellsRead) (r : declared.Record) (from : ℕ) (bytes before : List ℕ) → IsElection e → AreKept e cells → length bytes ≡ cell_size e
     → IsCellOf e bytes (ballot r) → length cells.records.items < e.limit → before ≡ numbers_read cells → MayStand (home_in e) before r.number (length before) → IsReach before r.number (length before) from → IsPut cells now r from
     → AreNext e (kept_front e cells) bytes (numbers_read now) now.reaches.items (ballots_of now.records.items)
-held_read e cells now r from bytes before election kept wide room size held few same stands reach put =
+held_read e cells now r from bytes before election kept size held few same stands reach put =
     let numbers = numbers_read cells in
     let reaches = cells.reaches.items in
     let records = cells.records.items in
@@ -109,8 +86,7 @@ held_read e cells now r from bytes before election kept wide room size held few 
     (stands_at (home_in e) before numbers b.number (length numbers) same refl stands)
     (omega (arith, few, length-map records ballot))
     (reach_as numbers before b.number from reach same))
-    (ap (λ n. take n now.numbers.items) put.count ∙ ap (take (cells.count + 1)) put.numbers ∙ take_more_set cells.numbers.items cells.count b.number (omega (arith, room, count_read e cells wide, wide.numbers)))
-    put.reaches
+    put.numbers put.reaches
     (ap ballots_of put.records ∙ map_push ballot records r)
 
 pub put-requires-clause-reaches : goal.put-requires-clause-reaches
@@ -124,9 +100,9 @@ returns-in-Some-clause-kept c _ =
     let cells = c.args.cells.now in
     let wanted = c.requires in
     let is = c.put.ensures in
-    let next = held_read c.args.election.now cells c.put.new.cells c.in-Held.record c.in-Some.reach c.args.bytes.now (take cells.count c.deref.result.now) wanted.election wanted.kept wanted.wide wanted.room wanted.size
-    ((c.take_cell-read.ensures.held c.in-Held.record).0 c.in-Held.is) (omega (arith, c.if-len-limit.false, c.limit.ensures.limit, c.len.ensures)) (ap (take cells.count) c.deref.ensures.value)
-    (c.in-Some.ensures.stands.0 refl) c.in-Some.ensures.reach (record { count = is.count; numbers = is.numbers; records = is.records; reaches = is.reaches }) in
+    let next = held_read c.args.election.now cells c.put.new.cells c.in-Held.record c.in-Some.reach c.args.bytes.now c.deref.result.now wanted.election wanted.kept wanted.size
+    ((c.take_cell-read.ensures.held c.in-Held.record).0 c.in-Held.is) (omega (arith, c.if-len-limit.false, c.limit.ensures.limit, c.len.ensures)) c.deref.ensures.value
+    (c.in-Some.ensures.stands.0 refl) c.in-Some.ensures.reach (record { numbers = is.numbers; records = is.records; reaches = is.reaches }) in
     next.cells
 
 pub returns-in-Some-clause-fed : goal.returns-in-Some-clause-fed
@@ -134,7 +110,7 @@ returns-in-Some-clause-fed c _ =
     let cells = c.args.cells.now in
     let wanted = c.requires in
     let is = c.put.ensures in
-    let next = held_read c.args.election.now cells c.put.new.cells c.in-Held.record c.in-Some.reach c.args.bytes.now (take cells.count c.deref.result.now) wanted.election wanted.kept wanted.wide wanted.room wanted.size
-    ((c.take_cell-read.ensures.held c.in-Held.record).0 c.in-Held.is) (omega (arith, c.if-len-limit.false, c.limit.ensures.limit, c.len.ensures)) (ap (take cells.count) c.deref.ensures.value)
-    (c.in-Some.ensures.stands.0 refl) c.in-Some.ensures.reach (record { count = is.count; numbers = is.numbers; records = is.records; reaches = is.reaches }) in
+    let next = held_read c.args.election.now cells c.put.new.cells c.in-Held.record c.in-Some.reach c.args.bytes.now c.deref.result.now wanted.election wanted.kept wanted.size
+    ((c.take_cell-read.ensures.held c.in-Held.record).0 c.in-Held.is) (omega (arith, c.if-len-limit.false, c.limit.ensures.limit, c.len.ensures)) c.deref.ensures.value
+    (c.in-Some.ensures.stands.0 refl) c.in-Some.ensures.reach (record { numbers = is.numbers; records = is.records; reaches = is.reaches }) in
     next.fed

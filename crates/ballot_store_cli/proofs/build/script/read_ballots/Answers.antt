@@ -19,7 +19,7 @@ pub lines-init : goal.lines-init
 lines-init g c = record {
   read = read_nothing c.in_ok-lines.lines c.in_ok-lines.ensures.text c.in_ok-lines.ensures.room
       (subst (λ (ballots : List Ballot). AreSpelled c.args.election.now ballots []) (sym c.in_ok-ballots.ensures.none) ([], refl, tt));
-  sound = c.in_ok-ballots.ensures.sound c.args.election.now;
+  sound = c.in_ok-ballots.ensures.sound;
   counted = omega (arith, ap length c.in_ok-ballots.ensures.none);
   no_fault = refl;
 }

@@ -1,15 +1,14 @@
 use Rattle.std.proofs.Common.{◌≡◌, ℕ, List, Result, Ok, Err, IfOk, length, sym, ap, subst, ◌∙◌}
 use Rattle.std.specs.List.Sorted.{IsPermutation}
 use Rattle.body_store.specs.Contents.{Contents, IsStored, ballots_of}
-use Rattle.image_builder.proofs.Fed.{IsOwn, all_fed, cells_fed, image_fed, own_parts}
+use Rattle.image_builder.proofs.Fed.{IsOwn, cells_fed, image_fed, own_parts}
 use Rattle.image_builder.proofs.Listings.{image_of-IsPermutation}
 use Rattle.image_builder.proofs.Reading.{listing_ordered}
 use Rattle.image_builder.proofs.reader.ImageReader.finish.Goals as goal
 use Rattle.image_builder.specs.Cells.{numbers_read}
 use Rattle.store_spec.specs.Ballot.{Ballot, IsBallotSet, IsWithinLimit}
-use Rattle.store_spec.specs.Election.{Election, IsElection, bank_size, cell_count}
+use Rattle.store_spec.specs.Election.{Election, IsElection, bank_size}
 use Rattle.store_spec.specs.Image.{IsImageOf}
-use Rattle.store_spec.specs.Layout.{numbers_in}
 
 -- a store that holds the ballots that were read
 image_held : (e : Election) (header numbers reaches : List ℕ) (ballots : List Ballot) (part fed : List ℕ) (store : Contents) → IsOwn e header numbers reaches ballots part fed → length fed ≡ bank_size e
@@ -49,24 +48,15 @@ from_cells-requires-clause-layout c =
     let cells = kept.cells in
     let ballots = ballots_of cells.records.items in
     let own = own_parts e kept.election.value kept.header (numbers_read cells) cells.reaches.items ballots kept.part.items c.args.self c.self.view_is c.requires.own c.self.invariant.parts in
-    let whole = ap length own.fed_so_far ∙ c.requires.whole in
-    let same : kept.election.value ≡ e = ap (λ f. f.election) c.self.view_is ∙ sym c.requires.own in
-    let long : length cells.numbers.items ≡ cell_count e = c.self.invariant.room.numbers ∙ ap cell_count same in
-    let all = all_fed e kept.header cells.numbers.items cells.count cells.reaches.items ballots kept.part.items c.contests.ensures.valid own.parts whole long in
-    sym all ∙ cells_fed e kept.header (numbers_read cells) cells.reaches.items ballots kept.part.items c.contests.ensures.valid own.parts whole
+    cells_fed e kept.header (numbers_read cells) cells.reaches.items ballots kept.part.items c.contests.ensures.valid own.parts (ap length own.fed_so_far ∙ c.requires.whole)
 
 pub from_cells-requires-clause-in_turn : goal.from_cells-requires-clause-in_turn
 from_cells-requires-clause-in_turn c =
     let e = c.args.election.now in
     let kept = c.self.inside in
     let cells = kept.cells in
-    let ballots = ballots_of cells.records.items in
-    let own = own_parts e kept.election.value kept.header (numbers_read cells) cells.reaches.items ballots kept.part.items c.args.self c.self.view_is c.requires.own c.self.invariant.parts in
-    let whole = ap length own.fed_so_far ∙ c.requires.whole in
-    let same : kept.election.value ≡ e = ap (λ f. f.election) c.self.view_is ∙ sym c.requires.own in
-    let long : length cells.numbers.items ≡ cell_count e = c.self.invariant.room.numbers ∙ ap cell_count same in
-    let all = all_fed e kept.header cells.numbers.items cells.count cells.reaches.items ballots kept.part.items c.contests.ensures.valid own.parts whole long in
-    own.parts.cells.same ∙ ap numbers_in all
+    let own = own_parts e kept.election.value kept.header (numbers_read cells) cells.reaches.items (ballots_of cells.records.items) kept.part.items c.args.self c.self.view_is c.requires.own c.self.invariant.parts in
+    own.parts.cells.same
 
 pub returns-clause-image : goal.returns-clause-image
 returns-clause-image c =

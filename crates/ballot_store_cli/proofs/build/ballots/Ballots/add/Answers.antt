@@ -41,16 +41,17 @@ returns c =
     let cast = c.args.cast.now in
     let records = old.records.items in
     let none : found_in records cast.number ≡ None = ap (λ records. found_in records cast.number) (sym c.deref.ensures.value) ∙ c.in-Err.ensures.0 in
-    let so_far : map ballot c.push.new.self.items ≡ map ballot records ++ ballot cast ∷ [] = ap (map ballot) c.in_ok-push.ensures.items ∙ map_push ballot records cast in
+    let so_far : map ballot c.push_reserved.new.self.items ≡ map ballot records ++ ballot cast ∷ [] = ap (map ballot) c.push_reserved.ensures.items ∙ map_push ballot records cast in
     let room : length (map ballot records) < c.args.election.now.limit = omega (arith, length-map records ballot, c.if-len-limit.false, c.limit.ensures.limit) in
     let listing = listing_grown c.args.election.now (map ballot records) (ballot cast) c.requires.sound.listing c.requires.valid (ballot_missing records cast.number none) in
     let P : List Ballot → Type 0 = λ ballots. IsListing c.args.election.now ballots in
     let noted : IsIndexOf c.note.new.self (records ++ cast ∷ []) = subst (λ (records : List Record). IsIndexOf c.note.new.self (records ++ cast ∷ [])) c.deref-2.ensures.value c.in_ok-note.ensures in
-    let grown = subst (λ (records : List Record). IsIndexOf c.note.new.self records) (sym c.in_ok-push.ensures.items) noted in (
+    let grown = subst (λ (records : List Record). IsIndexOf c.note.new.self records) (sym c.push_reserved.ensures.items) noted in (
       so_far,
       record {
         listing = subst P (sym so_far) listing;
         within_limit = omega (arith, ap length so_far, length-append (map ballot records) (ballot cast ∷ []), room);
         indexed = grown;
+        room = omega (arith, c.push_reserved.ensures.capacity, c.requires.sound.room);
       },
     )

@@ -1,46 +1,48 @@
-use Rattle.std.proofs.Common.{◌≢◌, ℕ, ◌∙◌, ap, sym, subst, length, arith}
-use Rattle.std.proofs.Math.ListN.{set, length-set}
-use Rattle.std.proofs.lemmas.List.{get_or-set_same, get_or-set_other}
+use Rattle.std.proofs.Common.{[], ◌∷◌, ◌+◌, ◌<◌, subst, ◌∙◌, arith, length-append}
+use Rattle.std.proofs.Math.ListN.{length-set}
 use Rattle.std.specs.BTreeMap.{get}
 use Rattle.std.specs.Ordering.{nat_cmp}
-use Rattle.std.specs.Prelude.{slice_get, slice_index}
-use Rattle.ballot_store_cli.specs.Index.{HasSlot, IsPlaceOf, slot_of}
+use Rattle.std.specs.Prelude.{length}
+use Rattle.ballot_store_cli.specs.Index.{IsPlaceOf}
 use Rattle.ballot_store_cli.specs.declared.build.index.Place.{Place}
-use Rattle.ballot_store_cli.proofs.Slots.{first_grown, first_kept, others_grown, others_kept}
+use Rattle.ballot_store_cli.proofs.Slots.{first_pushed, found_stays, noted_among, noted_in, others_grown, places_grown, slot_below}
 use Rattle.ballot_store_cli.proofs.build.index.Index.note.Goals as goal
+
+pub index_mut-requires : goal.index_mut-requires
+index_mut-requires c =
+    let place = subst (λ (place : Place). IsPlaceOf place c.args.self.now c.args.cast.now.number) c.in-Slot.is c.requires.place in
+    omega (arith, c.requires.index.slots, place.1, slot_below c.args.cast.now.number)
 
 pub returns-in-Slot : goal.returns-in-Slot
 returns-in-Slot c =
     let i = c.requires.index in
-    let firsts = c.args.self.now.firsts.items in
+    let slots = c.args.self.now.slots.items in
     let records = c.args.records.now in
     let cast = c.args.cast.now in
-    let others = get nat_cmp c.args.self.now.others in
-    let slot = c.in-Slot.slot in
-    let place = subst (λ (place : Place). IsPlaceOf place c.args.self.now records cast.number) c.in-Slot.is c.requires.place in
-    let is = place.0 in
-    let new_firsts = set firsts slot (length records) in
-    let free = subst (λ slot. ¬ HasSlot (slice_get records (slice_index firsts slot)) slot) is place.2 in
-    let here = ap (slice_index new_firsts) (sym is) ∙ get_or-set_same firsts slot (length records) 0 (omega (arith, i.slots, place.1)) in
-    let elsewhere = λ (at : ℕ) (differs : at ≢ slot_of cast.number). get_or-set_other firsts slot at (length records) 0 (λ e. differs (e ∙ is)) in
+    let at = c.in-Slot.at in
+    let place = subst (λ (place : Place). IsPlaceOf place c.args.self.now cast.number) c.in-Slot.is c.requires.place in
+    let within : at < length slots = omega (arith, i.slots, place.1, slot_below cast.number) in
     record {
-      slots = length-set firsts slot (length records) ∙ i.slots;
-      held = first_grown firsts new_firsts others records cast i.held i.others c.requires.absent free here elsewhere;
-      others = first_kept others records cast i.others;
+      slots = length-set slots at (length records + 1) ∙ i.slots;
+      places = places_grown slots records cast at place.2 within i.places;
+      first = first_pushed records cast i.first c.requires.absent;
+      noted = noted_in slots records cast at place.2 within (get nat_cmp c.args.self.now.others) place.0 place.1 place.3 i.noted;
+      others = λ number r is. found_stays records cast number r (i.others number r is);
     }
 
 pub returns-in_ok-insert-in-Others : goal.returns-in_ok-insert-in-Others
 returns-in_ok-insert-in-Others c =
     let i = c.requires.index in
-    let firsts = c.args.self.now.firsts.items in
     let records = c.args.records.now in
     let cast = c.args.cast.now in
     let others = get nat_cmp c.args.self.now.others in
     let new_others = get nat_cmp c.insert.new.self in
     let updated = c.in_ok-insert-in-Others.ensures.updates.0 in
-    let has = subst (λ (place : Place). IsPlaceOf place c.args.self.now records cast.number) c.in-Others.is c.requires.place in
+    let taken = subst (λ (place : Place). IsPlaceOf place c.args.self.now cast.number) c.in-Others.is c.requires.place in
     record {
       slots = i.slots;
-      held = others_grown firsts others new_others records cast i.held c.requires.absent has updated;
-      others = others_kept others new_others records cast c.requires.absent i.others updated;
+      places = λ at. omega (arith, i.places at, length-append records (cast ∷ []));
+      first = first_pushed records cast i.first c.requires.absent;
+      noted = noted_among others new_others records cast c.requires.absent updated c.args.self.now.slots.items taken i.first i.noted;
+      others = others_grown others new_others records cast c.requires.absent updated i.others;
     }

@@ -1,11 +1,11 @@
 -- Probes for a number, of which those before the last one told nothing.
-use Rattle.std.proofs.Common.{◌≡◌, ◌≢◌, ℕ, ◌+◌, ◌-◌, ◌<◌, inl, inr, List, [], ◌∷◌, refl, sym, ap, ◌∙◌, subst, arith}
-use Rattle.phase_insert.specs.Gains.{IsNewTo, Probes}
+use Rattle.std.proofs.Common.{◌≡◌, ◌≢◌, ℕ, ◌+◌, ◌-◌, ◌<◌, refl, sym, ap, ◌∙◌, subst, arith}
 use Rattle.store_spec.specs.CastStep.{CastNote, CastRow, CastState, CastView, Table, number_of, view_after}
 use Rattle.store_spec.specs.CastStep.CastNote.{Quiet, Claimed, Taken, Full, Placed}
 use Rattle.store_spec.specs.CastStep.CastRow.{claim_won, claim_met, claim_passed, claims_full, look_passes, look_ready, takes_empty, displaces, lost_passes, lost_ready}
 use Rattle.store_spec.specs.CastStep.CastState.{Rest, Probing, Carrying, Ready}
-use Rattle.word_rule.specs.CastSeats.{IsToldAlike, MakesRow}
+use Rattle.word_rule.proofs.CastKept.{state_after}
+use Rattle.word_rule.specs.CastSeats.{IsAnswer, IsToldAlike, MakesRow, Probes}
 
 -- the state after a probe, by its note
 abbrev pub IsProbeAfter : Table → ℕ → ℕ → CastState → CastNote → Type 0
@@ -36,14 +36,25 @@ row_after t from word found left new note (lost_ready v i s f lost less) = tt
 pub probe_after : (t : Table) (number : ℕ) (old now : CastView) (note : CastNote) (p : Probes t number old note now) → IsProbeAfter t number p.tries now.state note
 probe_after t number old now note p = row_after t (Probing number p.tries) _ p.row.found _ now.state note p.row.leads
 
-pub quiet_probe : (t : Table) (number : ℕ) (old now : CastView) (note : CastNote) → note ≡ Quiet → Probes t number old note now → Probes t number old Quiet now
-quiet_probe t number old now note quiet p = subst (λ (n : CastNote). Probes t number old n now) quiet p
+-- a number looks for a claim word just where nothing was told yet
+pub was_quiet : (t : Table) (number : ℕ) (old now : CastView) (note : CastNote) (x k : ℕ) → now.state ≡ Probing x k → Probes t number old note now → Probes t number old Quiet now
+was_quiet t number old now Quiet x k probing p = p
+was_quiet t number old now Claimed x k probing p = let clash : Probing x k ≡ Carrying number (t.home number) = sym probing ∙ probe_after t number old now Claimed p in absurd cc
+was_quiet t number old now Taken x k probing p = let clash : Probing x k ≡ Rest = sym probing ∙ probe_after t number old now Taken p in absurd cc
+was_quiet t number old now Full x k probing p = let clash : Probing x k ≡ Rest = sym probing ∙ probe_after t number old now Full p in absurd cc
+was_quiet t number old now Placed x k probing p = absurd (probe_after t number old now Placed p)
 
-pub is_not_rest : (t : Table) (number : ℕ) (old now : CastView) → Probes t number old Quiet now → now.state ≢ Rest
-is_not_rest t number old now p rests =
-    let after = probe_after t number old now Quiet p in
-    let same : Probing number (p.tries + 1) ≡ Rest = sym after.0 ∙ rests in
+-- and it is the number that was begun with
+pub own_number : (t : Table) (number : ℕ) (old now : CastView) (note : CastNote) (x k : ℕ) → now.state ≡ Probing x k → Probes t number old note now → x ≡ number
+own_number t number old now note x k probing p =
+    let quiet = was_quiet t number old now note x k probing p in
+    let same : Probing x k ≡ Probing number (quiet.tries + 1) = sym probing ∙ (probe_after t number old now Quiet quiet).0 in
     cc
+
+pub was_told : (t : Table) (number : ℕ) (old now : CastView) (note : CastNote) → ((x k : ℕ) → now.state ≢ Probing x k) → Probes t number old note now → note ≢ Quiet
+was_told t number old now note other p quiet =
+    let last = subst (λ (n : CastNote). Probes t number old n now) quiet p in
+    other number (last.tries + 1) (probe_after t number old now Quiet last).0
 
 -- ---- one probe more
 
@@ -104,34 +115,31 @@ tries_fall t number old mid now note p row =
     subst (λ (s : CastState). tries_left t now.state < tries_left t s) (sym after.0)
     (left_after t number (p.tries + 1) now.state note after.1 (row_after t (Probing number (p.tries + 1)) _ from.found _ now.state note from.leads))
 
--- ---- what is claimed
+-- ---- what is told in the end
 
--- the view of a number that was claimed and placed
-pub claimed_and_placed : (t : Table) (number : ℕ) (old mid now : CastView) → Probes t number old Claimed mid → now ≡ record mid { state = Rest } → now ≡ view_after old number Rest Claimed
-claimed_and_placed t number old mid now p placed = placed ∙ ap (λ (v : CastView). in_state v Rest) p.row.is
+-- what is told of a number, and the view after it
+pub record IsCastSo (number : ℕ) (old now : CastView) (note : CastNote) : Type 0 where
+  pub answers : IsAnswer note
+  pub view : now ≡ view_after old number Rest note
 
-no_more : {X : Type 0} (xs : List X) → ((xs ≢ []) → ⊥) → xs ≡ []
-no_more [] some = refl
-no_more (x ∷ xs) some = absurd (some (λ same. cc))
+-- where the number that was claimed is placed
+pub placed_so : (t : Table) (number v i : ℕ) (old mid now : CastView) (note : CastNote) → mid.state ≡ Carrying v i → Probes t number old note mid → now ≡ record mid { state = Rest } → IsCastSo number old now note
+placed_so t number v i old mid now Quiet carrying p placed = let clash : Carrying v i ≡ Probing number (p.tries + 1) = sym carrying ∙ (probe_after t number old mid Quiet p).0 in absurd cc
+placed_so t number v i old mid now Claimed carrying p placed = record { answers = tt; view = placed ∙ ap (λ (view : CastView). in_state view Rest) p.row.is }
+placed_so t number v i old mid now Taken carrying p placed = let clash : Carrying v i ≡ Rest = sym carrying ∙ probe_after t number old mid Taken p in absurd cc
+placed_so t number v i old mid now Full carrying p placed = let clash : Carrying v i ≡ Rest = sym carrying ∙ probe_after t number old mid Full p in absurd cc
+placed_so t number v i old mid now Placed carrying p placed = absurd (probe_after t number old mid Placed p)
 
-pub claimed_new : (claims : ℕ) (view : CastView) (number : ℕ) → claims ≢ 0 → IsToldAlike view number Claimed → IsNewTo claims view number
-claimed_new claims view number some told = record {
-  some_claim = some;
-  not_accepted = λ c. (told.again (inl c)).0 refl;
-  not_taken = λ c. (told.again (inr c)).0 refl;
-  no_full = no_more view.full (λ some. told.no_room some refl);
-}
+rested : (t : Table) (number : ℕ) (old now : CastView) (note : CastNote) → IsAnswer note → now.state ≡ Rest → Probes t number old note now → IsCastSo number old now note
+rested t number old now note answers rests p = record { answers = answers; view = p.row.is ∙ ap (λ (s : CastState). view_after old number s note) rests }
 
--- a number that was taken, or met full claim words, and the seat rests
-pub taken_gains : (t : Table) (number : ℕ) (old now : CastView) → Probes t number old Taken now → now ≡ view_after old number Rest Taken
-taken_gains t number old now p = p.row.is ∙ ap (λ (s : CastState). view_after old number s Taken) (probe_after t number old now Taken p)
+-- where none was claimed
+pub refused_so : (t : Table) (number : ℕ) (old now : CastView) (note : CastNote) → ((v i : ℕ) → now.state ≢ Carrying v i) → note ≢ Quiet → Probes t number old note now → IsCastSo number old now note
+refused_so t number old now Quiet other some p = absurd (some refl)
+refused_so t number old now Claimed other some p = absurd (other number (t.home number) (probe_after t number old now Claimed p))
+refused_so t number old now Taken other some p = rested t number old now Taken tt (probe_after t number old now Taken p) p
+refused_so t number old now Full other some p = rested t number old now Full tt (probe_after t number old now Full p) p
+refused_so t number old now Placed other some p = absurd (probe_after t number old now Placed p)
 
-pub full_gains : (t : Table) (number : ℕ) (old now : CastView) → Probes t number old Full now → now ≡ view_after old number Rest Full
-full_gains t number old now p = p.row.is ∙ ap (λ (s : CastState). view_after old number s Full) (probe_after t number old now Full p)
-
--- where no note was quiet or placed one, none is left
-pub other_notes : (t : Table) (number : ℕ) (old now : CastView) → Probes t number old Placed now → ⊥
-other_notes t number old now p = probe_after t number old now Placed p
-
-pub in_hand_after : (t : Table) (number : ℕ) (old now : CastView) → Probes t number old Claimed now → (v place : ℕ) × (now.state ≡ Carrying v place)
-in_hand_after t number old now p = (number, t.home number, probe_after t number old now Claimed p)
+pub rests_after : (t : Table) (number : ℕ) (old now : CastView) (note : CastNote) → ((v i : ℕ) → now.state ≢ Carrying v i) → note ≢ Quiet → Probes t number old note now → now.state ≡ Rest
+rests_after t number old now note other some p = let so = refused_so t number old now note other some p in ap (λ (v : CastView). v.state) so.view ∙ state_after old number Rest note

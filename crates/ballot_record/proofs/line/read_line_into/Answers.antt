@@ -2,8 +2,8 @@ use Rattle.std.proofs.Common.{◌∙◌, sym, refl}
 use Rattle.std.proofs.lemmas.Bool.{false≢true}
 use Rattle.ballot_record.specs.Record.{ballot}
 use Rattle.ballot_record.proofs.LineAnswers.{not_a_line, line_read, spells, other_groups, not_valid}
-use Rattle.ballot_record.proofs.line.read_line.Goals as goal
-use Rattle.ballot_record.proofs.line.read_line.Goals.{then-groups-contests-via-then-groups-contests, then-groups-contests-via-else-groups-contests+then-not-valid_up_to}
+use Rattle.ballot_record.proofs.line.read_line_into.Goals as goal
+use Rattle.ballot_record.proofs.line.read_line_into.Goals.{then-groups-contests-via-then-groups-contests, then-groups-contests-via-else-groups-contests+then-not-valid_up_to}
 
 pub returns-in_default-clause-malformed : goal.returns-in_default-clause-malformed
 returns-in_default-clause-malformed c = (λ _. not_a_line c.args.election.now c.args.line.now c.in_default.ensures, λ _. refl)

@@ -1,0 +1,46 @@
+use Rattle.std.proofs.Common.{◌≢◌, ℕ, sym, ap, ◌∙◌, subst}
+use Rattle.step_core.specs.CastTables.{note_of, state_of}
+use Rattle.step_core.specs.Shape.{table_of}
+use Rattle.store_spec.specs.CastStep.{CastState, CastView, view_after}
+use Rattle.store_spec.specs.CastStep.CastState.{Carrying, Rest}
+use Rattle.word_rule.proofs.CastAnswers.{rest_again}
+use Rattle.word_rule.proofs.CastProbes.{placed_so, refused_so, rests_after}
+use Rattle.word_rule.proofs.CastStates.{not_carrying}
+use Rattle.word_rule.proofs.cast.CastWords.cast.Goals as goal
+use Rattle.word_rule.specs.CastSeats.{IsToldAlike}
+use Rattle.word_rule.specs.CastWords.{IsAbout}
+use Rattle.word_rule.specs.Places.{Place}
+
+other : (c : goal.In_default) → (v i : ℕ) → c.claim-state.new.seat.me.0.view.state ≢ Carrying v i
+other c v i same = not_carrying c.claim-state.result.0 c.in_default.not-Carrying v i (sym c.claim-state.ensures.about.state_is ∙ same)
+
+pub invariant_of-seat-in_default : goal.invariant_of-seat-in_default
+invariant_of-seat-in_default c =
+    let claimed = c.claim-state in
+    let rests = rests_after (table_of c.args.self.now.shape) c.args.number c.seat.inside.seat.me.0.view claimed.new.seat.me.0.view (note_of claimed.result.1) (other c) claimed.ensures.told claimed.ensures.probes in
+    rest_again c.args.self.now c.seat.inside claimed.new.seat c.seat.invariant
+    (ap (λ (p : Place CastView). p.view.state) c.seat.view_is ∙ c.requires.at_rest)
+    (subst (λ (s : CastState). IsAbout c.args.self.now s claimed.new.seat) (sym claimed.ensures.about.state_is ∙ rests) claimed.ensures.about)
+
+pub returns-in_default : goal.returns-in_default
+returns-in_default c =
+    let claimed = c.claim-state in
+    let so = refused_so (table_of c.args.self.now.shape) c.args.number c.seat.inside.seat.me.0.view claimed.new.seat.me.0.view (note_of claimed.result.1) (other c) claimed.ensures.told claimed.ensures.probes in
+    record {
+      words = claimed.ensures.about.belongs ∙ sym c.requires.belongs;
+      answers = so.answers;
+      view = so.view ∙ ap (λ (p : Place CastView). view_after p.view c.args.number Rest (note_of claimed.result.1)) c.seat.view_is;
+      told_alike = subst (λ (p : Place CastView). IsToldAlike p.view c.args.number (note_of claimed.result.1)) c.seat.view_is claimed.ensures.told_alike;
+    }
+
+pub returns-in-Carrying : goal.returns-in-Carrying
+returns-in-Carrying c =
+    let claimed = c.claim-state in
+    let so = placed_so (table_of c.args.self.now.shape) c.args.number c.in-Carrying.number c.in-Carrying.place c.seat.inside.seat.me.0.view claimed.new.seat.me.0.view c.place.new.seat.me.0.view (note_of claimed.result.1)
+    (claimed.ensures.about.state_is ∙ ap state_of c.in-Carrying.is) claimed.ensures.probes c.place.ensures.placed in
+    record {
+      words = c.place.ensures.at_rest.belongs ∙ sym c.requires.belongs;
+      answers = so.answers;
+      view = so.view ∙ ap (λ (p : Place CastView). view_after p.view c.args.number Rest (note_of claimed.result.1)) c.seat.view_is;
+      told_alike = subst (λ (p : Place CastView). IsToldAlike p.view c.args.number (note_of claimed.result.1)) c.seat.view_is claimed.ensures.told_alike;
+    }
