@@ -4,7 +4,7 @@ use Rattle.std.proofs.lemmas.List.{take-replicate}
 use Rattle.std.specs.Int.{from_be_bytes, w64}
 use Rattle.store_spec.specs.Ballot.{Ballot, IsValid}
 use Rattle.store_spec.specs.Election.{Election, IsElection, cell_size}
-use Rattle.store_spec.specs.Image.{ballot_bytes}
+use Rattle.store_spec.specs.Image.{IsCellOf, ballot_bytes}
 use Rattle.ballot_record.specs.CellReading.{ballot_at}
 use Rattle.ballot_record.specs.Record.{ballot}
 use Rattle.ballot_record.specs.declared.record.Record.{Record}
@@ -26,17 +26,16 @@ spelled e bytes r cell = cell_spelled e bytes cell.fits cell.long ∙ ap (ballot
 pub only : (e : Election) (bytes : List ℕ) (r : Record) → IsCell e bytes r → (b : Ballot) → IsValid e b → bytes ≡ ballot_bytes e b → ballot r ≡ b
 only e bytes r cell b valid is = cell.read ∙ ap (ballot_at (length e.contests)) is ∙ cell_again e b cell.election valid
 
-pub held_by : (e : Election) (bytes : List ℕ) (r : Record) → IsCell e bytes r → IsValid e (ballot r) → (other : Record) → r ≡ other → IsValid e (ballot other) × (bytes ≡ ballot_bytes e (ballot other))
-held_by e bytes r cell valid other same =
-    let Holds : Record → Type 0 = λ r. IsValid e (ballot r) × (bytes ≡ ballot_bytes e (ballot r)) in
-    subst Holds same (valid, spelled e bytes r cell)
-
 record_like : Ballot → Record
 record_like b = record { number = b.number; style = b.style; marks = b.marks }
 
-pub only_record : (e : Election) (bytes : List ℕ) (r : Record) → IsCell e bytes r → (other : Record) → IsValid e (ballot other) → bytes ≡ ballot_bytes e (ballot other) → r ≡ other
+-- the bytes are those of one record
+pub one_record : (e : Election) (bytes : List ℕ) (r other : Record) → IsElection e → IsCellOf e bytes (ballot r) → IsCellOf e bytes (ballot other) → r ≡ other
 unfolding record_like
-only_record e bytes r cell other valid is = ap record_like (only e bytes r cell (ballot other) valid is)
+one_record e bytes r other election held is =
+    let n = length e.contests in
+    let same : ballot r ≡ ballot other = sym (cell_again e (ballot r) election held.0) ∙ ap (ballot_at n) (sym held.1 ∙ is.1) ∙ cell_again e (ballot other) election is.0 in
+    ap record_like same
 
 pub valid_too : (e : Election) (bytes : List ℕ) (r : Record) → IsCell e bytes r → (b : Ballot) → IsValid e b → bytes ≡ ballot_bytes e b → IsValid e (ballot r)
 valid_too e bytes r cell b valid is = subst (IsValid e) (sym (only e bytes r cell b valid is)) valid

@@ -1,7 +1,7 @@
 ghost use Rattle.std.specs.Prelude.{◌≡◌, ◌+◌, ◌-◌, ◌*◌, ◌≤◌, ◌++◌, ◌↔◌, length, take, drop, replicate, All, IsTrue};
 ghost use Rattle.std.specs.Int.{from_be_bytes, w32};
 ghost use Rattle.store_spec.specs.Ballot.{Ballot, MARK_SETS};
-ghost use Rattle.store_spec.specs.Election.{cell_size};
+ghost use Rattle.store_spec.specs.Election.{IsElection, cell_size};
 ghost use Rattle.store_spec.specs.Image.{IsEmptyCell, IsCellOf};
 ghost use Rattle.ballot_record.specs.CellReading.{sets_at, ballot_at};
 ghost use Rattle.ballot_record.specs.Record.{ballot};
@@ -19,6 +19,17 @@ pub enum CellRead {
     Empty,
     /// The bytes of a valid record.
     Held(Record),
+    /// Other bytes.
+    Bad,
+}
+
+/// What a cell has, whose record is put elsewhere.
+#[derive(Clone, Copy, Debug, PartialEq, Eq)]
+pub enum CellKind {
+    /// Nothing: all bytes are 0.
+    Empty,
+    /// The bytes of a valid record.
+    Held,
     /// Other bytes.
     Bad,
 }
@@ -72,7 +83,30 @@ fn are_zero(bytes: &[u8]) -> bool
     bytes == &ZEROS[..bytes.len()]
 }
 
-/// What stands in a cell under an election: `Bad` is what no store writes.
+/// Puts the record of a cell under an election in place of what stands there, and says what the cell has: `Bad` is what
+/// no store writes. What stands there behind a cell that holds none is no record.
+pub fn take_cell_into(bytes: &[u8], election: &Election, out: &mut Record) -> CellKind
+    requires { length bytes.now ≡ cell_size election.now }
+    ensures empty { (result ≡ CellKind.Empty) ↔ IsEmptyCell election.now bytes.now }
+    ensures held { (result ≡ CellKind.Held) → IsCellOf election.now bytes.now (ballot out.new) }
+    ensures bad { (result ≡ CellKind.Bad)
+        ↔ (¬ IsEmptyCell election.now bytes.now
+        × ((b : Ballot) → ¬ IsCellOf election.now bytes.now b)) }
+    ensures valid { IsElection election.now }
+{
+    let contests = election.contests();
+    *out = Record::blank();
+    put_parts(bytes, contests, out);
+    if out.valid_up_to(election, contests) {
+        CellKind::Held
+    } else if are_zero(bytes) {
+        CellKind::Empty
+    } else {
+        CellKind::Bad
+    }
+}
+
+/// What stands in a cell under an election, judged as by `take_cell_into`.
 pub fn take_cell(bytes: &[u8], election: &Election) -> CellRead
     requires { length bytes.now ≡ cell_size election.now }
     ensures empty { (result ≡ CellRead.Empty) ↔ IsEmptyCell election.now bytes.now }
@@ -82,18 +116,10 @@ pub fn take_cell(bytes: &[u8], election: &Election) -> CellRead
         ↔ (¬ IsEmptyCell election.now bytes.now
         × ((b : Ballot) → ¬ IsCellOf election.now bytes.now b)) }
 {
-    let contests = election.contests();
-    let mut record = Record {
-        number: 0,
-        style: 0,
-        marks: [0; MAX_MARK_SETS],
-    };
-    put_parts(bytes, contests, &mut record);
-    if record.valid_up_to(election, contests) {
-        CellRead::Held(record)
-    } else if are_zero(bytes) {
-        CellRead::Empty
-    } else {
-        CellRead::Bad
+    let mut record = Record::blank();
+    match take_cell_into(bytes, election, &mut record) {
+        CellKind::Empty => CellRead::Empty,
+        CellKind::Held => CellRead::Held(record),
+        CellKind::Bad => CellRead::Bad,
     }
 }

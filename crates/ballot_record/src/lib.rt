@@ -10,7 +10,7 @@ mod line;
 mod print;
 mod record;
 
-pub use cell::{CellRead, take_cell};
+pub use cell::{CellKind, CellRead, take_cell, take_cell_into};
 pub use contest::{Contest, MAX_CHOICES};
 pub use election::{Election, MAX_BITS, MAX_CONTESTS, MAX_LIMIT, MAX_STYLES};
 pub use fault::{LineFault, LineWhy};

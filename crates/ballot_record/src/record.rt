@@ -29,6 +29,8 @@ impl Record {
 
     /// That of no ballot: no number, no style and no marks.
     pub fn blank() -> Record
+        ensures number { result.number ≡ 0 }
+        ensures style { result.style ≡ 0 }
         ensures marks { result.marks ≡ replicate MAX_MARK_SETS 0 }
     {
         Record {

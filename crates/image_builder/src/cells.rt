@@ -11,7 +11,7 @@ ghost use Rattle.store_spec.specs.Layout.{MayStand};
 
 use crate::read::ImageFault;
 use crate::zeros::is_empty;
-use ballot_record::{CellRead, Election, Record, take_cell};
+use ballot_record::{CellKind, Election, Record, take_cell_into};
 use probe_order::{Order, Salted};
 use std::alloc::{AllocError, Global};
 
@@ -184,13 +184,13 @@ fn read_right_cell(cells: &mut CellsRead, bytes: &[u8], election: &Election) -> 
         (kept_front election.now cells.old ++ bytes.now)
         (ImageFault.Damaged (length (numbers_read cells.old))) }
 {
-    let read = take_cell(bytes, election);
-    match &read {
-        CellRead::Empty => {
+    let mut record = Record::blank();
+    match take_cell_into(bytes, election, &mut record) {
+        CellKind::Empty => {
             cells.numbers.push_reserved(0);
             true
         }
-        CellRead::Held(record) => {
+        CellKind::Held => {
             if cells.records.len() >= election.limit() as usize {
                 return false;
             }
@@ -198,10 +198,10 @@ fn read_right_cell(cells: &mut CellsRead, bytes: &[u8], election: &Election) -> 
             let Some(reach) = reach_of(election, &cells.numbers, &cells.reaches, number) else {
                 return false;
             };
-            put(cells, record, reach);
+            put(cells, &record, reach);
             true
         }
-        CellRead::Bad => false,
+        CellKind::Bad => false,
     }
 }
 

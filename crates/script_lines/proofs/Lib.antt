@@ -1,5 +1,6 @@
 pub mod Ballots
 pub mod Decimals
+pub mod Entries
 pub mod Forms
 pub mod GeneratedBallots
 pub mod Left

@@ -1,12 +1,13 @@
 -- What a line of the program says, as the definitions see it.
 use Rattle.ballot_record.specs.Record.{ballot}
-use Rattle.std.specs.Prelude.{ℕ}
+use Rattle.std.specs.Prelude.{ℕ, List}
 use Rattle.ballot_record.specs.declared.record.Record.{Record}
 use Rattle.script_lines.specs.declared.line.Entry.{Entry}
 use Rattle.script_lines.specs.declared.line.Entry.TheVariants as entries
 use Rattle.script_lines.specs.declared.line.Line.{Line}
 use Rattle.script_lines.specs.declared.line.Line.TheVariants as lines
-use Rattle.store_spec.specs.ScriptLine.{ScriptLine}
+use Rattle.store_spec.specs.Election.{Election}
+use Rattle.store_spec.specs.ScriptLine.{Says, ScriptLine}
 use Rattle.store_spec.specs.ScriptLine.ScriptLine.{Open, Cast, CastInvalid, Withdraw, Find, Close, Checkpoint, Tally, Export}
 use Rattle.store_spec.specs.ScriptLine.Work.{Casting, Withdrawing, Finding}
 
@@ -28,3 +29,7 @@ abbrev pub entry_line : ℕ → Entry → Record → ScriptLine
 entry_line tab entries.Cast r = Cast tab (ballot r)
 entry_line tab (entries.Withdraw number) r = Withdraw tab number
 entry_line tab (entries.Find number) r = Find tab number
+
+-- the bytes bring nothing for a list, or no valid ballot
+abbrev pub IsNoEntry : Election → List ℕ → Type 0
+IsNoEntry e bytes = (tab : ℕ) (entry : Entry) (r : Record) → ¬ Says e bytes (entry_line tab entry r)

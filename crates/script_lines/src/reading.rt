@@ -2,7 +2,7 @@ ghost use Rattle.std.specs.Prelude.{ℕ, ◌++◌, ◌∷◌, IfNone, IfSome, Ma
 ghost use Rattle.store_spec.specs.BallotLine.{IsRecordLine, space};
 ghost use Rattle.store_spec.specs.ScriptLine.{IsMalformed, IsTab, Says, item_text, work_text};
 ghost use Rattle.store_spec.specs.Election as definition;
-ghost use Rattle.script_lines.specs.Line.{entry_line, script_line};
+ghost use Rattle.script_lines.specs.Line.{IsNoEntry, entry_line, script_line};
 ghost use Rattle.script_lines.specs.Words.{IsNoCommand, IsNoItem, IsNoOpening, work};
 
 use crate::words::{MAX_TABS, Work, after_word, take_tab, take_work, whole_number};
@@ -90,14 +90,16 @@ pub fn read_script_line(line: &[u8], election: &Election) -> Option<Line>
 
 /// What this work does with the bytes behind its tabulator.
 fn entry_of(named: Work, rest: &[u8], election: &Election, out: &mut Record) -> Option<Entry>
-    ensures { IfSome result (λ entry. (tab : ℕ) → IsTab tab
+    ensures entry { IfSome result (λ entry. (tab : ℕ) → IsTab tab
         → Says election.now (item_text (work named) tab rest.now) (entry_line tab entry out.new)) }
+    ensures none { IfNone result ((tab : ℕ) → IsTab tab
+        → IsNoEntry election.now (item_text (work named) tab rest.now)) }
 {
     match named {
-        Work::Casting => {
-            read_line_into(rest, election, out).ok()?;
-            Some(Entry::Cast)
-        }
+        Work::Casting => match read_line_into(rest, election, out) {
+            Ok(()) => Some(Entry::Cast),
+            Err(_) => None,
+        },
         Work::Withdrawing => {
             let number = whole_number(rest, u64::MAX)?;
             Some(Entry::Withdraw { number })
@@ -112,8 +114,9 @@ fn entry_of(named: Work, rest: &[u8], election: &Election, out: &mut Record) -> 
 /// What a line brings for the list of a tabulator, and of which. The ballot of a cast is put in place of what stands in
 /// `out`. `None` where it brings nothing for a list, or no valid ballot.
 pub fn read_entry(line: &[u8], election: &Election, out: &mut Record) -> Option<(u8, Entry)>
-    ensures { IfSome result
+    ensures entry { IfSome result
         (λ x. IsTab x.0 × Says election.now line.now (entry_line x.0 x.1 out.new)) }
+    ensures none { IfNone result (IsNoEntry election.now line.now) }
 {
     let (named, behind) = take_work(line)?;
     let (tab, rest) = take_tab(behind)?;

@@ -23,7 +23,7 @@ returns-in-Bad-clause-refused c _ =
     let numbers = numbers_read c.args.cells.now in
     let ballots = ballots_of c.args.cells.now.records.items in
     let bytes = c.args.bytes.now in
-    let bad = c.take_cell-read.ensures.bad.0 c.in-Bad.is in
+    let bad = c.take_cell_into.ensures.bad.0 c.in-Bad.is in
     wrong_next e numbers c.args.cells.now.reaches.items ballots bytes c.requires.election c.requires.kept c.requires.size c.requires.room
     (λ (bank : List ℕ) (goes : Goes e numbers ballots bytes bank).
     bad_bytes e bank (length numbers) numbers ballots c.requires.election c.requires.room goes.read
@@ -36,11 +36,11 @@ returns-then-len-limit-clause-refused c _ =
     let records = c.args.cells.now.records.items in
     let ballots = ballots_of records in
     let bytes = c.args.bytes.now in
-    let held = (c.take_cell-read.ensures.held c.in-Held.record).0 c.in-Held.is in
+    let held = c.take_cell_into.ensures.held c.in-Held.is in
     let full : e.limit ≤ length ballots = omega (arith, c.if-len-limit.true, c.limit.ensures.limit, c.len.ensures, length-map records ballot) in
     wrong_next e numbers c.args.cells.now.reaches.items ballots bytes c.requires.election c.requires.kept c.requires.size c.requires.room
     (λ (bank : List ℕ) (goes : Goes e numbers ballots bytes bank).
-    too_many e bank (length numbers) numbers ballots (ballot c.in-Held.record) c.requires.election c.requires.room goes.read held.0 (goes.cell ∙ held.1) full)
+    too_many e bank (length numbers) numbers ballots (ballot c.take_cell_into.new.out) c.requires.election c.requires.room goes.read held.0 (goes.cell ∙ held.1) full)
 
 pub returns-in_default-clause-refused : goal.returns-in_default-clause-refused
 returns-in_default-clause-refused c _ =
@@ -48,8 +48,8 @@ returns-in_default-clause-refused c _ =
     let numbers = numbers_read c.args.cells.now in
     let ballots = ballots_of c.args.cells.now.records.items in
     let bytes = c.args.bytes.now in
-    let held = (c.take_cell-read.ensures.held c.in-Held.record).0 c.in-Held.is in
-    let b = ballot c.in-Held.record in
+    let held = c.take_cell_into.ensures.held c.in-Held.is in
+    let b = ballot c.take_cell_into.new.out in
     let may_not : ¬ MayStand (home_in e) numbers b.number (length numbers) =
     λ may. false≢true (c.in_default.ensures.stands.1 (stands_behind (home_in e) c.deref.result.now numbers b.number (length numbers) c.deref.ensures.value refl may)) in
     wrong_next e numbers c.args.cells.now.reaches.items ballots bytes c.requires.election c.requires.kept c.requires.size c.requires.room
@@ -58,12 +58,12 @@ returns-in_default-clause-refused c _ =
 
 pub returns-in-Empty-clause-kept : goal.returns-in-Empty-clause-kept
 returns-in-Empty-clause-kept c _ =
-    let next = empty_put c.args.election.now c.args.cells.now c.push_reserved.new.self.items c.args.bytes.now c.requires.election c.requires.kept (c.take_cell-read.ensures.empty.0 c.in-Empty.is) c.push_reserved.ensures.items in
+    let next = empty_put c.args.election.now c.args.cells.now c.push_reserved.new.self.items c.args.bytes.now c.requires.election c.requires.kept (c.take_cell_into.ensures.empty.0 c.in-Empty.is) c.push_reserved.ensures.items in
     next.cells
 
 pub returns-in-Empty-clause-fed : goal.returns-in-Empty-clause-fed
 returns-in-Empty-clause-fed c _ =
-    let next = empty_put c.args.election.now c.args.cells.now c.push_reserved.new.self.items c.args.bytes.now c.requires.election c.requires.kept (c.take_cell-read.ensures.empty.0 c.in-Empty.is) c.push_reserved.ensures.items in
+    let next = empty_put c.args.election.now c.args.cells.now c.push_reserved.new.self.items c.args.bytes.now c.requires.election c.requires.kept (c.take_cell_into.ensures.empty.0 c.in-Empty.is) c.push_reserved.ensures.items in
     next.fed
 
 -- the record of the next cell is put behind those so far, with its reach
@@ -95,22 +95,17 @@ put-requires-clause-reaches c =
     let records = c.args.cells.now.records.items in
     omega (arith, kept.reached.count, ap length kept.same, length-numbers_of (ballots_of records), length-map records ballot, c.requires.wide.reaches, c.if-len-limit.false, c.limit.ensures.limit, c.len.ensures)
 
-pub returns-in-Some-clause-kept : goal.returns-in-Some-clause-kept
-returns-in-Some-clause-kept c _ =
-    let cells = c.args.cells.now in
+-- and then the cells so far are kept, and the bytes are fed
+put_next : (c : goal.After-put) → AreNext c.args.election.now (kept_front c.args.election.now c.args.cells.now) c.args.bytes.now (numbers_read c.put.new.cells) c.put.new.cells.reaches.items (ballots_of c.put.new.cells.records.items)
+put_next c =
     let wanted = c.requires in
     let is = c.put.ensures in
-    let next = held_read c.args.election.now cells c.put.new.cells c.in-Held.record c.in-Some.reach c.args.bytes.now c.deref.result.now wanted.election wanted.kept wanted.size
-    ((c.take_cell-read.ensures.held c.in-Held.record).0 c.in-Held.is) (omega (arith, c.if-len-limit.false, c.limit.ensures.limit, c.len.ensures)) c.deref.ensures.value
-    (c.in-Some.ensures.stands.0 refl) c.in-Some.ensures.reach (record { numbers = is.numbers; records = is.records; reaches = is.reaches }) in
-    next.cells
+    held_read c.args.election.now c.args.cells.now c.put.new.cells c.take_cell_into.new.out c.in-Some.reach c.args.bytes.now c.deref.result.now wanted.election wanted.kept wanted.size
+    (c.take_cell_into.ensures.held c.in-Held.is) (omega (arith, c.if-len-limit.false, c.limit.ensures.limit, c.len.ensures)) c.deref.ensures.value
+    (c.in-Some.ensures.stands.0 refl) c.in-Some.ensures.reach (record { numbers = is.numbers; records = is.records; reaches = is.reaches })
+
+pub returns-in-Some-clause-kept : goal.returns-in-Some-clause-kept
+returns-in-Some-clause-kept c _ = (put_next c).cells
 
 pub returns-in-Some-clause-fed : goal.returns-in-Some-clause-fed
-returns-in-Some-clause-fed c _ =
-    let cells = c.args.cells.now in
-    let wanted = c.requires in
-    let is = c.put.ensures in
-    let next = held_read c.args.election.now cells c.put.new.cells c.in-Held.record c.in-Some.reach c.args.bytes.now c.deref.result.now wanted.election wanted.kept wanted.size
-    ((c.take_cell-read.ensures.held c.in-Held.record).0 c.in-Held.is) (omega (arith, c.if-len-limit.false, c.limit.ensures.limit, c.len.ensures)) c.deref.ensures.value
-    (c.in-Some.ensures.stands.0 refl) c.in-Some.ensures.reach (record { numbers = is.numbers; records = is.records; reaches = is.reaches }) in
-    next.fed
+returns-in-Some-clause-fed c _ = (put_next c).fed

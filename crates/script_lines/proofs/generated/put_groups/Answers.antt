@@ -1,4 +1,4 @@
-use Rattle.std.proofs.Common.{◌≡◌, ◌+◌, ◌-◌, ◌≤◌, ◌++◌, drop, length, ap, sym, ◌∙◌, arith}
+use Rattle.std.proofs.Common.{◌≡◌, ◌+◌, ◌-◌, ◌++◌, drop, length, ap, sym, ◌∙◌, arith}
 use Rattle.script_lines.proofs.Ballots.{group_before, groups_from}
 use Rattle.script_lines.proofs.generated.put_groups.Goals as goal
 use Rattle.store_spec.specs.BallotLine.{group_text}

@@ -11,13 +11,13 @@ use Rattle.store_spec.specs.ScriptLine.{Says}
 use Rattle.store_spec.specs.Session.{Answers, Does}
 
 pub queue_item-requires-clause-tab : goal.queue_item-requires-clause-tab
-queue_item-requires-clause-tab c = c.in-Some.ensures.0
+queue_item-requires-clause-tab c = c.in-Some.ensures.entry.0
 
 pub queue_item-requires-clause-item : goal.queue_item-requires-clause-item
 queue_item-requires-clause-item c =
     let e = c.args.self.now.closed.election in
     let tab = c.in-Some.tab in
-    let says = subst (λ (x : Election). Says x c.args.line.now (entry_line tab c.in-Some.entry c.read_entry.new.out)) c.election.ensures.election c.in-Some.ensures.1 in
+    let says = subst (λ (x : Election). Says x c.args.line.now (entry_line tab c.in-Some.entry c.read_entry.new.out)) c.election.ensures.election c.in-Some.ensures.entry.1 in
     (item_can_wait e c.args.line.now tab c.entered.result (subst (Says e c.args.line.now) (c.entered.ensures tab) says)).1
 
 pub returns-in-Some-clause-queued : goal.returns-in-Some-clause-queued
@@ -27,7 +27,7 @@ returns-in-Some-clause-queued c = λ index.
     let new = state_of c.queue_item.new.self in
     let tab = c.in-Some.tab in
     let line = item_line tab c.entered.result in
-    let says = subst (λ (x : Election). Says x c.args.line.now (entry_line tab c.in-Some.entry c.read_entry.new.out)) c.election.ensures.election c.in-Some.ensures.1 in
+    let says = subst (λ (x : Election). Says x c.args.line.now (entry_line tab c.in-Some.entry c.read_entry.new.out)) c.election.ensures.election c.in-Some.ensures.entry.1 in
     IfOk-weaker c.queue_item.result
     (λ waits. IsQueued waits (Does e index old line (phase_of c.args.self.now.work)) old new)
     (λ waits. IsQueued waits (Answers e index old (Some c.args.line.now)) old new)

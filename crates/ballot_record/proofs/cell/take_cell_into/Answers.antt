@@ -1,0 +1,49 @@
+use Rattle.std.proofs.Common.{drop, refl, ap, arith}
+use Rattle.std.proofs.lemmas.Bool.{false≢true}
+use Rattle.store_spec.specs.Ballot.{Ballot}
+use Rattle.store_spec.specs.Election.{cell_size}
+use Rattle.ballot_record.specs.Record.{ballot}
+use Rattle.ballot_record.proofs.CellAnswers.{cell_read, spelled, valid_too, zeros_of, each_zero}
+use Rattle.ballot_record.proofs.CellReading.{nothing_behind}
+use Rattle.ballot_record.proofs.cell.take_cell_into.Goals as goal
+
+pub returns-then-valid_up_to-clause-held : goal.returns-then-valid_up_to-clause-held
+returns-then-valid_up_to-clause-held c _ =
+    let e = c.args.election.now in
+    let bytes = c.args.bytes.now in
+    let r = c.put_parts.new.parts in
+    let cell = cell_read e bytes r c.contests-contests.result c.contests-contests.ensures.valid (λ i. omega (arith, c.type_inv.bytes i)) c.requires c.contests-contests.ensures.count c.put_parts.ensures in
+    (c.if-valid_up_to.ensures.0 refl, spelled e bytes r cell)
+
+pub returns-then-valid_up_to-clause-bad : goal.returns-then-valid_up_to-clause-bad
+returns-then-valid_up_to-clause-bad c =
+    let e = c.args.election.now in
+    let bytes = c.args.bytes.now in
+    let r = c.put_parts.new.parts in
+    let cell = cell_read e bytes r c.contests-contests.result c.contests-contests.ensures.valid (λ i. omega (arith, c.type_inv.bytes i)) c.requires c.contests-contests.ensures.count c.put_parts.ensures in
+    (λ wrong. absurd cc, λ none. absurd (none.1 (ballot r) (c.if-valid_up_to.ensures.0 refl, spelled e bytes r cell)))
+
+pub returns-then-are_zero-clause-empty : goal.returns-then-are_zero-clause-empty
+returns-then-are_zero-clause-empty c =
+    (λ _. zeros_of c.args.election.now c.args.bytes.now c.requires (c.if-are_zero.ensures.0 refl), λ _. refl)
+
+pub returns-then-are_zero-clause-bad : goal.returns-then-are_zero-clause-bad
+returns-then-are_zero-clause-bad c =
+    (λ wrong. absurd cc, λ none. absurd (none.0 (zeros_of c.args.election.now c.args.bytes.now c.requires (c.if-are_zero.ensures.0 refl))))
+
+pub returns-else-are_zero-clause-bad : goal.returns-else-are_zero-clause-bad
+returns-else-are_zero-clause-bad c =
+    let e = c.args.election.now in
+    let bytes = c.args.bytes.now in
+    let r = c.put_parts.new.parts in
+    let cell = cell_read e bytes r c.contests-contests.result c.contests-contests.ensures.valid (λ i. omega (arith, c.type_inv.bytes i)) c.requires c.contests-contests.ensures.count c.put_parts.ensures in (
+      λ _. (
+        λ zeros. false≢true (c.if-are_zero.ensures.1 (each_zero bytes (cell_size e) zeros)),
+        λ b is. false≢true (c.if-valid_up_to.ensures.1 (valid_too e bytes r cell b is.0 is.1)),
+      ),
+      λ _. refl,
+    )
+
+pub valid_up_to-requires-clause-behind : goal.valid_up_to-requires-clause-behind
+valid_up_to-requires-clause-behind c k past =
+    nothing_behind c.contests-contests.result (drop 9 c.args.bytes.now) c.put_parts.new.parts.marks (ap (λ (b : Ballot). b.marks) c.put_parts.ensures) k past
