@@ -68,6 +68,19 @@ fn assert_calls(rt: &impl Abort, disk: &MemoryDisk, from: u64, calls: &[DiskCall
     }
 }
 
+const INIT_CALLS: [DiskCall; 7] = [
+    DiskCall::Sync,
+    DiskCall::Size,
+    DiskCall::Write { at: 0, count: 304 },
+    DiskCall::Write {
+        at: 304,
+        count: 304,
+    },
+    DiskCall::Sync,
+    DiskCall::Write { at: 608, count: 2 },
+    DiskCall::Sync,
+];
+
 #[test]
 fn init_on_no_bytes(rt: HostRuntime) -> Result<(), Fail> {
     let alloc = rt.alloc();
@@ -76,20 +89,8 @@ fn init_on_no_bytes(rt: HostRuntime) -> Result<(), Fail> {
     let mut scratch = Scratch::new(alloc, &election)?;
     assert_eq!(rt; init(alloc, &mut disk, &election, &mut scratch), Ok(()));
     assert!(rt; disk.bytes() == medium_of(&empty_bank()).as_slice());
-    let made = [
-        DiskCall::Sync,
-        DiskCall::Size,
-        DiskCall::Write { at: 0, count: 304 },
-        DiskCall::Write {
-            at: 304,
-            count: 304,
-        },
-        DiskCall::Sync,
-        DiskCall::Write { at: 608, count: 2 },
-        DiskCall::Sync,
-    ];
     assert_eq!(rt; disk.calls(), 7);
-    assert_calls(&rt, &disk, 0, &made);
+    assert_calls(&rt, &disk, 0, &INIT_CALLS);
     assert_eq!(rt;
         init(alloc, &mut disk, &election, &mut scratch),
         Err(InitFault::Exists)
@@ -102,92 +103,108 @@ fn init_on_other_bytes(rt: HostRuntime) -> Result<(), Fail> {
     let alloc = rt.alloc();
     let election = Election::example();
     let mut scratch = Scratch::new(alloc, &election)?;
-    let bytes = vec![in alloc; 0xa7; 611]?;
-    let mut disk = MemoryDisk::new(alloc, bytes, Vec::new(alloc), ROOM)?;
-    let fault = init(alloc, &mut disk, &election, &mut scratch).err();
-    assert_eq!(rt; fault, Some(InitFault::WrongSize { size: 611 }));
-    assert_eq!(rt; disk.bytes().len(), 611);
-    let bytes = vec![in alloc; 0xa6; 610]?;
-    let mut disk = MemoryDisk::new(alloc, bytes, Vec::new(alloc), ROOM)?;
-    assert_eq!(rt;
-        init(alloc, &mut disk, &election, &mut scratch),
-        Ok(()),
-        "a6 is no open gate"
-    );
-    assert!(rt; disk.bytes() == medium_of(&empty_bank()).as_slice());
-    let bytes = vec![in alloc; 0xa7; 609]?;
-    let mut disk = MemoryDisk::new(alloc, bytes, Vec::new(alloc), ROOM)?;
-    assert_eq!(rt;
-        init(alloc, &mut disk, &election, &mut scratch),
-        Ok(()),
-        "no gate B"
-    );
-    assert!(rt; disk.bytes() == medium_of(&empty_bank()).as_slice());
+    let rows = [
+        (0xa7, 611, Err(InitFault::WrongSize { size: 611 })),
+        // a6 is no open gate.
+        (0xa6, 610, Ok(())),
+        // No gate B.
+        (0xa7, 609, Ok(())),
+    ];
+    for (byte, size, wanted) in rows {
+        assert!(rt; size <= 700);
+        let bytes = vec![in alloc; byte; size]?;
+        let mut disk = MemoryDisk::new(alloc, bytes, Vec::new(alloc), ROOM)?;
+        assert_eq!(rt;
+            init(alloc, &mut disk, &election, &mut scratch),
+            wanted,
+            "{size}"
+        );
+        if wanted.is_ok() {
+            assert!(rt;
+                disk.bytes() == medium_of(&empty_bank()).as_slice(),
+                "{size}"
+            );
+        } else {
+            assert_eq!(rt; disk.bytes().len(), size);
+        }
+    }
     Ok(())
 }
 
-#[test]
-fn twelve_parts(rt: HostRuntime) -> Result<(), Fail> {
-    let alloc = rt.alloc();
+/// Asserts that a disk has made so many calls, and is the medium of three ballots.
+fn assert_three(rt: &impl Abort, disk: &MemoryDisk, calls: u64) {
+    assert!(rt; disk.bytes() == medium_of(&three_ballots()).as_slice());
+    assert_eq!(rt; disk.calls(), calls);
+}
+
+/// The disk of two checkpoints of three ballots over the medium of none. It has made 21 calls after the first, and 33
+/// after the second.
+fn checkpointed_twice(rt: &impl Abort, alloc: Global) -> Result<MemoryDisk, Fail> {
     let election = Election::example();
     let mut disk = MemoryDisk::new(alloc, Vec::new(alloc), Vec::new(alloc), ROOM)?;
     let mut scratch = Scratch::new(alloc, &election)?;
     init(alloc, &mut disk, &election, &mut scratch)?;
     let closed = read_image(alloc, &three_ballots(), &election)?;
     checkpoint(&mut disk, &closed, &election, &mut scratch)?;
-    assert!(rt; disk.bytes() == medium_of(&three_ballots()).as_slice());
-    let made = [
-        DiskCall::Write { at: 609, count: 1 },
-        DiskCall::Sync,
-        DiskCall::Read {
-            at: 304,
-            count: 304,
-        },
-        DiskCall::Write {
-            at: 304,
-            count: 304,
-        },
-        DiskCall::Sync,
-        DiskCall::Write { at: 609, count: 1 },
-        DiskCall::Sync,
-        DiskCall::Write { at: 608, count: 1 },
-        DiskCall::Sync,
-        DiskCall::Read { at: 0, count: 304 },
-        DiskCall::Write { at: 0, count: 304 },
-        DiskCall::Sync,
-        DiskCall::Write { at: 608, count: 1 },
-        DiskCall::Sync,
-    ];
-    assert_eq!(rt; disk.calls(), 21);
-    assert_calls(&rt, &disk, 7, &made);
-    assert_eq!(rt; disk.written(7), [0].as_slice());
-    assert_eq!(rt; disk.written(10), three_ballots().as_slice());
-    assert_eq!(rt; disk.written(12), [0xa7].as_slice());
-    assert_eq!(rt; disk.written(14), [0].as_slice());
-    assert_eq!(rt; disk.written(17), three_ballots().as_slice());
-    assert_eq!(rt; disk.written(19), [0xa7].as_slice());
-    // What stands is not written again.
+    assert_three(rt, &disk, 21);
     checkpoint(&mut disk, &closed, &election, &mut scratch)?;
-    assert!(rt; disk.bytes() == medium_of(&three_ballots()).as_slice());
-    let again = [
-        DiskCall::Write { at: 609, count: 1 },
-        DiskCall::Sync,
-        DiskCall::Read {
-            at: 304,
-            count: 304,
-        },
-        DiskCall::Sync,
-        DiskCall::Write { at: 609, count: 1 },
-        DiskCall::Sync,
-        DiskCall::Write { at: 608, count: 1 },
-        DiskCall::Sync,
-        DiskCall::Read { at: 0, count: 304 },
-        DiskCall::Sync,
-        DiskCall::Write { at: 608, count: 1 },
-        DiskCall::Sync,
-    ];
-    assert_eq!(rt; disk.calls(), 33);
-    assert_calls(&rt, &disk, 21, &again);
+    assert_three(rt, &disk, 33);
+    Ok(disk)
+}
+
+const TWELVE_PARTS: [DiskCall; 14] = [
+    DiskCall::Write { at: 609, count: 1 },
+    DiskCall::Sync,
+    DiskCall::Read {
+        at: 304,
+        count: 304,
+    },
+    DiskCall::Write {
+        at: 304,
+        count: 304,
+    },
+    DiskCall::Sync,
+    DiskCall::Write { at: 609, count: 1 },
+    DiskCall::Sync,
+    DiskCall::Write { at: 608, count: 1 },
+    DiskCall::Sync,
+    DiskCall::Read { at: 0, count: 304 },
+    DiskCall::Write { at: 0, count: 304 },
+    DiskCall::Sync,
+    DiskCall::Write { at: 608, count: 1 },
+    DiskCall::Sync,
+];
+
+/// What stands is not written again.
+const ONCE_MORE: [DiskCall; 12] = [
+    DiskCall::Write { at: 609, count: 1 },
+    DiskCall::Sync,
+    DiskCall::Read {
+        at: 304,
+        count: 304,
+    },
+    DiskCall::Sync,
+    DiskCall::Write { at: 609, count: 1 },
+    DiskCall::Sync,
+    DiskCall::Write { at: 608, count: 1 },
+    DiskCall::Sync,
+    DiskCall::Read { at: 0, count: 304 },
+    DiskCall::Sync,
+    DiskCall::Write { at: 608, count: 1 },
+    DiskCall::Sync,
+];
+
+#[test]
+fn twelve_parts(rt: HostRuntime) -> Result<(), Fail> {
+    let disk = checkpointed_twice(&rt, rt.alloc())?;
+    assert_calls(&rt, &disk, 7, &TWELVE_PARTS);
+    for (call, gate) in [(7, 0), (12, 0xa7), (14, 0), (19, 0xa7)] {
+        assert_eq!(rt; disk.written(call), [gate].as_slice(), "{call}");
+    }
+    for call in [10, 17] {
+        assert_eq!(rt; disk.written(call), three_ballots().as_slice(), "{call}");
+    }
+    assert_calls(&rt, &disk, 21, &ONCE_MORE);
     Ok(())
 }
 

@@ -4,8 +4,11 @@ ghost use Rattle.std.specs.Prelude.{◌≡◌, ◌≤◌, ℕ, List, length, Som
 ghost use Rattle.std.specs.Option.{ForSome};
 ghost use Rattle.store_spec.specs.Disk.{overwritten, IsTorn, IsSettled, LeavesOnly};
 
+use crate::failing::Failing;
+use crate::recorded::RecordedDisk;
 use crate::{Disk, DiskCall, FusedDisk, MemoryDisk, Room, SureDisk};
 use outside_io::Failed;
+use std::process::Abort;
 use std::test::Fail;
 
 mod file;
@@ -31,57 +34,93 @@ const ROOM: Room = Room {
     written: 8,
 };
 
+/// A call on a disk in memory; the bytes that a write puts, that a read is to give, or as many as a size is to be; and
+/// whether they are what it gives, or that it fails.
+type Step<'a> = (DiskCall, &'a [u8], Result<bool, Failed>);
+
+// Makes a call, and answers whether it gives these bytes, or as many. One out of the disk's range is not made.
+fn gives<W: Failing + Drop>(
+    disk: &mut RecordedDisk<W>,
+    call: DiskCall,
+    bytes: &[u8],
+) -> Result<bool, Failed> {
+    let size = disk.bytes().len() as u64;
+    match call {
+        DiskCall::Size => Ok(disk.size()? == bytes.len() as u64),
+        DiskCall::Read { at, count } if at <= size && count as u64 <= size - at && count <= 8 => {
+            let mut buf = [0; 8];
+            disk.read(at, &mut buf[..count])?;
+            Ok(&buf[..count] == bytes)
+        }
+        DiskCall::Write { at, count } if at <= size && count == bytes.len() => {
+            disk.write_at(at, bytes)?;
+            Ok(true)
+        }
+        DiskCall::Sync => {
+            disk.sync()?;
+            Ok(true)
+        }
+        _ => Ok(false),
+    }
+}
+
+// Makes these calls one after another, and compares what each answers.
+fn assert_steps<W: Failing + Drop>(
+    rt: &impl Abort,
+    disk: &mut RecordedDisk<W>,
+    steps: &[Step<'_>],
+) {
+    for (call, bytes, wanted) in steps {
+        assert_eq!(rt; gives(disk, *call, *bytes), *wanted, "{call:?}");
+    }
+}
+
+const STEPS: [Step<'static>; 11] = [
+    (DiskCall::Size, &[1, 2, 3], Ok(true)),
+    (DiskCall::Write { at: 2, count: 2 }, &[7, 8], Ok(true)),
+    (DiskCall::Sync, &[], Ok(true)),
+    (DiskCall::Size, &[1, 2, 7, 8], Ok(true)),
+    // The fifth call is to fail.
+    (DiskCall::Read { at: 1, count: 2 }, &[2, 7], Err(Failed)),
+    (DiskCall::Read { at: 1, count: 2 }, &[2, 7], Ok(true)),
+    // The size would be 7.
+    (DiskCall::Write { at: 4, count: 3 }, &[9, 9, 9], Err(Failed)),
+    (DiskCall::Write { at: 0, count: 4 }, &[4, 4, 4, 4], Ok(true)),
+    // Nine bytes would be written.
+    (DiskCall::Write { at: 0, count: 3 }, &[4, 4, 4], Err(Failed)),
+    (DiskCall::Sync, &[], Ok(true)),
+    // There is room for ten calls.
+    (DiskCall::Size, &[4, 4, 4, 4], Err(Failed)),
+];
+
 #[test]
 fn memory_disk_records_its_calls(rt: HostRuntime) -> Result<(), Fail> {
     let alloc = rt.alloc();
     let mut disk = MemoryDisk::new(alloc, [1, 2, 3].to_vec(alloc)?, [5].to_vec(alloc)?, ROOM)?;
-    assert_eq!(rt; disk.size(), Ok(3));
-    assert_eq!(rt; replace(&mut disk, 2, &[7, 8]), Ok(()));
-    assert_eq!(rt; disk.size(), Ok(4));
-    let mut back = [0; 2];
-    assert_eq!(rt;
-        disk.read(1, &mut back),
-        Err(Failed),
-        "the fifth call is to fail"
-    );
-    assert_eq!(rt; disk.read(1, &mut back), Ok(()));
-    assert_eq!(rt; back, [2, 7]);
-    assert_eq!(rt;
-        disk.write_at(4, &[9, 9, 9]),
-        Err(Failed),
-        "the size would be 7"
-    );
+    assert_steps(&rt, &mut disk, &STEPS[..7]);
     assert_eq!(rt; disk.bytes(), [1, 2, 7, 8].as_slice());
-    assert_eq!(rt; disk.write_at(0, &[4, 4, 4, 4]), Ok(()));
-    assert_eq!(rt;
-        disk.write_at(0, &[4, 4, 4]),
-        Err(Failed),
-        "nine bytes would be written"
-    );
-    assert_eq!(rt; disk.sync(), Ok(()));
-    assert_eq!(rt; disk.size(), Err(Failed), "there is room for ten calls");
+    assert_steps(&rt, &mut disk, &STEPS[7..]);
     assert_eq!(rt; disk.calls(), 11);
-    let made = [
-        DiskCall::Size,
-        DiskCall::Write { at: 2, count: 2 },
-        DiskCall::Sync,
-        DiskCall::Size,
-        DiskCall::Read { at: 1, count: 2 },
-        DiskCall::Read { at: 1, count: 2 },
-        DiskCall::Write { at: 4, count: 3 },
-        DiskCall::Write { at: 0, count: 4 },
-        DiskCall::Write { at: 0, count: 3 },
-        DiskCall::Sync,
-    ];
     let mut index = 0u64;
-    for call in &made {
+    for (call, _, _) in &STEPS[..10] {
         assert_eq!(rt; disk.call_made(index), Some(*call));
         index += 1;
     }
     assert_eq!(rt; disk.call_made(10), None);
-    assert_eq!(rt; disk.written(1), [7, 8].as_slice());
-    assert_eq!(rt; disk.written(6), [].as_slice(), "it failed");
-    assert_eq!(rt; disk.written(7), [4, 4, 4, 4].as_slice());
+    // The write that failed put nothing.
+    let puts: [(u64, &[u8]); 3] = [(1, &[7, 8]), (6, &[]), (7, &[4, 4, 4, 4])];
+    for (index, put) in puts {
+        assert_eq!(rt; disk.written(index), put);
+    }
+    Ok(())
+}
+
+#[test]
+fn memory_disk_is_replaced(rt: HostRuntime) -> Result<(), Fail> {
+    let alloc = rt.alloc();
+    let mut disk = MemoryDisk::new(alloc, [1, 2, 3].to_vec(alloc)?, [5].to_vec(alloc)?, ROOM)?;
+    assert_eq!(rt; replace(&mut disk, 2, &[7, 8]), Ok(()));
+    assert_eq!(rt; disk.bytes(), [1, 2, 7, 8].as_slice());
     Ok(())
 }
 
@@ -90,9 +129,12 @@ fn fused_disk_passes_two_calls(rt: HostRuntime) -> Result<(), Fail> {
     let alloc = rt.alloc();
     let mut disk = FusedDisk::new(alloc, [1, 2, 3].to_vec(alloc)?, 2, ROOM)?;
     assert_eq!(rt; replace(&mut disk, 3, &[4]), Ok(()));
-    assert_eq!(rt; disk.sync(), Err(Failed));
-    assert_eq!(rt; disk.write_at(0, &[9]), Err(Failed));
-    assert_eq!(rt; disk.size(), Err(Failed));
+    let steps: [Step<'_>; 3] = [
+        (DiskCall::Sync, &[], Err(Failed)),
+        (DiskCall::Write { at: 0, count: 1 }, &[9], Err(Failed)),
+        (DiskCall::Size, &[], Err(Failed)),
+    ];
+    assert_steps(&rt, &mut disk, &steps);
     assert_eq!(rt; disk.bytes(), [1, 2, 3, 4].as_slice());
     assert_eq!(rt; disk.calls(), 5);
     Ok(())

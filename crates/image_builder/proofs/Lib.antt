@@ -1,3 +1,4 @@
+pub mod Blocks
 pub mod Fed
 pub mod FirstCells
 pub mod FirstZeros

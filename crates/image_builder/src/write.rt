@@ -19,7 +19,7 @@ pub const HEADER_BYTES: usize = 32;
 pub const MAX_CELL_BYTES: usize = 73;
 
 /// How many bytes are cleared at once, so that they are still near when the ballots are written over them.
-const BLOCK_BYTES: usize = 1024;
+const BLOCK_BYTES: usize = 2000;
 
 const BLOCK: [u8; BLOCK_BYTES] = [0; BLOCK_BYTES];
 
@@ -126,21 +126,20 @@ fn put_block(closed: &Closed, election: &Election, first: usize, count: usize, o
     let size = election.cell_bytes();
     let numbers = &closed.cells()[first..first + count];
     out.fill(0);
-    if are_empty(numbers) {
-        return;
-    }
-    for place in 0..count {
-        if numbers[place] == 0 {
-            continue;
-        }
+    let mut rest = past_empty(numbers);
+    while let [_, behind @ ..] = rest {
+        let place = count - rest.len();
         let at = place * size;
         put_cell(closed, election, first + place, &mut out[at..at + size]);
+        rest = past_empty(behind);
     }
 }
 
-/// Whether none of these cells has a number.
-fn are_empty(numbers: &[u64]) -> bool
-    ensures { IsTrue result → numbers.now ≡ replicate (length numbers.now) 0 }
+/// What follows some first cells that have no number.
+fn past_empty(numbers: &[u64]) -> &[u64]
+    ensures shorter { length result.now ≤ length numbers.now }
+    ensures zeros { numbers.now
+        ≡ replicate (length numbers.now - length result.now) 0 ++ result.now }
 {
     let mut rest = numbers;
     while let Some(behind) = past_eight(rest) {
@@ -149,7 +148,7 @@ fn are_empty(numbers: &[u64]) -> bool
     while let Some(behind) = past_one(rest) {
         rest = behind;
     }
-    rest.is_empty()
+    rest
 }
 
 /// What follows the first eight cells, where none of these has a number.

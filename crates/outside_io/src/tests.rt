@@ -2,6 +2,7 @@ ghost use Rattle.std.specs.Prelude.{◌≡◌, ◌≤◌, ℕ, length, vec_len, 
 
 use crate::*;
 use std::alloc::Global;
+use std::process::Abort;
 use std::test::Fail;
 
 mod edge;
@@ -141,25 +142,48 @@ fn goes_on_after_a_fault(rt: HostRuntime) -> Result<(), Fail> {
     Ok(())
 }
 
+// Reads into these bytes again and again, and compares what each read answers.
+fn assert_reads(
+    rt: &impl Abort,
+    source: &mut impl Source,
+    buf: &mut [u8],
+    wanted: &[Result<usize, Failed>],
+) {
+    for count in wanted {
+        assert_eq!(rt; source.read(buf), *count);
+    }
+}
+
+// Writes these bytes one after another, and compares what each write answers.
+fn assert_writes(rt: &impl Abort, sink: &mut impl Sink, writes: &[(&[u8], Result<(), Failed>)]) {
+    for (bytes, wanted) in writes {
+        assert_eq!(rt; sink.write_all(*bytes), *wanted);
+    }
+}
+
 #[test]
-fn sources_and_sinks_fail_where_they_are_told(rt: HostRuntime) -> Result<(), Fail> {
+fn sources_fail_where_they_are_told(rt: HostRuntime) -> Result<(), Fail> {
     let alloc = rt.alloc();
     let mut source = MemorySource::new(b"abc".to_vec(alloc)?, vec![in alloc; 2]?);
     let mut buf = [0; 2];
-    assert_eq!(rt; source.read(&mut buf), Ok(2));
-    assert_eq!(rt; source.read(&mut buf), Err(Failed));
-    assert_eq!(rt; source.read(&mut buf), Ok(1));
+    assert_reads(&rt, &mut source, &mut buf, &[Ok(2), Err(Failed), Ok(1)]);
     assert_eq!(rt; buf, *b"cb");
-    assert_eq!(rt; source.read(&mut buf), Ok(0));
+    assert_reads(&rt, &mut source, &mut buf, &[Ok(0)]);
+    Ok(())
+}
 
+#[test]
+fn sinks_fail_where_they_are_told(rt: HostRuntime) -> Result<(), Fail> {
+    let alloc = rt.alloc();
+    let writes: [(&[u8], Result<(), Failed>); 4] = [
+        (b"ab", Ok(())),
+        (b"c", Err(Failed)),
+        (b"cd", Err(Failed)),
+        (b"c", Ok(())),
+    ];
     let mut sink = MemorySink::new(alloc, 3, vec![in alloc; 2]?)?;
-    assert_eq!(rt; sink.write_all(b"ab"), Ok(()));
-    assert_eq!(rt; sink.write_all(b"c"), Err(Failed));
-    assert_eq!(rt; sink.write_all(b"cd"), Err(Failed));
-    assert_eq!(rt; sink.write_all(b"c"), Ok(()));
+    assert_writes(&rt, &mut sink, &writes);
     assert_eq!(rt; sink.bytes(), b"abc".as_slice());
-
-    let mut sure = SureSink::new();
-    assert_eq!(rt; sure.write_all(b"ab"), Ok(()));
+    assert_writes(&rt, &mut SureSink::new(), &writes[..1]);
     Ok(())
 }

@@ -112,6 +112,11 @@ fn what_is_refused(rt: HostRuntime) -> Result<(), Fail> {
     Ok(())
 }
 
+const FIRST_LINE: ReplayFault = ReplayFault::BadLine {
+    line: 1,
+    why: LineWhy::Malformed,
+};
+
 /// What a replay answers whose source and sink fail at these calls, and what it has written.
 fn faulted(
     alloc: Global,
@@ -129,36 +134,25 @@ fn faulted(
 
 #[test]
 fn what_fails_outside(rt: HostRuntime) -> Result<(), Fail> {
-    let alloc = rt.alloc();
-    let few = RACE_TEXT.len() - 1;
-
-    // The source fails at once, and where its end was to be found.
-    let (answer, written) = faulted(alloc, RACE, &[1], &[], 65536)?;
-    assert_eq!(rt; answer, Err(ReplayFault::ReadFault));
-    assert_eq!(rt; written, 0);
-    let (answer, written) = faulted(alloc, RACE, &[2], &[], 65536)?;
-    assert_eq!(rt; answer, Err(ReplayFault::ReadFault));
-    assert_eq!(rt; written, 0);
-
-    // A bad line that is whole is told first.
-    let (answer, written) = faulted(alloc, "cast 2\n", &[2], &[], 65536)?;
-    let bad = ReplayFault::BadLine {
-        line: 1,
-        why: LineWhy::Malformed,
-    };
-    assert_eq!(rt; answer, Err(bad));
-    assert_eq!(rt; written, 0);
-
-    // The sink fails, or has no room for the whole text.
-    let (answer, written) = faulted(alloc, RACE, &[], &[1], 65536)?;
-    assert_eq!(rt; answer, Err(ReplayFault::WriteFault));
-    assert_eq!(rt; written, 0);
-    let (answer, written) = faulted(alloc, RACE, &[], &[], few)?;
-    assert_eq!(rt; answer, Err(ReplayFault::WriteFault));
-    assert_eq!(rt; written, 0);
-    let (answer, written) = faulted(alloc, RACE, &[], &[], RACE_TEXT.len())?;
-    assert_eq!(rt; answer, Ok(()));
-    assert_eq!(rt; written, RACE_TEXT.len());
+    let read = Err(ReplayFault::ReadFault);
+    let write = Err(ReplayFault::WriteFault);
+    let whole = RACE_TEXT.len();
+    let rows: [(&str, &[u64], &[u64], usize, Result<(), ReplayFault>); 6] = [
+        // The source fails at once, and where its end was to be found.
+        (RACE, &[1], &[], 65536, read),
+        (RACE, &[2], &[], 65536, read),
+        // A bad line that is whole is told first.
+        ("cast 2\n", &[2], &[], 65536, Err(FIRST_LINE)),
+        // The sink fails, or has no room for the whole text.
+        (RACE, &[], &[1], 65536, write),
+        (RACE, &[], &[], whole - 1, write),
+        (RACE, &[], &[], whole, Ok(())),
+    ];
+    for (script, reads, writes, room, wanted) in rows {
+        let (answer, written) = faulted(rt.alloc(), script, reads, writes, room)?;
+        assert_eq!(rt; answer, wanted);
+        assert_eq!(rt; written, if wanted.is_ok() { whole } else { 0 });
+    }
     Ok(())
 }
 

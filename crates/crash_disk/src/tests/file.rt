@@ -243,26 +243,40 @@ fn an_interruption_is_none(rt: HostRuntime) -> Result<(), Fail> {
 
 const REAL: &str = "crash_disk_test_medium";
 
-#[test]
-fn a_real_file_is_read_back(rt: HostRuntime) -> Result<(), Fail> {
-    let _ = fs::remove_file(&rt, REAL);
-    let mut disk = FileDisk::new(&rt, REAL);
+// A disk over a file that is missing: a sync makes nothing, and a write makes it.
+fn assert_made_by_a_write<R: Files + Abort>(rt: &R) -> Result<(), Fail>
+where
+    R::File: FileExt,
+{
+    let mut disk = FileDisk::new(rt, REAL);
     assert_eq!(rt; disk.size(), Ok(0), "it is missing");
     assert_eq!(rt; disk.sync(), Ok(()));
-    assert!(rt; fs::metadata(&rt, REAL).is_err(), "a sync makes nothing");
+    assert!(rt; fs::metadata(rt, REAL).is_err(), "a sync makes nothing");
     assert_eq!(rt; disk.write_at(0, b"abcdefgh"), Ok(()));
-    assert_eq!(rt;
-        fs::metadata(&rt, REAL)?.permissions().mode() & 0o777,
-        0o600
-    );
+    assert_eq!(rt; fs::metadata(rt, REAL)?.permissions().mode() & 0o777, 0o600);
     assert_eq!(rt; super::replace(&mut disk, 2, b"XY"), Ok(()));
-    let mut again = FileDisk::new(&rt, REAL);
+    Ok(())
+}
+
+// What another disk reads of it.
+fn assert_read_back<R: Files + Abort>(rt: &R)
+where
+    R::File: FileExt,
+{
+    let mut again = FileDisk::new(rt, REAL);
     assert_eq!(rt; again.sync(), Ok(()));
     assert_eq!(rt; again.size(), Ok(8));
     let mut back = [0; 5];
     assert_eq!(rt; again.read(1, &mut back), Ok(()));
     assert_eq!(rt; back, *b"bXYef");
     assert_eq!(rt; again.read(4, &mut back), Err(Failed), "it ends at 8");
+}
+
+#[test]
+fn a_real_file_is_read_back(rt: HostRuntime) -> Result<(), Fail> {
+    let _ = fs::remove_file(&rt, REAL);
+    assert_made_by_a_write(&rt)?;
+    assert_read_back(&rt);
     fs::remove_file(&rt, REAL)?;
     Ok(())
 }

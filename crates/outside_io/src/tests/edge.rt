@@ -1,5 +1,6 @@
 //! The adapters, over stand-ins for files and streams and over the real ones.
 
+use super::{assert_reads, assert_writes};
 use crate::standard::read_again;
 use crate::{Failed, FileSource, Sink, Source, StdinSource, StdoutSink};
 use fake_system::{Call, FAULT_KINDS, FakeFiles, FakeInput, FakeOutput, Stage};
@@ -58,22 +59,31 @@ fn reads_again_after_interruptions_alone(rt: HostRuntime) -> Result<(), Fail> {
     Ok(())
 }
 
-// Three reads of a source over `abcdef` in pieces of two; the second fails, and the third goes on where the first ended.
-fn assert_goes_on(rt: &impl Abort, source: &mut impl Source, stage: &Stage) -> Result<(), Fail> {
+// A read whose one call fails, with an error of each kind.
+fn assert_faults(
+    rt: &impl Abort,
+    source: &mut impl Source,
+    stage: &Stage,
+    call: Call,
+) -> Result<(), Fail> {
     for kind in FAULT_KINDS {
-        let mut buf = [0; 3];
         stage.fail(1, kind)?;
-        assert_eq!(rt; source.read(&mut buf), Err(Failed), "{kind:?}");
-        assert_log(rt, stage, &[Call::Read(3)])?;
+        assert_eq!(rt; source.read(&mut [0; 3]), Err(Failed), "{kind:?}");
+        assert_log(rt, stage, &[call])?;
     }
+    Ok(())
+}
+
+// Three reads of a source over `abcdef` in pieces of two; the second fails, and the third goes on where the first
+// ended.
+fn assert_goes_on(rt: &impl Abort, source: &mut impl Source, stage: &Stage) -> Result<(), Fail> {
+    assert_faults(rt, source, stage, Call::Read(3))?;
     stage.fail(0, ErrorKind::Other)?;
     let mut buf = [0; 3];
-    assert_eq!(rt; source.read(&mut buf), Ok(2));
+    assert_reads(rt, source, &mut buf, &[Ok(2)]);
     assert_eq!(rt; buf, *b"cd\0");
     stage.fail(2, ErrorKind::Other)?;
-    assert_eq!(rt; source.read(&mut buf), Ok(2));
-    assert_eq!(rt; source.read(&mut buf), Err(Failed));
-    assert_eq!(rt; source.read(&mut buf), Ok(0));
+    assert_reads(rt, source, &mut buf, &[Ok(2), Err(Failed), Ok(0)]);
     assert_eq!(rt; buf, *b"ef\0");
     assert_log(rt, stage, &[Call::Read(3); 3])
 }
@@ -85,19 +95,11 @@ fn a_file_goes_on_after_a_fault(rt: HostRuntime) -> Result<(), Fail> {
     let files = FakeFiles::new(alloc, &stage, PATH, "folder");
     let mut source = FileSource::new(&files, PATH);
     assert_log(&rt, &stage, &[])?;
-    for kind in FAULT_KINDS {
-        stage.fail(1, kind)?;
-        assert_eq!(rt; source.read(&mut [0; 3]), Err(Failed), "{kind:?}");
-        assert_log(&rt, &stage, &[Call::Open])?;
-    }
+    assert_faults(&rt, &mut source, &stage, Call::Open)?;
     stage.fail(2, ErrorKind::Other)?;
-    assert_eq!(rt;
-        source.read(&mut [0; 3]),
-        Err(Failed),
-        "it is open from now on"
-    );
     let mut buf = [0; 3];
-    assert_eq!(rt; source.read(&mut buf), Ok(2));
+    // It is open from the first read on.
+    assert_reads(&rt, &mut source, &mut buf, &[Err(Failed), Ok(2)]);
     assert_eq!(rt; buf, *b"ab\0");
     assert_log(&rt, &stage, &[Call::Open, Call::Read(3), Call::Read(3)])?;
     assert_goes_on(&rt, &mut source, &stage)
@@ -109,8 +111,7 @@ fn a_file_that_is_missing_is_a_fault(rt: HostRuntime) -> Result<(), Fail> {
     let stage = Stage::new(alloc, None, 9);
     let files = FakeFiles::new(alloc, &stage, PATH, "folder");
     let mut source = FileSource::new(&files, PATH);
-    assert_eq!(rt; source.read(&mut [0; 3]), Err(Failed));
-    assert_eq!(rt; source.read(&mut [0; 3]), Err(Failed));
+    assert_reads(&rt, &mut source, &mut [0; 3], &[Err(Failed); 2]);
     assert_log(&rt, &stage, &[Call::Open, Call::Open])
 }
 
@@ -122,9 +123,8 @@ fn standard_input_goes_on_after_a_fault(rt: HostRuntime) -> Result<(), Fail> {
     let mut source = StdinSource::new(&reader);
     assert_log(&rt, &stage, &[])?;
     stage.fail(1, ErrorKind::Other)?;
-    assert_eq!(rt; source.read(&mut [0; 3]), Err(Failed));
     let mut buf = [0; 3];
-    assert_eq!(rt; source.read(&mut buf), Ok(2));
+    assert_reads(&rt, &mut source, &mut buf, &[Err(Failed), Ok(2)]);
     assert_eq!(rt; buf, *b"ab\0");
     assert_goes_on(&rt, &mut source, &stage)
 }
@@ -135,8 +135,8 @@ fn standard_output_takes_all_or_tells(rt: HostRuntime) -> Result<(), Fail> {
     let stage = stage_of(alloc, b"", 9)?;
     let output = FakeOutput::new(&stage);
     let mut sink = StdoutSink::new(&output);
-    assert_eq!(rt; sink.write_all(b"ab"), Ok(()));
-    assert_eq!(rt; sink.write_all(b"cde"), Ok(()));
+    let writes: [(&[u8], Result<(), Failed>); 2] = [(b"ab", Ok(())), (b"cde", Ok(()))];
+    assert_writes(&rt, &mut sink, &writes);
     assert_log(&rt, &stage, &[Call::Write(2), Call::Write(3)])?;
     for kind in FAULT_KINDS {
         stage.fail(1, kind)?;
@@ -154,11 +154,10 @@ fn reads_a_real_file(rt: HostRuntime) -> Result<(), Fail> {
     fs::write(&rt, path, "abc")?;
     let mut source = FileSource::new(&rt, path);
     let mut buf = [0; 2];
-    assert_eq!(rt; source.read(&mut buf), Ok(2));
-    assert_eq!(rt; buf, *b"ab");
-    assert_eq!(rt; source.read(&mut buf), Ok(1));
-    assert_eq!(rt; buf, *b"cb");
-    assert_eq!(rt; source.read(&mut buf), Ok(0));
+    for (count, bytes) in [(2usize, *b"ab"), (1, *b"cb"), (0, *b"cb")] {
+        assert_eq!(rt; source.read(&mut buf), Ok(count));
+        assert_eq!(rt; buf, bytes);
+    }
     fs::remove_file(&rt, path)?;
     Ok(())
 }
@@ -171,12 +170,9 @@ fn read_twice(files: &impl Files, path: &str) -> [Result<usize, Failed>; 2] {
 
 #[test]
 fn a_path_that_is_no_file_is_a_fault(rt: HostRuntime) {
-    let faults = [Err(Failed), Err(Failed)];
-    assert_eq!(rt; read_twice(&rt, "."), faults);
-    assert_eq!(rt; read_twice(&rt, "/dev/null/inside"), faults);
-    assert_eq!(rt; read_twice(&rt, "outside_io_is_missing"), faults);
-    assert_eq!(rt; read_twice(&rt, ""), faults);
-    assert_eq!(rt; read_twice(&rt, "a\0b"), faults);
+    for path in [".", "/dev/null/inside", "outside_io_is_missing", "", "a\0b"] {
+        assert_eq!(rt; read_twice(&rt, path), [Err(Failed); 2], "{path}");
+    }
 }
 
 #[test]

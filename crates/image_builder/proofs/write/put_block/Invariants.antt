@@ -1,10 +1,10 @@
-use Rattle.std.proofs.Common.{◌≡◌, ◌-◌, ◌*◌, length, take, drop, flat_map, replicate}
+use Rattle.std.proofs.Common.{drop, length}
+use Rattle.image_builder.proofs.Blocks.{AreSoFar}
 use Rattle.image_builder.proofs.write.put_block.Given as goal
 use Rattle.store_spec.specs.Image.{cell_bytes, cells_of}
 
--- so many cells are written, and zeros stand behind them
-abbrev pub invariant-loop-place : goal.invariant-loop-place
-invariant-loop-place l = record {
-  written : take (l.place * l.size) l.out ≡ flat_map (cell_bytes l.election l.closed.ballots) (take l.place (drop l.first (cells_of l.election l.closed.ballots)));
-  blank : drop (l.place * l.size) l.out ≡ replicate (length l.out - l.place * l.size) 0;
-}
+abbrev pub invariant-loop-rest : goal.invariant-loop-rest
+invariant-loop-rest l = AreSoFar (cell_bytes l.election l.closed.ballots) (drop l.first (cells_of l.election l.closed.ballots)) l.size l.count l.rest l.out
+
+abbrev pub decreases-loop-rest : goal.decreases-loop-rest
+decreases-loop-rest l = length l.rest

@@ -1,6 +1,6 @@
 use Rattle.std.proofs.Common.{ℕ, length, replicate, length-append, ap, arith}
 use Rattle.image_builder.proofs.FirstCells.{zeros_more}
-use Rattle.image_builder.proofs.write.are_empty.Goals as goal
+use Rattle.image_builder.proofs.write.past_empty.Goals as goal
 
 pub loop-behind-preserved : goal.loop-behind-preserved
 loop-behind-preserved c =

@@ -1,5 +1,5 @@
 use Rattle.std.proofs.Common.{◌≡◌, ◌-◌, ◌≤◌, ◌++◌, length, replicate}
-use Rattle.image_builder.proofs.write.are_empty.Given as goal
+use Rattle.image_builder.proofs.write.past_empty.Given as goal
 
 -- zeros stand before the rest
 abbrev pub invariant-loop-behind : goal.invariant-loop-behind

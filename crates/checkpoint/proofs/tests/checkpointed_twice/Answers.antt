@@ -1,5 +1,5 @@
 use Rattle.std.proofs.Common.{[], refl}
-use Rattle.checkpoint.proofs.tests.twelve_parts.Goals as goal
+use Rattle.checkpoint.proofs.tests.checkpointed_twice.Goals as goal
 
 pub checkpoint-requires-clause-medium : goal.checkpoint-requires-clause-medium
 checkpoint-requires-clause-medium g c bytes is =
