@@ -235,7 +235,8 @@ fn place_near(
     Ok(far)
 }
 
-/// The cell in which a number stands, where that is near its home.
+/// The cell in which a number stands, where that is near its home. A smaller number or an empty cell ends the search: in
+/// ordered cells the number stands behind neither.
 pub fn near_home(order: &Salted, cells: &[u64], number: u64) -> Option<usize>
     ensures { IfSome result
         (λ cell. (cell < length cells.now) × (slice_index cells.now cell ≡ number)) }
@@ -243,8 +244,12 @@ pub fn near_home(order: &Salted, cells: &[u64], number: u64) -> Option<usize>
     let home = order.home(number);
     let end = cells.len().min(home.saturating_add(NEAR));
     for cell in home..end {
-        if cells[cell] == number {
-            return Some(cell);
+        if cells[cell] <= number {
+            return if cells[cell] == number {
+                Some(cell)
+            } else {
+                None
+            };
         }
     }
     None

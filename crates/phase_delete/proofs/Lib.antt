@@ -1,11 +1,9 @@
 pub mod Blanks
 pub mod Held
 pub mod Left
-pub mod Notes
 pub mod Opened
 pub mod Sent
 pub mod Sessions
 pub mod Trays
 pub mod Whole
 pub mod WithdrawnLists
-pub mod Work

@@ -5,7 +5,7 @@ ghost use Rattle.std.specs.Prelude.{◌≡◌};
 ghost use Rattle.store_spec.specs.WithdrawStep.{IsSeated};
 ghost use Rattle.store_spec.specs.WithdrawStep.WithdrawState.{Rest};
 
-use step_core::{WithdrawNote, WithdrawReply, WithdrawState};
+use step_core::{WithdrawNote, WithdrawReply};
 use word_rule::{WithdrawSeat, WithdrawWords};
 
 /// Removes a number that stood in this cell at the opening, unless another did so before.
@@ -23,11 +23,8 @@ pub fn remove(
     ensures gains { Gains seat.old.view number result seat.new.view }
     ensures new { result ≡ WithdrawReply.Withdrawn → IsNewTo seat.old.view number }
 {
-    if words.first(seat, number, place) == WithdrawNote::Gone {
-        return WithdrawReply::Gone;
+    match words.withdraw(seat, number, place) {
+        WithdrawNote::Begun => WithdrawReply::Withdrawn,
+        _ => WithdrawReply::Gone,
     }
-    'steps: while seat.state() != WithdrawState::Rest {
-        words.next(seat);
-    }
-    WithdrawReply::Withdrawn
 }

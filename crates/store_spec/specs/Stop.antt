@@ -1,7 +1,7 @@
 -- What a stop at any moment of a session leaves on the disk: up to each checkpoint the set that was acknowledged before
 -- it, or the one that is being checkpointed. `may_leave` is what a crash at a moment may leave, and moments are told by
 -- how many calls were made.
-use Rattle.std.specs.Prelude.{ℕ, ◌≤◌, List, [], ◌∷◌, Any}
+use Rattle.std.specs.Prelude.{ℕ, List, [], ◌∷◌, Any}
 use Rattle.store_spec.specs.Ballot.{Ballot}
 use Rattle.store_spec.specs.Disk.{EachCrashImage, after_calls}
 use Rattle.store_spec.specs.Election.{Election}

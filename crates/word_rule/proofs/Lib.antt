@@ -21,10 +21,12 @@ pub mod Stores
 pub mod Weights
 pub mod WithdrawAfter
 pub mod WithdrawAllows
+pub mod WithdrawAnswers
 pub mod WithdrawCloses
 pub mod WithdrawEnds
-pub mod WithdrawKept
 pub mod WithdrawLaws
 pub mod WithdrawRemoval
 pub mod WithdrawRowFor
 pub mod WithdrawStepKeeps
+pub mod WithdrawWay
+pub mod WithdrawWork

@@ -76,7 +76,7 @@ module _ (shape : Shape) (state : WithdrawState) (note : WithdrawNote) (step : S
         (flag_row (homes_of shape) x found (state_of state) note row).1 ∙ ap (λ (f : ℕ). if f == 1 then Gone else Quiet) set
 
   module _ (told : WentOn step me found now) (row : LeadsTo (homes_of shape) me.0.view.state found (state_of state) note) where
-    same_later : (state_of state ≡ told.view.state) × (note ≡ told.told.note)
+    pub same_later : (state_of state ≡ told.view.state) × (note ≡ told.told.note)
     same_later =
         let act = withdraw_act me.0.view.state in
         let one = one_row (homes_of shape) me.0.view.state (word_of act) (word_of act) found (left_by act found) (left_by act found) (state_of state) told.view.state note told.told.note row

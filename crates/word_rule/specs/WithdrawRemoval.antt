@@ -1,6 +1,7 @@
 -- What a seat of withdrawing does for one number, from its first step on until it is at rest again.
 use Rattle.std.specs.Prelude.{◌≡◌, ℕ, ⊤, List, [], ◌∷◌, ◌++◌}
-use Rattle.store_spec.specs.WithdrawStep.{WithdrawState, WithdrawView}
+use Rattle.store_spec.specs.WithdrawStep.{WithdrawNote, WithdrawState, WithdrawView}
+use Rattle.store_spec.specs.WithdrawStep.WithdrawNote.{Quiet, Gone, Begun, Done}
 use Rattle.store_spec.specs.WithdrawStep.WithdrawState.{Rest, Chosen}
 
 -- the number whose removal is begun by now: none while it walks
@@ -30,3 +31,10 @@ pub record HasFoundGone (x : ℕ) (before now : WithdrawView) : Type 0 where
   pub at_rest : now.state ≡ Rest
   pub begun : now.begun ≡ before.begun
   pub gone : now.gone ≡ before.gone ++ x ∷ []
+
+-- what is done for a number in one call, by its answer: the number is removed, or found gone
+abbrev pub Removes : ℕ → WithdrawView → WithdrawNote → WithdrawView → Type 0
+Removes x before Quiet now = ⊥
+Removes x before Gone now = HasFoundGone x before now
+Removes x before Begun now = HasRemoved x before now
+Removes x before Done now = ⊥

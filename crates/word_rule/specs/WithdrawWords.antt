@@ -1,5 +1,6 @@
 -- Shared words of withdrawing and their seats, as callers see them.
 use Rattle.std.specs.Prelude.{◌≡◌, ℕ, ◌+◌, ◌^◌, ◌<◌, ◌≤◌, List, length, map, All, Contains}
+use Rattle.atomic_table.specs.declared.shared.Seat.{Seat}
 use Rattle.crossbeam_utils.specs.Padded.{padded_value}
 use Rattle.step_core.specs.Shape.{homes_of}
 use Rattle.step_core.specs.WithdrawTables.{FitsIn, state_of}
@@ -11,7 +12,8 @@ use Rattle.store_spec.specs.WithdrawStep.{FirstRow, WithdrawState, WithdrawView,
 use Rattle.store_spec.specs.WithdrawStep as definition
 use Rattle.step_core.specs.WithdrawTables.{LeadsTo}
 use Rattle.word_rule.specs.Places.{IsSingle, Place, place_of}
-use Rattle.word_rule.specs.Seats.{SharedWords, base_of}
+use Rattle.word_rule.specs.Seats.{SharedWords, base_of, words_of}
+use Rattle.word_rule.specs.declared.seats.Known.{Known}
 use Rattle.word_rule.specs.declared.withdraw.WithdrawSeat.TheInside as seats
 use Rattle.word_rule.specs.declared.withdraw.WithdrawWords.TheInside as words
 
@@ -70,3 +72,10 @@ pub record IsSeat (s : seats.Inside) : Type 0 where
   pub state : state_of (padded_value s.state) ≡ s.seat.me.0.view.state
   pub single : IsSingle s.seat
   pub fits : FitsIn s.seat.me.0.shape.cells s.seat.me.0.view.state
+
+-- a seat of these words that is about this state
+pub record IsAbout (of : SharedWords) (state : WithdrawState) (seat : Seat (Unit {0}) (Known WithdrawView)) : Type 0 where
+  pub belongs : words_of seat.table_id seat.me.0 ≡ of
+  pub state_is : seat.me.0.view.state ≡ state
+  pub single : IsSingle seat
+  pub fits : FitsIn of.shape.cells state

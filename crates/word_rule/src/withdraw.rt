@@ -3,16 +3,17 @@
 #[cfg(test)]
 mod tests;
 
-ghost use Rattle.std.specs.Prelude.{◌≡◌, ◌≢◌, ◌⊎◌, ℕ, ◌<◌, ◌≤◌, All, Contains, IfOk, length, map};
+ghost use Rattle.std.specs.Prelude.{◌≡◌, ◌≢◌, ◌⊎◌, ℕ, ◌+◌, ◌^◌, ◌<◌, ◌≤◌, All, Contains, IfOk, length, map};
 ghost use Rattle.step_core.specs.Shape.{homes_of};
 ghost use Rattle.step_core.specs.WithdrawTables.{note_of, state_of};
 ghost use Rattle.store_spec.specs.Measure.{Falls};
-ghost use Rattle.store_spec.specs.WithdrawStep.{IsSeated, fresh_view, withdraw_measure};
+ghost use Rattle.store_spec.specs.WithdrawStep.{IsSeated, fresh_view, number_of, withdraw_measure};
 ghost use Rattle.store_spec.specs.WithdrawStep.WithdrawNote.{Gone};
-ghost use Rattle.store_spec.specs.WithdrawStep.WithdrawState.{Rest};
+ghost use Rattle.store_spec.specs.WithdrawStep.WithdrawState.{Chosen, Rest};
 ghost use Rattle.word_rule.specs.Places.{AreAll, AreMadeOf, AreWhole, IsSingle, place_of};
+ghost use Rattle.word_rule.specs.WithdrawRemoval.{HasRemoved, Removes};
 ghost use Rattle.word_rule.specs.WithdrawSeats.{IsAtRest};
-ghost use Rattle.word_rule.specs.WithdrawWords.{AgreeOn, MakesFirstRow, MakesRow, MayEmpty, cells_after};
+ghost use Rattle.word_rule.specs.WithdrawWords.{AgreeOn, IsAbout, MakesFirstRow, MakesRow, MayEmpty, cells_after};
 
 use crate::seats::{Known, Opening, Phase, Seated, close_table, deal_seats, join_seats, lay_out};
 use crate::steps::perform;
@@ -166,10 +167,7 @@ impl WithdrawWords {
         ensures again { Contains seat.old.view.begun number ⊎ Contains seat.old.view.gone number
             → note_of result ≡ Gone }
     {
-        let word = self.shape.cells + place;
-        let act = Act::Swap { word, put: 1 };
-        let found = perform::<_, _, _, Begins>(&self.table.shared, &mut seat.seat, act);
-        let (state, note) = withdraw_first(&self.shape, number, found);
+        let (state, note) = self.begin(&mut seat.seat, number, place);
         *seat.state = state;
         note
     }
@@ -185,11 +183,100 @@ impl WithdrawWords {
             (withdraw_measure self.now.shape.cells seat.old.view.state) }
     {
         let state = *seat.state;
-        let act = withdraw_act(&self.shape, state);
-        let found = perform::<_, _, _, GoesOn>(&self.table.shared, &mut seat.seat, act);
-        let (now, note) = withdraw_after(&self.shape, state, found);
-        *seat.state = now;
-        note
+        let (after, told) = self.step(self.shape, &mut seat.seat, state);
+        *seat.state = after;
+        told
+    }
+
+    /// All steps for a number, by a seat at rest, which is at rest after them: `Begun` where it is removed, and each hole
+    /// that this leaves is filled, `Gone` where its removal was begun before. Meanwhile the seat's state is in no memory.
+    pub fn withdraw(&self, seat: &mut WithdrawSeat, number: u64, place: usize) -> WithdrawNote
+        requires belongs { seat.old.words ≡ self.now }
+        requires at_rest { seat.old.view.state ≡ Rest }
+        requires seated { IsSeated self.now.base number place }
+        ensures words { seat.new.words ≡ seat.old.words }
+        ensures removes { Removes number seat.old.view (note_of result) seat.new.view }
+
+        // A number whose removal the seat has begun, or that it has found gone, is found gone.
+        ensures again { Contains seat.old.view.begun number ⊎ Contains seat.old.view.gone number
+            → note_of result ≡ Gone }
+    {
+        let (state, note) = self.begin(&mut seat.seat, number, place);
+        let WithdrawState::Chosen { .. } = state else {
+            return note;
+        };
+        self.remove(&mut seat.seat, state);
+        WithdrawNote::Begun
+    }
+
+    /// Walks to the number that is chosen, and removes it and each number that is to fill the hole of the one before.
+    #[inline(always)]
+    fn remove(&self, seat: &mut Seat<(), Known<WithdrawSight>>, chosen: WithdrawState)
+        requires about { IsAbout self.now (state_of chosen) seat.old }
+        requires chosen { (number place : ℕ) × (state_of chosen ≡ Chosen number place) }
+        ensures at_rest { IsAbout self.now Rest seat.new }
+        ensures removed { HasRemoved (number_of (state_of chosen)) seat.old.me.0.view
+            seat.new.me.0.view }
+    {
+        let shape = self.shape;
+        let mut state = chosen;
+        'walk: while let WithdrawState::Chosen { .. } = state {
+            (state, _) = self.step(shape, seat, state);
+        }
+        'owed: while let WithdrawState::Owing { .. } = state {
+            (state, _) = self.step(shape, seat, state);
+            'up: while let WithdrawState::Up { .. } = state {
+                (state, _) = self.step(shape, seat, state);
+            }
+            'down: while let WithdrawState::Down { .. } = state {
+                (state, _) = self.step(shape, seat, state);
+            }
+        }
+    }
+
+    /// The first step for a number, by a seat at rest: a swap of the flag of its cell.
+    #[inline(always)]
+    fn begin(
+        &self,
+        seat: &mut Seat<(), Known<WithdrawSight>>,
+        number: u64,
+        place: usize,
+    ) -> (WithdrawState, WithdrawNote)
+        requires at_rest { IsAbout self.now Rest seat.old }
+        requires seated { IsSeated self.now.base number place }
+        ensures about { IsAbout self.now (state_of result.0) seat.new }
+        ensures row { MakesFirstRow (homes_of self.now.shape) number seat.old.me.0.view
+            (note_of result.1) seat.new.me.0.view }
+        ensures again { Contains seat.old.me.0.view.begun number
+            ⊎ Contains seat.old.me.0.view.gone number → note_of result.1 ≡ Gone }
+    {
+        let word = self.shape.cells + place;
+        let act = Act::Swap { word, put: 1 };
+        let found = perform::<_, _, _, Begins>(&self.table.shared, seat, act);
+        withdraw_first(&self.shape, number, found)
+    }
+
+    /// The next step of a seat that is about a state. The shape is handed in, so that a loop of steps reads it once.
+    #[inline(always)]
+    fn step(
+        &self,
+        shape: Shape,
+        seat: &mut Seat<(), Known<WithdrawSight>>,
+        state: WithdrawState,
+    ) -> (WithdrawState, WithdrawNote)
+        requires own { shape ≡ self.now.shape }
+        requires small { shape.cells + shape.claims < 2 ^ 32 }
+        requires about { IsAbout self.now (state_of state) seat.old }
+        requires moving { state_of state ≢ Rest }
+        ensures about { IsAbout self.now (state_of result.0) seat.new }
+        ensures row { MakesRow (homes_of self.now.shape) seat.old.me.0.view (note_of result.1)
+            seat.new.me.0.view }
+        ensures falls { Falls (withdraw_measure self.now.shape.cells (state_of result.0))
+            (withdraw_measure self.now.shape.cells (state_of state)) }
+    {
+        let act = withdraw_act(&shape, state);
+        let found = perform::<_, _, _, GoesOn>(&self.table.shared, seat, act);
+        withdraw_after(&shape, state, found)
     }
 
     /// One look at a cell, without a seat. It promises nothing of the answer.

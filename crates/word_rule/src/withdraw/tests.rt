@@ -97,9 +97,42 @@ fn two_seats_in_turn(rt: HostRuntime) {
     );
 }
 
+/// The same removals, each number in one call.
+#[test]
+fn numbers_in_one_call_each(rt: HostRuntime) {
+    let (words, mut seats) = example(&rt, rt.alloc());
+    let first = withdraw_by(&words, &mut seats, 0, 22, 4);
+    let second = withdraw_by(&words, &mut seats, 1, 9, 6);
+    let again = withdraw_by(&words, &mut seats, 1, 9, 6);
+    assert_eq!(rt;
+        [first, second, again],
+        [WithdrawNote::Begun, WithdrawNote::Begun, WithdrawNote::Gone]
+    );
+    let cells = words.close(rt.alloc(), seats).expect(&rt, "memory");
+    assert_eq!(rt;
+        cells.as_slice(),
+        [0, 0, 0, 0, 1, 14, 0, 0, 0, 0, 0, 0, 0, 0, 0, 0].as_slice()
+    );
+}
+
+/// Removes a number in one call, by one of all seats.
+fn withdraw_by(
+    words: &WithdrawWords,
+    seats: &mut [WithdrawSeat],
+    at: usize,
+    number: u64,
+    place: usize,
+) -> WithdrawNote
+    requires whole { AreWhole IsAtRest words.now seats.old }
+    requires within { at < length seats.old }
+    requires seated { IsSeated words.now.base number place }
+    ensures { AreWhole IsAtRest words.now seats.new }
+{
+    words.withdraw(&mut seats[at], number, place)
+}
+
 /// A seat that removes a number, on a thread of its own.
-fn removed_by<R: Abort>(
-    rt: &R,
+fn removed_by(
     words: &WithdrawWords,
     mut seat: WithdrawSeat,
     number: u64,
@@ -111,7 +144,7 @@ fn removed_by<R: Abort>(
     ensures belongs { result.words ≡ words.now }
     ensures at_rest { result.view.state ≡ Rest }
 {
-    remove(rt, words, &mut seat, number, place);
+    words.withdraw(&mut seat, number, place);
     seat
 }
 
@@ -121,19 +154,19 @@ fn two_seats_at_once(rt: HostRuntime) {
     let (words, mut seats) = example(&rt, rt.alloc());
     let second = seats.pop().expect(&rt, "two seats");
     let first = seats.pop().expect(&rt, "two seats");
-    let (shared, handle) = (&words, &rt);
+    let shared = &words;
     let (first, second) = thread::join(
         &rt,
         move ||
             requires { (first.words ≡ shared.now) × (first.view.state ≡ Rest)
                 × IsSeated shared.now.base 22 4 }
             ensures { (result.words ≡ shared.entry.now) × (result.view.state ≡ Rest) }
-        { removed_by(handle, shared, first, 22, 4) },
+        { removed_by(shared, first, 22, 4) },
         move ||
             requires { (second.words ≡ shared.now) × (second.view.state ≡ Rest)
                 × IsSeated shared.now.base 9 6 }
             ensures { (result.words ≡ shared.entry.now) × (result.view.state ≡ Rest) }
-        { removed_by(handle, shared, second, 9, 6) },
+        { removed_by(shared, second, 9, 6) },
     );
     seats.push(first).expect(&rt, "memory");
     seats.push(second).expect(&rt, "memory");

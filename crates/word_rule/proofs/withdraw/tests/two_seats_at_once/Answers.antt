@@ -19,7 +19,7 @@ taken : (words : SharedWords) (seat : Option (Place WithdrawView)) (is : Place W
 taken words seat is e ready = subst (λ (o : Option (Place WithdrawView)). IfSome o (Ready words)) e ready
 
 pub join-first-requires-after_bounds : goal.join-first-requires-after_bounds
-join-first-requires-after_bounds g c κs within =
+join-first-requires-after_bounds g c κs =
     let words = c.example-words.result.0 in
     let both = All-pop (Ready words) c.example-words.result.1.items c.pop.new.self.items c.pop.result c.pop.ensures.items (all_ready words c.example-words.result.1.items c.example-words.ensures.whole) in
     let one = All-pop (Ready words) c.pop.new.self.items c.pop-2.new.self.items c.pop-2.result c.pop-2.ensures.items both.0 in
