@@ -7,6 +7,3 @@ pub mod laws;
 
 pub use auditing::audit;
 pub use finding::Audit;
-
-#[cfg(test)]
-mod tests;

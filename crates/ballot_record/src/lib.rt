@@ -17,6 +17,3 @@ pub use fault::{LineFault, LineWhy};
 pub use line::{read_line, read_line_into, take_number};
 pub use print::put_line;
 pub use record::{MAX_MARK_SETS, Record};
-
-#[cfg(test)]
-mod tests;

@@ -4,7 +4,6 @@ mod Causes
 mod Complete
 mod Index
 mod Generating
-mod Making
 mod Naming
 mod OneAnswer
 mod OneAudit

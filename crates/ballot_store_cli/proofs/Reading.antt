@@ -1,22 +1,20 @@
 -- The ballots that the lines of a script spell, as far as they were read.
-use Rattle.std.proofs.Common.{◌≡◌, ◌≢◌, ℕ, ◌+◌, ◌≤◌, ⊎_elim, List, [], ◌∷◌, ◌++◌, length, map, take, Option, Some, None, refl, ap, sym, subst, ◌∙◌, arith}
-use Rattle.std.proofs.lemmas.List.{append-nil, length-drop, map_push, take_all, take_at}
+use Rattle.std.proofs.Common.{◌≡◌, ◌≢◌, ℕ, ◌+◌, List, [], ◌∷◌, ◌++◌, length, map, take, Option, Some, None, refl, ap, sym, subst, ◌∙◌, arith}
+use Rattle.std.proofs.lemmas.List.{length-drop, map_push, take_at}
 use Rattle.std.proofs.lemmas.List.Sorted.{Contains-permutation, IsPermutation-sym, length_permutation}
 use Rattle.std.proofs.lemmas.Slice.Zip.{AllZip-long}
 use Rattle.std.specs.List.{AllZip}
 use Rattle.std.specs.Prelude.{Any, IsPermutation, slice_get}
 use Rattle.ballot_store_cli.specs.Build.{HasBadLine, HasTooMuch, IsGoodSoFar}
 use Rattle.outside_io.specs.Outside.{IsReadOut}
-use Rattle.outside_io.proofs.EndedLines.{front_of_within}
-use Rattle.outside_io.proofs.FirstLine.{all_within}
 use Rattle.outside_io.proofs.TakenLines.{IsBehind, line_behind, whole_line, whole_lines, wide_line}
 use Rattle.outside_io.proofs.Told.{told_as, told_with}
-use Rattle.outside_io.specs.Reading.{ReadLines, ReadFirst, ReadToFault, ReadsTo}
-use Rattle.outside_io.specs.Reading.Ending.{ReadOut, TooMuch}
+use Rattle.outside_io.specs.Reading.{ReadLines, ReadFirst, ReadsTo}
+use Rattle.outside_io.specs.Reading.Ending.{Faulted, ReadOut, TooMuch}
 use Rattle.outside_io.specs.Stream.{GivesAtMost}
 use Rattle.outside_io.specs.Told.{IfTold}
 use Rattle.ballot_record.proofs.BallotSets.{in_order, in_order-IsPermutation}
-use Rattle.ballot_record.proofs.LineFronts.{front_builds, listing_builds}
+use Rattle.ballot_record.proofs.LineFronts.{listing_builds}
 use Rattle.ballot_record.proofs.LineLaws.{short_lines}
 use Rattle.store_spec.specs.Ballot.{Ballot, IsListing, IsWithinLimit}
 use Rattle.store_spec.specs.BallotLine.{Spells}
@@ -120,20 +118,7 @@ told_too_much e listing is few reads = told_as reads.told (λ x y h.
     let each = spelled_lines e (lines_within script_limit x) reads.lines listing h.2 reads.good in
     (omega (arith, h.0, ap length h.1, length-drop (script_limit + 1) x), in_order listing, listing_builds e (lines_within script_limit x) listing each is few))
 
-pub told_fault : {a b : Option (List ℕ)} (e : Election) (listing : List Ballot) → IsListing e listing → IsWithinLimit e listing → ReadsTo ReadToFault (AreSpelled e listing) a b → IfTold a b (IsGoodSoFar e)
-told_fault e listing is few reads = told_as reads.told (λ x y h. ⊎_elim
-    (λ ended.
+pub told_fault : {a b : Option (List ℕ)} (e : Election) (listing : List Ballot) → IsListing e listing → IsWithinLimit e listing → ReadsTo (ReadLines Faulted) (AreSpelled e listing) a b → IfTold a b (IsGoodSoFar e)
+told_fault e listing is few reads = told_as reads.told (λ x y ended.
     let each = spelled_lines e (ended_lines ended.0) reads.lines listing ended.3 reads.good in
     (ended.0, ended.1, ended.2, in_order listing, listing_builds e (ended_lines ended.0) listing each is few))
-    (λ out.
-    let n = length x in
-    let within : n ≤ script_limit = out.0 in
-    let lines = lines_within script_limit x in
-    let k = length (ended_lines (take n x)) in
-    let whole : take n x ≡ x = take_all n x (omega arith) in
-    let first : ended_lines x ≡ take k lines = sym (ap ended_lines whole) ∙ front_of_within n script_limit x within in
-    let each = spelled_lines e lines reads.lines listing (out.2 ∙ ap taken_lines (sym (all_within script_limit x within))) reads.good in
-    let all : take (length lines + k) lines ≡ lines = take_all (length lines + k) lines (omega arith) in
-    let built = front_builds e lines k (length lines + k) listing (omega arith) (subst (λ (ls : List (List ℕ)). AllZip (Spells e) ls listing) (sym all) each) is few in
-    (x, sym (append-nil x) ∙ ap (λ rest. x ++ rest) (sym out.1), within, in_order (take k listing), subst (λ (ls : List (List ℕ)). Builds e ls (in_order (take k listing))) (sym first) built))
-    h)

@@ -1,6 +1,6 @@
 -- What the command `init` makes of a disk. `old` and `new` are the sink before and after, and `before` and `after` the
 -- disk.
-use Rattle.std.specs.Prelude.{◌≡◌, ◌⊎◌, ℕ, List, [], ◌∷◌, ◌++◌, codes, Some, IfSome}
+use Rattle.std.specs.Prelude.{◌≡◌, ◌⊎◌, ℕ, List, [], ◌∷◌, ◌++◌, codes, Some, IfSome, is_some}
 use Rattle.ballot_store_cli.specs.declared.status.Status.{Status}
 use Rattle.ballot_store_cli.specs.declared.status.Status.TheVariants as status
 use Rattle.checkpoint.specs.Unused.{IsRefusedDisk, IsUntouchedOrNew}
@@ -8,7 +8,7 @@ use Rattle.checkpoint.specs.declared.fresh.InitFault.TheVariants as faults
 use Rattle.outside_io.specs.Outside.{Output}
 use Rattle.outside_io.specs.Stream.{TakesAll, TakesSome}
 use Rattle.outside_io.specs.Told.{AsTold}
-use Rattle.store_spec.specs.Disk.{DiskModel, IsSettled, SyncsFirst}
+use Rattle.store_spec.specs.Disk.{DiskModel, IsSettled, LeavesOnly, SyncsFirst, leaves_now}
 use Rattle.store_spec.specs.Election.{Election}
 use Rattle.store_spec.specs.Fault.{Rose}
 use Rattle.store_spec.specs.Input.{line_end}
@@ -40,6 +40,11 @@ pub record LeavesBytes {D : Type 0} (model : DiskModel D) (before after : D) (Wh
   pub same_bytes : model.seen after ≡ model.seen before
   pub no_fault : model.faults after ≡ model.faults before
 
+-- a crash at each moment leaves what it might have left at the start
+abbrev pub SparesDisk : {D : Type 0} → DiskModel D → D → D → Type 0
+SparesDisk model before after = (bytes : List ℕ) → model.seen before ≡ Some bytes
+    → LeavesOnly model.calls model.may_leave before after (leaves_now model.calls model.may_leave before)
+
 -- What becomes of the disk and of the sink where a run of `init` ends so, and why it does.
 abbrev pub InitLeaves : {K D : Type 0} → DiskModel D → Election → Status → Output K → Output K → D → D → Type 0
 InitLeaves model e status.Ok old new before after =
@@ -47,11 +52,14 @@ InitLeaves model e status.Ok old new before after =
 InitLeaves model e status.WriteFault old new before after =
     MakesMedium model e before after × TakesSome old.taken ready_text new.taken × Rose old.faults new.faults
 InitLeaves model e status.Exists old new before after =
-    LeavesBytes model before after (λ bytes. IsRefusedDisk e bytes faults.Exists) × (new ≡ old)
+    LeavesBytes model before after (λ bytes. IsRefusedDisk e bytes faults.Exists)
+    × SparesDisk model before after × (new ≡ old)
 InitLeaves model e (status.WrongSize size) old new before after =
-    LeavesBytes model before after (λ bytes. IsRefusedDisk e bytes (faults.WrongSize size)) × (new ≡ old)
+    LeavesBytes model before after (λ bytes. IsRefusedDisk e bytes (faults.WrongSize size))
+    × SparesDisk model before after × (new ≡ old)
 InitLeaves model e status.Memory old new before after =
-    LeavesBytes model before after (λ bytes. IsRefusedDisk e bytes faults.Memory) × (new ≡ old)
+    LeavesBytes model before after (λ bytes. IsRefusedDisk e bytes faults.Memory)
+    × SparesDisk model before after × (new ≡ old)
 InitLeaves model e status.DiskFault old new before after =
     Rose (model.faults before) (model.faults after) × (new ≡ old)
 InitLeaves model e other old new before after = ⊥
@@ -60,3 +68,4 @@ InitLeaves model e other old new before after = ⊥
 pub record InitEnds {K D : Type 0} (model : DiskModel D) (e : Election) (status : Status) (old new : Output K) (before after : D) : Type 0 where
   pub leaves : InitLeaves model e status old new before after
   pub crashes : HoldsNoOther model e before after
+  pub told : is_some (model.seen after) ≡ is_some (model.seen before)

@@ -14,7 +14,7 @@ mod run;
 mod status;
 mod streams;
 
-use crash_disk::FileDisk;
+use crash_disk::{FileDisk, FileLock};
 use outside_io::{FileSource, Memory, NoTurns, StdinSource, StdoutSink};
 pub use run::run;
 pub use status::{Status, Which};
@@ -64,7 +64,7 @@ fn further_disks<'a, R: Files + AllocGlobal>(
 fn status_of<R>(rt: &R) -> Status
 where
     R: Threads + Sync + Env + Files + Input + Print + AllocGlobal,
-    R::File: FileExt,
+    R::File: FileExt + FileLock,
 {
     let words = match words_of(rt) {
         Ok(words) => words,

@@ -2,6 +2,7 @@
 use Rattle.std.specs.Prelude.{◌≡◌, ◌⊎◌, ◌<◌, ℕ, List, [], length, Option}
 use Rattle.checkpoint.specs.declared.fresh.InitFault.{InitFault}
 use Rattle.checkpoint.specs.declared.fresh.InitFault.TheVariants.{WrongSize, Exists, DiskFault, Memory}
+use Rattle.store_spec.specs.Disk.{DiskModel, LeavesOnly, leaves_now}
 use Rattle.store_spec.specs.Election.{Election, medium_size}
 use Rattle.store_spec.specs.Medium.{IsOpen, IsUnused, HoldsAtMost}
 use Rattle.store_spec.specs.Medium.Bank.{A, B}
@@ -18,6 +19,12 @@ IsRefusedDisk e bytes Memory = Unit {0}
 abbrev pub IsUnchangedAt : InitFault → Option (List ℕ) → Option (List ℕ) → Type 0
 IsUnchangedAt DiskFault old new = Unit {0}
 IsUnchangedAt fault old new = new ≡ old
+
+-- nor does a crash at any moment leave what it might not have left before, unless the disk failed
+abbrev pub IsUnharmedAt : {D : Type 0} → DiskModel D → InitFault → D → D → Type 0
+IsUnharmedAt model DiskFault old new = Unit {0}
+IsUnharmedAt model fault old new =
+    LeavesOnly model.calls model.may_leave old new (leaves_now model.calls model.may_leave old)
 
 -- Nothing was written yet to a disk that had the first bytes, or it was unused, and these hold nothing or the empty set.
 abbrev pub IsUntouchedOrNew : Election → List ℕ → List ℕ → Type 0

@@ -3,9 +3,9 @@
 ghost use Rattle.std.specs.Prelude.{◌≡◌, ◌⊎◌, ◌+◌, ◌≤◌, ◌++◌, ℕ, List, [], Some, option_map, is_some, IsErrOf, IfErr, IfSome, OnOk, length};
 ghost use Rattle.std.specs.Option.{ForSome};
 ghost use Rattle.bank_medium.specs.Banks.{place_of};
-ghost use Rattle.checkpoint.specs.Unused.{IsRefusedDisk, IsUnchangedAt, IsUntouchedOrNew};
+ghost use Rattle.checkpoint.specs.Unused.{IsRefusedDisk, IsUnchangedAt, IsUnharmedAt, IsUntouchedOrNew};
 ghost use Rattle.outside_io.specs.Told.{AsTold};
-ghost use Rattle.store_spec.specs.Disk.{leaves_now, overwritten, IsSettled, LeavesOnly, SyncsFirst};
+ghost use Rattle.store_spec.specs.Disk.{disk_model, leaves_now, overwritten, IsSettled, LeavesOnly, SyncsFirst};
 ghost use Rattle.store_spec.specs.Fault.{CountsFault, CountsFaultIf};
 ghost use Rattle.store_spec.specs.Election.{bank_size};
 ghost use Rattle.store_spec.specs.Medium.{HoldsAtMost, IsMediumOf, IsUnused};
@@ -70,6 +70,9 @@ pub fn init<D: Disk>(
         (λ fault. IfSome (D.seen disk.old) (λ bytes. IsRefusedDisk election.now bytes fault)) }
     ensures unchanged { IfErr result
         (λ fault. IsUnchangedAt fault (D.seen disk.old) (D.seen disk.new)) }
+    ensures unharmed { IfErr result (λ fault. (bytes : List ℕ) → D.seen disk.old ≡ Some bytes
+        → IsUnharmedAt (disk_model D.seen D.calls D.may_leave D.faults) fault disk.old disk.new) }
+    ensures told { is_some (D.seen disk.new) ≡ is_some (D.seen disk.old) }
     ensures any_moment { (bytes : List ℕ) → D.seen disk.old ≡ Some bytes
         → SyncsFirst D.calls D.may_leave disk.old disk.new (IsUntouchedOrNew election.now bytes) }
     ensures later { D.calls disk.old ≤ D.calls disk.new }
@@ -119,6 +122,7 @@ fn write_banks<D: Disk>(disk: &mut D, election: &Election, made: &[u8]) -> Resul
     requires unused { ForSome (D.seen disk.old) (IsUnused election.now) }
     ensures written { OnOk result (D.seen disk.new
         ≡ option_map (overwritten 0 (made.now ++ made.now)) (D.seen disk.old)) }
+    ensures told { is_some (D.seen disk.new) ≡ is_some (D.seen disk.old) }
     ensures settled { OnOk result (IsSettled D.seen D.calls D.may_leave disk.new) }
     ensures any_moment { LeavesOnly D.calls D.may_leave disk.old disk.new (IsUnused election.now) }
     ensures fault { CountsFault result (D.faults disk.old) (D.faults disk.new) }
@@ -141,6 +145,7 @@ fn write_each_page<D: Disk>(
         → IsUnused election.now c }
     ensures written { OnOk result (D.seen disk.new
         ≡ option_map (overwritten (place_of election.now bank) made.now) (D.seen disk.old)) }
+    ensures told { is_some (D.seen disk.new) ≡ is_some (D.seen disk.old) }
     ensures any_moment { LeavesOnly D.calls D.may_leave disk.old disk.new (IsUnused election.now) }
     ensures fault { CountsFault result (D.faults disk.old) (D.faults disk.new) }
 {

@@ -8,6 +8,3 @@ mod renewal;
 pub use fresh::{InitFault, init};
 pub use medium::checkpoint;
 pub use renewal::{fill_bank, renew_bank};
-
-#[cfg(test)]
-mod tests;

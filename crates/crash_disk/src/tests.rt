@@ -8,6 +8,7 @@ use crate::failing::Failing;
 use crate::recorded::RecordedDisk;
 use crate::{Disk, DiskCall, FusedDisk, MemoryDisk, Room, SureDisk};
 use outside_io::Failed;
+use std::alloc::Global;
 use std::process::Abort;
 use std::test::Fail;
 
@@ -93,14 +94,25 @@ const STEPS: [Step<'static>; 11] = [
     (DiskCall::Size, &[4, 4, 4, 4], Err(Failed)),
 ];
 
+// A disk of three bytes, of which this call is to fail.
+fn three_bytes(alloc: Global, failing: u64) -> Result<MemoryDisk, Fail> {
+    let bytes = [1, 2, 3].to_vec(alloc)?;
+    Ok(MemoryDisk::new(alloc, bytes, [failing].to_vec(alloc)?, ROOM)?)
+}
+
 #[test]
 fn memory_disk_records_its_calls(rt: HostRuntime) -> Result<(), Fail> {
-    let alloc = rt.alloc();
-    let mut disk = MemoryDisk::new(alloc, [1, 2, 3].to_vec(alloc)?, [5].to_vec(alloc)?, ROOM)?;
+    let mut disk = three_bytes(rt.alloc(), 5)?;
     assert_steps(&rt, &mut disk, &STEPS[..7]);
     assert_eq!(rt; disk.bytes(), [1, 2, 7, 8].as_slice());
     assert_steps(&rt, &mut disk, &STEPS[7..]);
     assert_eq!(rt; disk.calls(), 11);
+    assert_recorded(&rt, &disk);
+    Ok(())
+}
+
+// The record has these calls, and what each write put.
+fn assert_recorded(rt: &impl Abort, disk: &MemoryDisk) {
     let mut index = 0u64;
     for (call, _, _) in &STEPS[..10] {
         assert_eq!(rt; disk.call_made(index), Some(*call));
@@ -112,7 +124,6 @@ fn memory_disk_records_its_calls(rt: HostRuntime) -> Result<(), Fail> {
     for (index, put) in puts {
         assert_eq!(rt; disk.written(index), put);
     }
-    Ok(())
 }
 
 #[test]

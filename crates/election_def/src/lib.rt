@@ -8,6 +8,3 @@ mod read;
 
 pub use fault::ElectionFault;
 pub use read::read_election;
-
-#[cfg(test)]
-mod tests;

@@ -1,6 +1,6 @@
 use crate::stage::{Call, Stage};
 use std::alloc::{Allocator, Global};
-use std::fs::{Files, Metadata, OpenFile, OpenOptions};
+use std::fs::{Files, Metadata, OpenFile, OpenOptions, TryLockError};
 use std::io::{self, ErrorKind, Read, Seek, SeekFrom, Write};
 use std::os::unix::fs::FileExt;
 
@@ -31,6 +31,18 @@ pub struct FakeFile<'a> {
     stage: &'a Stage,
     is_folder: bool,
     at: usize,
+}
+
+impl FakeFile<'_> {
+    /// Asks for the lock of the file for itself alone, and does not wait.
+    pub fn try_lock(&self) -> Result<(), TryLockError> {
+        self.stage.lock(Call::Lock)
+    }
+
+    /// Asks for a share of the lock of the file, and does not wait.
+    pub fn try_lock_shared(&self) -> Result<(), TryLockError> {
+        self.stage.lock(Call::LockShared)
+    }
 }
 
 /// A folder that cannot be listed.

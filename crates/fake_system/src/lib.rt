@@ -7,5 +7,5 @@ mod stage;
 mod streams;
 
 pub use file::{FakeFile, FakeFiles, FakeFolder};
-pub use stage::{Call, FAULT_KINDS, Stage};
+pub use stage::{Call, FAULT_KINDS, Others, Stage};
 pub use streams::{FakeInput, FakeOutput, FakeReader};

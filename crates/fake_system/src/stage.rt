@@ -2,6 +2,7 @@ ghost use Rattle.std.specs.Prelude.{◌≤◌, length, IfOk};
 
 use std::alloc::{AllocError, Global};
 use std::cell::{Cell, RefCell};
+use std::fs::TryLockError;
 use std::io::{self, ErrorKind};
 
 /// A call on the system, as a stage logs it.
@@ -31,8 +32,25 @@ pub enum Call {
     SyncData,
     /// The folder was synced.
     SyncFolder,
+    /// The lock of the file was asked for, for one alone.
+    Lock,
+    /// The lock of the file was asked for, to be shared.
+    LockShared,
     /// Another call.
     Other,
+}
+
+/// What others have of the lock of the file of a stage.
+#[derive(Clone, Copy, Debug, PartialEq, Eq)]
+pub enum Others {
+    /// No other has the lock.
+    HoldNone,
+    /// Another shares the lock.
+    Share,
+    /// Another has the lock alone.
+    HoldAlone,
+    /// The file has no lock.
+    HaveNoLocks,
 }
 
 /// Each kind of error but an interruption, after which a call is made again.
@@ -89,6 +107,7 @@ pub struct Stage {
     failing: Cell<u64>,
     kind: Cell<ErrorKind>,
     made: Cell<u64>,
+    others: Cell<Others>,
 }
 
 fn in_use() -> io::Error {
@@ -109,6 +128,7 @@ impl Stage {
             failing: Cell::new(0),
             kind: Cell::new(ErrorKind::Other),
             made: Cell::new(0),
+            others: Cell::new(Others::HoldNone),
         }
     }
 
@@ -120,6 +140,11 @@ impl Stage {
         self.failing.set(call);
         self.kind.set(kind);
         Ok(())
+    }
+
+    /// What others have of the lock from now on.
+    pub fn lock_by_others(&self, others: Others) {
+        self.others.set(others);
     }
 
     /// The calls since the log was emptied.
@@ -148,6 +173,22 @@ impl Stage {
             return Err(self.kind.get().into());
         }
         Ok(())
+    }
+
+    /// Logs that the lock was asked for, and answers whether it is had. The stage keeps no lock that is had.
+    pub(crate) fn lock(&self, call: Call) -> Result<(), TryLockError> {
+        match self.step(call) {
+            Ok(()) => {}
+            Err(error) if error.kind() == ErrorKind::WouldBlock => {
+                return Err(TryLockError::WouldBlock);
+            }
+            Err(error) => return Err(TryLockError::Error(error)),
+        }
+        match (self.others.get(), call) {
+            (Others::HoldNone, _) | (Others::Share, Call::LockShared) => Ok(()),
+            (Others::Share | Others::HoldAlone, _) => Err(TryLockError::WouldBlock),
+            (Others::HaveNoLocks, _) => Err(TryLockError::Error(ErrorKind::Unsupported.into())),
+        }
     }
 
     /// How many bytes there are, where there is a file.

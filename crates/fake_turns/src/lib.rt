@@ -2,8 +2,6 @@
 #![tactic(auto)]
 
 mod meeting;
-#[cfg(test)]
-mod tests;
 mod words;
 
 pub use meeting::Meeting;

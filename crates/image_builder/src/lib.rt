@@ -13,6 +13,3 @@ pub use read::ImageFault;
 pub use reader::{ImageReader, read_image};
 pub use scratch::{PAGE_BYTES, Scratch};
 pub use write::{image, image_part};
-
-#[cfg(test)]
-mod tests;

@@ -7,6 +7,3 @@ mod options;
 mod parsed;
 
 pub use options::{Options, are_options, options_of};
-
-#[cfg(test)]
-mod tests;

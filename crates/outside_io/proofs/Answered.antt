@@ -1,12 +1,12 @@
 -- What a call of `next_line` answers, from what its parts do.
-use Rattle.std.proofs.Common.{◌≡◌, ℕ, ◌+◌, ◌<◌, ◌≤◌, List, [], ◌∷◌, ◌++◌, length, take, drop, map, Option, Some, None, Ok, Err, refl, ap, sym, ◌∙◌, subst, inl, inr, arith, append_assoc, length-append, length-drop, length-take}
+use Rattle.std.proofs.Common.{◌≡◌, ℕ, Bool, true, false, ◌+◌, ◌<◌, ◌≤◌, List, [], ◌∷◌, ◌++◌, length, take, drop, map, Option, Some, None, Ok, Err, refl, ap, sym, ◌∙◌, subst, inl, inr, arith, append_assoc, length-append, length-drop, length-take}
 use Rattle.std.proofs.lemmas.List.{take-append-le, drop-append-le, drop_all, drop_at, drop-drop, nil_from_length, append-nil, take_all}
 use Rattle.std.specs.Option.{IfSome}
 use Rattle.std.specs.Prelude.{Result, IsErrAnd}
 use Rattle.std.proofs.lemmas.Bool.{cases_lt}
 use Rattle.outside_io.specs.declared.lines.LineEndFault.TheVariants.{TooLong, ReadFault}
 use Rattle.outside_io.specs.declared.lines.LineEndFault.{LineEndFault}
-use Rattle.outside_io.specs.Lines.{HandsOut, LooksLike, Answers, AnswersTold, CutsOff, StaysSame, TakesLast}
+use Rattle.outside_io.specs.Lines.{HandsOut, HasEnded, LooksLike, Answers, AnswersTold, CutsOff, StaysSame, TakesLast}
 use Rattle.outside_io.specs.declared.lines.NextLine.{NextLine}
 use Rattle.outside_io.specs.declared.lines.NextLine.TheVariants.{Whole, TooWide, End}
 use Rattle.outside_io.specs.Stream.{Gives}
@@ -95,8 +95,8 @@ still_ended before (Some y) piece gives nothing ended =
 -- ---- the answers
 
 -- the first line of a text and what stands behind it, from those of a text that looks like it
-hands_alike : (line : Option (List ℕ)) (text all rest : List ℕ) (room room_left : ℕ) → LooksLike text all → 0 < length all → ¬ IsTooLong all room → taken_line (take (first_width all) all) ≡ line → rest ≡ drop (first_width all + 1) all → room + length rest ≡ room_left + length all → HandsOut line text room rest room_left
-hands_alike line text all rest room room_left alike some short taken behind counted =
+hands_alike : (line : Option (List ℕ)) (text all rest : List ℕ) (room room_left : ℕ) (ended : Bool) → LooksLike text all → (first_width all ≡ length all → ended ≡ true) → 0 < length all → ¬ IsTooLong all room → taken_line (take (first_width all) all) ≡ line → rest ≡ drop (first_width all + 1) all → room + length rest ≡ room_left + length all → HandsOut line text room rest room_left ended
+hands_alike line text all rest room room_left ended alike last some short taken behind counted =
     let w = first_width text in
     let width : first_width all + 1 ≡ w + 1 = ap (λ n. n + 1) alike.width in
     let behind_text : rest ≡ drop (w + 1) text =
@@ -110,10 +110,11 @@ hands_alike line text all rest room room_left alike some short taken behind coun
       behind = behind_text;
       counted = omega (arith, counted, alike.size);
       within = within;
+      last = λ none. last (alike.width ∙ none ∙ sym alike.size);
     }
 
 -- a line was cut off
-cut_hands : (line : Option (List ℕ)) (old now : Kept) (text left : List ℕ) (room : ℕ) → LooksLike text (old.text ++ left) → old.room ≡ room → first_width old.text < length old.text → first_width old.text < old.room → now.text ≡ drop (first_width old.text + 1) old.text → old.room ≡ now.room + (first_width old.text + 1) → taken_line (take (first_width old.text) old.text) ≡ line → HandsOut line text room (now.text ++ left) now.room
+cut_hands : (line : Option (List ℕ)) (old now : Kept) (text left : List ℕ) (room : ℕ) → LooksLike text (old.text ++ left) → old.room ≡ room → first_width old.text < length old.text → first_width old.text < old.room → now.text ≡ drop (first_width old.text + 1) old.text → old.room ≡ now.room + (first_width old.text + 1) → taken_line (take (first_width old.text) old.text) ≡ line → HandsOut line text room (now.text ++ left) now.room now.ended
 cut_hands line old now text left room alike same ends within rest counted taken =
     let w = first_width old.text in
     let all = old.text ++ left in
@@ -122,18 +123,18 @@ cut_hands line old now text left room alike same ends within rest counted taken 
     let behind : drop (w + 1) all ≡ now.text ++ left = drop-append-le (w + 1) old.text left (omega arith) ∙ ap (λ front. front ++ left) (sym rest) in
     let first : taken_line (take (first_width all) all) ≡ line =
     ap (λ n. taken_line (take n all)) width ∙ ap taken_line (take-append-le w old.text left (omega arith)) ∙ taken in
-    hands_alike line text all (now.text ++ left) room now.room alike (omega arith) (λ long. absurd (omega (arith, long.no_end))) first
+    hands_alike line text all (now.text ++ left) room now.room now.ended alike (λ none. absurd (omega arith)) (omega arith) (λ long. absurd (omega (arith, long.no_end))) first
     (sym behind ∙ ap (λ n. drop (n + 1) all) (sym width)) (omega (arith, ap length behind, length-drop (w + 1) all))
 
 -- the last line was handed out
-last_hands : (line : Option (List ℕ)) (old now : Kept) (text : List ℕ) (room : ℕ) → LooksLike text (old.text ++ []) → old.room ≡ room → first_width old.text ≡ length old.text → length old.text ≤ old.room → 0 < length old.text → now.text ≡ [] → old.room ≡ now.room + length old.text → taken_line old.text ≡ line → HandsOut line text room (now.text ++ []) now.room
-last_hands line old now text room alike same none within some rest counted taken =
+last_hands : (line : Option (List ℕ)) (old now : Kept) (text : List ℕ) (room : ℕ) → LooksLike text (old.text ++ []) → old.room ≡ room → first_width old.text ≡ length old.text → length old.text ≤ old.room → 0 < length old.text → now.text ≡ [] → old.room ≡ now.room + length old.text → now.ended ≡ true → taken_line old.text ≡ line → HandsOut line text room (now.text ++ []) now.room now.ended
+last_hands line old now text room alike same none within some rest counted ended taken =
     let all = old.text ++ [] in
     let is : all ≡ old.text = append-nil old.text in
     let nothing : now.text ++ [] ≡ [] = append-nil now.text ∙ rest in
     let size : length all ≡ length old.text = ap length is in
     let width : first_width all ≡ length old.text = ap first_width is ∙ none in
-    hands_alike line text all (now.text ++ []) room now.room alike (omega arith) (λ long. absurd (omega (arith, long.more)))
+    hands_alike line text all (now.text ++ []) room now.room now.ended alike (λ _. ended) (omega arith) (λ long. absurd (omega (arith, long.more)))
     (ap taken_line (take_all (first_width all) all (omega arith) ∙ is) ∙ taken)
     (nothing ∙ sym (drop_all (first_width all + 1) all (omega arith))) (omega (arith, ap length nothing))
 
@@ -147,14 +148,14 @@ answers_line End old now text left room alike same cut = absurd cut.answer
 
 answers_end : (answer : NextLine) (old now : Kept) (text : List ℕ) (room : ℕ) → LooksLike text (old.text ++ []) → old.room ≡ room → first_width old.text ≡ length old.text → length old.text ≤ old.room → TakesLast answer old now → Answers (Ok answer) text room now (now.text ++ [])
 answers_end Whole old now text room alike same none within last =
-    last_hands (Some now.line) old now text room alike same none within last.0 last.2 last.3 (taken_line-narrow old.text last.1.0 ∙ ap Some (sym last.1.1))
+    last_hands (Some now.line) old now text room alike same none within last.0 last.1 last.2 last.3 (taken_line-narrow old.text last.4.0 ∙ ap Some (sym last.4.1))
 answers_end TooWide old now text room alike same none within last =
-    last_hands None old now text room alike same none within last.0 last.2 last.3 (taken_line-wide old.text last.1)
+    last_hands None old now text room alike same none within last.0 last.1 last.2 last.3 (taken_line-wide old.text last.4)
 answers_end End old now text room alike same none within last =
     let empty : old.text ++ [] ≡ [] = append-nil old.text ∙ last.0 in
     let nothing : text ≡ [] = nil_from_length text (omega (arith, alike.size, ap length empty)) in
     let lines : taken_within room text ≡ [] = ap (λ bytes. taken_within room bytes) nothing ∙ ap (map taken_line) (lines_within-none room) in
-    (record { lines = lines; empty = nothing }, append-nil now.text ∙ last.1.text ∙ last.0, last.1.room ∙ same)
+    (record { lines = lines; empty = nothing }, append-nil now.text ∙ last.1, last.2 ∙ same, last.3)
 
 pub answers_last : (answer : NextLine) (old now : Kept) (text left : List ℕ) (room : ℕ) → LooksLike text (old.text ++ left) → old.room ≡ room → first_width old.text ≡ length old.text → length old.text ≤ old.room → left ≡ [] → TakesLast answer old now → Answers (Ok answer) text room now (now.text ++ left)
 answers_last answer old now text left room alike same none within ended last =
@@ -173,9 +174,23 @@ alike_more {b} {c} old mid cut now alike still filled =
     let P : List ℕ → Type 0 = λ text. IfTold b c (λ x y. LooksLike (text ++ x) (now.text ++ y)) in
     told_on alike (subst P still filled) (λ x y z. looks_on (old.text ++ x) (mid.text ++ y) (now.text ++ z))
 
-pub told_line : (answer : NextLine) (before left : Option (List ℕ)) (old mid now : Kept) → Alike old mid before left → mid.room ≡ old.room → CutsOff answer mid now → AnswersTold (Ok answer) old before now left
-told_line answer before left old mid now alike same cut =
-    record { told = told_as alike (λ x y looks. answers_line answer mid now (old.text ++ x) y old.room looks same cut) }
+-- Where the end of the source is known at a turn of the loop, it was known before the first, and nothing was done since.
+abbrev pub EndedBefore : Kept → Kept → Option (List ℕ) → Option (List ℕ) → Type 0
+EndedBefore old mid before left = mid.ended ≡ true → (mid ≡ old) × (left ≡ before)
+
+-- then nothing is kept, and the source has nothing left
+ended_still : (before left : Option (List ℕ)) (old mid : Kept) → EndedBefore old mid before left → HasEnded old before → HasEnded mid left
+ended_still before left old mid known ends is =
+    let same = known is in
+    let was = ends (ap (λ (kept : Kept). kept.ended) (sym same.0) ∙ is) in
+    (ap (λ (kept : Kept). kept.text) same.0 ∙ was.0, subst (λ (o : Option (List ℕ)). IfSome o (λ rest. rest ≡ [])) (sym same.1) was.1)
+
+pub told_line : (answer : NextLine) (before left : Option (List ℕ)) (old mid now : Kept) → Alike old mid before left → mid.room ≡ old.room → EndedBefore old mid before left → CutsOff answer mid now → AnswersTold (Ok answer) old before now left
+told_line answer before left old mid now alike same known cut = record {
+  told = λ ends. told_as alike (λ x y looks. answers_line answer mid now (old.text ++ x) y old.room looks same cut);
+  ended = λ ends is. absurd (omega (arith, cut.ends, ap length (ended_still before left old mid known ends (sym cut.ended ∙ is)).0));
+  asked = λ failed. absurd (cc);
+}
 
 too_long_now : (old mid now : Kept) (x y : List ℕ) → mid.room ≡ old.room → IsTooLong mid.text mid.room → StaysSame mid now → LooksLike (old.text ++ x) (mid.text ++ y) → Answers (Err TooLong) (old.text ++ x) old.room now (now.text ++ y)
 too_long_now old mid now x y same long still alike =
@@ -187,21 +202,35 @@ too_long_now old mid now x y same long still alike =
     let too_long = too_long_alike (old.text ++ x) (mid.text ++ y) old.room alike (too_long_more mid.text y old.room long_old) in
     (record { lines = ap (map taken_line) (lines_within-too_long old.room (old.text ++ x) too_long); too_long = too_long }, subst P (sym still.text) alike, subst T (sym still.text) long_now, still.room ∙ same)
 
-pub told_too_long : (before left : Option (List ℕ)) (old mid now : Kept) → Alike old mid before left → mid.room ≡ old.room → IsTooLong mid.text mid.room → StaysSame mid now → AnswersTold (Err TooLong) old before now left
-told_too_long before left old mid now alike same long still =
-    record { told = told_as alike (λ x y looks. too_long_now old mid now x y same long still looks) }
-
-pub told_last : (answer : NextLine) (before left : Option (List ℕ)) (old mid now : Kept) → Alike old mid before left → mid.room ≡ old.room → first_width mid.text ≡ length mid.text → length mid.text ≤ mid.room → IfSome left (λ rest. rest ≡ []) → TakesLast answer mid now → AnswersTold (Ok answer) old before now left
-told_last answer before left old mid now alike same none within ended last = record {
-  told = record {
-    told = alike.told;
-    related = λ x y was is. answers_last answer mid now (old.text ++ x) y old.room (alike.related x y was is) same none within (told_holds (λ rest. rest ≡ []) y is ended) last;
-  };
+pub told_too_long : (before left : Option (List ℕ)) (old mid now : Kept) → Alike old mid before left → mid.room ≡ old.room → EndedBefore old mid before left → IsTooLong mid.text mid.room → StaysSame mid now → AnswersTold (Err TooLong) old before now left
+told_too_long before left old mid now alike same known long still = record {
+  told = λ ends. told_as alike (λ x y looks. too_long_now old mid now x y same long still looks);
+  ended = λ ends is. absurd (omega (arith, long.more, ap length (ended_still before left old mid known ends (sym still.ended ∙ is)).0));
+  asked = λ failed. absurd (cc);
 }
 
+pub told_last : (answer : NextLine) (before left : Option (List ℕ)) (old mid now : Kept) → Alike old mid before left → mid.room ≡ old.room → first_width mid.text ≡ length mid.text → length mid.text ≤ mid.room → (HasEnded old before → IfSome left (λ rest. rest ≡ [])) → TakesLast answer mid now → AnswersTold (Ok answer) old before now left
+told_last answer before left old mid now alike same none within ended last = record {
+  told = λ ends. record {
+    told = alike.told;
+    related = λ x y was is. answers_last answer mid now (old.text ++ x) y old.room (alike.related x y was is) same none within (told_holds (λ rest. rest ≡ []) y is (ended ends)) last;
+  };
+  ended = λ ends is. (last_taken answer mid now last, ended ends);
+  asked = λ failed. absurd (cc);
+}
+  where
+    last_taken : (answer : NextLine) (mid now : Kept) → TakesLast answer mid now → now.text ≡ []
+    last_taken Whole mid now last = last.1
+    last_taken TooWide mid now last = last.1
+    last_taken End mid now last = last.1
+
 -- the source failed
-pub told_fault : (answer : Result NextLine LineEndFault) (before left : Option (List ℕ)) (old now : Kept) → IsErrAnd answer (λ fault. fault ≡ ReadFault) → Alike old now before left → now.room ≡ old.room → AnswersTold answer old before now left
-told_fault (Ok line) before left old now failed alike same = absurd failed
-told_fault (Err fault) before left old now failed alike same =
+pub told_fault : (answer : Result NextLine LineEndFault) (before left : Option (List ℕ)) (old now : Kept) → IsErrAnd answer (λ fault. fault ≡ ReadFault) → Alike old now before left → now.room ≡ old.room → old.ended ≡ false → now.ended ≡ false → AnswersTold answer old before now left
+told_fault (Ok line) before left old now failed alike same open_before open_now = absurd failed
+told_fault (Err fault) before left old now failed alike same open_before open_now =
     let P : LineEndFault → Type 0 = λ fault. AnswersTold (Err fault) old before now left in
-    subst P (sym failed) (record { told = told_as alike (λ x y looks. (looks, same)) })
+    subst P (sym failed) (record {
+      told = λ ends. told_as alike (λ x y looks. (looks, same));
+      ended = λ ends is. absurd (cc);
+      asked = λ _. open_before;
+    })

@@ -1,5 +1,5 @@
 -- How a source is cut into lines, whatever the pieces in which it gives its bytes.
-use Rattle.std.specs.Prelude.{◌≡◌, ℕ, ◌+◌, ◌<◌, ◌≤◌, List, [], ◌∷◌, ◌++◌, length, take, drop, Option, Some, None, Result, Ok, Err, codes}
+use Rattle.std.specs.Prelude.{◌≡◌, ℕ, ◌+◌, ◌<◌, ◌≤◌, Bool, true, false, IfSome, List, [], ◌∷◌, ◌++◌, length, take, drop, Option, Some, None, Result, Ok, Err, codes}
 use Rattle.outside_io.specs.declared.lines.Found.{Found}
 use Rattle.outside_io.specs.declared.lines.Found.TheVariants.{Line, TooMuch, Nothing}
 use Rattle.outside_io.specs.declared.lines.LineEndFault.{LineEndFault}
@@ -11,12 +11,13 @@ use Rattle.outside_io.specs.Window.{Kept}
 use Rattle.store_spec.specs.Input.{line_limit, first_width, taken_line, taken_within, IsTooLong}
 
 -- The first line of a text was handed out: it is none where it is too wide. What is left of the text and of the room
--- stands behind it and its end.
-pub record HandsOut (line : Option (List ℕ)) (text : List ℕ) (room : ℕ) (rest : List ℕ) (room_left : ℕ) : Type 0 where
+-- stands behind it and its end. A line with no end is the last one, and that the source has ended is known from then on.
+pub record HandsOut (line : Option (List ℕ)) (text : List ℕ) (room : ℕ) (rest : List ℕ) (room_left : ℕ) (ended : Bool) : Type 0 where
   pub lines : taken_within room text ≡ line ∷ taken_within room_left rest
   pub behind : rest ≡ drop (first_width text + 1) text
   pub counted : room + length rest ≡ room_left + length text
   pub within : ¬ IsTooLong text room
+  pub last : first_width text ≡ length text → ended ≡ true
 
 -- there is nothing to hand out
 pub record HandsNothing (text : List ℕ) (room : ℕ) : Type 0 where
@@ -37,15 +38,21 @@ pub record LooksLike (before now : List ℕ) : Type 0 where
 
 -- What a call answers for the text that was kept or left then, and what is kept and left of it now.
 abbrev pub Answers : Result NextLine LineEndFault → List ℕ → ℕ → Kept → List ℕ → Type 0
-Answers (Ok Whole) text room now rest = HandsOut (Some now.line) text room rest now.room
-Answers (Ok TooWide) text room now rest = HandsOut None text room rest now.room
-Answers (Ok End) text room now rest = HandsNothing text room × (rest ≡ []) × (now.room ≡ room)
+Answers (Ok Whole) text room now rest = HandsOut (Some now.line) text room rest now.room now.ended
+Answers (Ok TooWide) text room now rest = HandsOut None text room rest now.room now.ended
+Answers (Ok End) text room now rest = HandsNothing text room × (rest ≡ []) × (now.room ≡ room) × (now.ended ≡ true)
 Answers (Err TooLong) text room now rest = HasNoFurtherLine text room × LooksLike text rest × IsTooLong now.text now.room × (now.room ≡ room)
 Answers (Err ReadFault) text room now rest = LooksLike text rest × (now.room ≡ room)
 
--- the same, where the source tells its bytes
+-- where it is known that the source has ended, nothing is kept, and the source has nothing left
+abbrev pub HasEnded : Kept → Option (List ℕ) → Type 0
+HasEnded kept left = kept.ended ≡ true → (kept.text ≡ []) × IfSome left (λ rest. rest ≡ [])
+
+-- The same of one source, where it tells its bytes. Only a source that has not ended is asked, and so can fail.
 pub record AnswersTold (answer : Result NextLine LineEndFault) (old : Kept) (before : Option (List ℕ)) (now : Kept) (left : Option (List ℕ)) : Type 0 where
-  pub told : IfTold before left (λ before left. Answers answer (old.text ++ before) old.room now (now.text ++ left))
+  pub told : HasEnded old before → IfTold before left (λ before left. Answers answer (old.text ++ before) old.room now (now.text ++ left))
+  pub ended : HasEnded old before → HasEnded now left
+  pub asked : answer ≡ Err ReadFault → old.ended ≡ false
 
 -- what is printed of a fault
 abbrev pub fault_text : LineEndFault → List ℕ
@@ -67,10 +74,12 @@ pub record CutsOff (told : NextLine) (old now : Kept) : Type 0 where
   pub answer : IsAnswerFor told (take (first_width old.text) old.text) now.line
   pub rest : now.text ≡ drop (first_width old.text + 1) old.text
   pub room : old.room ≡ now.room + (first_width old.text + 1)
+  pub ended : now.ended ≡ old.ended
 
 pub record StaysSame (old now : Kept) : Type 0 where
   pub text : now.text ≡ old.text
   pub room : now.room ≡ old.room
+  pub ended : now.ended ≡ old.ended
 
 -- what stands in the text that is kept
 abbrev pub Finds : Found → Kept → Kept → Type 0
@@ -78,7 +87,7 @@ Finds (Line answer) old now = CutsOff answer old now
 Finds TooMuch old now = IsTooLong old.text old.room × StaysSame old now
 Finds Nothing old now = (first_width old.text ≡ length old.text) × (length old.text ≤ old.room) × StaysSame old now
 
--- all that is kept is the last line, or nothing is
+-- all that is kept is the last line, or nothing is, and the source has ended
 abbrev pub TakesLast : NextLine → Kept → Kept → Type 0
-TakesLast End old now = (old.text ≡ []) × StaysSame old now
-TakesLast answer old now = (0 < length old.text) × IsAnswerFor answer old.text now.line × (now.text ≡ []) × (old.room ≡ now.room + length old.text)
+TakesLast End old now = (old.text ≡ []) × (now.text ≡ []) × (now.room ≡ old.room) × (now.ended ≡ true)
+TakesLast answer old now = (0 < length old.text) × (now.text ≡ []) × (old.room ≡ now.room + length old.text) × (now.ended ≡ true) × IsAnswerFor answer old.text now.line

@@ -1,16 +1,17 @@
 -- What a reader of lines keeps of its source.
-use Rattle.std.specs.Prelude.{◌≡◌, ℕ, ◌+◌, ◌-◌, ◌<◌, ◌≤◌, List, ◌++◌, take, replicate, vec_len, slice_range}
+use Rattle.std.specs.Prelude.{◌≡◌, ℕ, Bool, ◌+◌, ◌-◌, ◌<◌, ◌≤◌, List, ◌++◌, take, replicate, vec_len, slice_range}
 use Rattle.outside_io.specs.declared.lines.Lines.TheInside.{Inside}
 use Rattle.store_spec.specs.Input.{line_limit, script_limit, first_width}
 
 -- `text` is what was read and not handed out; the bytes of a line that is too wide already stand as zeros. Of the source,
 -- counted from the front of `text` on, so many bytes as `room` may still be handed out. `line` is the last whole line, and
--- `space` is how many bytes the buffer takes behind the others.
+-- `space` is how many bytes the buffer takes behind the others. `ended`: the source has given its end.
 pub record Kept : Type 0 where
   pub text : List ℕ
   pub room : ℕ
   pub line : List ℕ
   pub space : ℕ
+  pub ended : Bool
 
 -- how many bytes the buffer holds
 abbrev pub buffer_size : ℕ
@@ -26,6 +27,7 @@ kept_of a = record {
   room = a.room;
   line = slice_range a.buffer.items a.line_start a.line_end;
   space = buffer_size - a.end;
+  ended = a.ended;
 }
 
 pub record IsWindow (a : Inside) : Type 0 where

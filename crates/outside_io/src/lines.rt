@@ -1,4 +1,4 @@
-ghost use Rattle.std.specs.Prelude.{◌≡◌, ◌≢◌, ◌+◌, ◌≤◌, ◌<◌, [], ◌++◌, length, take, slice_range, Some, Err, IfOk, IfSome, OnErr};
+ghost use Rattle.std.specs.Prelude.{◌≡◌, ◌≢◌, ◌+◌, ◌≤◌, ◌<◌, [], ◌++◌, length, take, slice_range, true, false, Some, Err, IfOk, IfSome, OnErr};
 ghost use Rattle.store_spec.specs.Fault.{CountsFault, CountsFaultIf};
 ghost use Rattle.outside_io.specs.Stream.{GivesFront};
 ghost use Rattle.outside_io.specs.Told.{AsTold};
@@ -87,6 +87,7 @@ pub struct Lines {
     room: usize,
     line_start: usize,
     line_end: usize,
+    ended: bool,
 }
 
 impl Model for Lines {
@@ -128,6 +129,7 @@ impl Lines {
     pub fn new(alloc: Global) -> Result<Lines, Memory>
         ensures text { IfOk result (λ lines. lines.text ≡ []) }
         ensures room { IfOk result (λ lines. lines.room ≡ script_limit) }
+        ensures ended { IfOk result (λ lines. lines.ended ≡ false) }
     {
         Ok(Lines {
             buffer: vec![in alloc; 0; BUFFER]?,
@@ -138,6 +140,7 @@ impl Lines {
             room: SCRIPT_LIMIT,
             line_start: 0,
             line_end: 0,
+            ended: false,
         })
     }
 
@@ -173,13 +176,14 @@ impl Lines {
         Found::Nothing
     }
 
-    // Hands out all that is kept, which holds no line end, as the last line.
+    // Hands out all that is kept, which holds no line end, as the last line: the source has ended.
     fn take_last(&mut self) -> NextLine
         requires no_end { first_width self.old.text ≡ length self.old.text }
         requires within { length self.old.text ≤ self.old.room }
         ensures { TakesLast result self.old self.new }
     {
         let width = self.skipped + (self.end - self.start);
+        self.ended = true;
         if width == 0 {
             return NextLine::End;
         }
@@ -199,6 +203,7 @@ impl Lines {
         ensures size { length self.new.text ≡ length self.old.text }
         ensures narrow { length self.old.text ≤ line_limit → self.new.text ≡ self.old.text }
         ensures room { self.new.room ≡ self.old.room }
+        ensures ended { self.new.ended ≡ self.old.ended }
         ensures space { 0 < self.new.space }
     {
         let kept = self.end - self.start;
@@ -233,6 +238,7 @@ impl Lines {
             (λ count. count ≡ 0 → first_width self.new.text ≡ length self.new.text) }
         ensures within { length self.new.text ≤ self.new.room + 1 }
         ensures room { self.new.room ≡ self.old.room }
+        ensures ended { self.new.ended ≡ self.old.ended }
         ensures fault { CountsFault result (S.faults source.old) (S.faults source.new) }
     {
         self.make_space();
@@ -249,10 +255,11 @@ impl Lines {
 
     /// Hands out the next line of what is kept and, behind it, of what the source still has.
     /// After `ReadFault` a further call goes on from what was read; after `TooLong` it answers `TooLong` again. Of the
-    /// source no more is read than one byte past the room.
+    /// source no more is read than one byte past the room. A source that has given its end is not asked again.
     pub fn next_line<S: Source>(&mut self, source: &mut S) -> Result<NextLine, LineEndFault>
         ensures answers { AnswersTold result
             self.old (S.left source.old) self.new (S.left source.new) }
+        ensures once_ended { self.old.ended ≡ true → source.new ≡ source.old }
         ensures gives { AsTold S.left source.old source.new GivesFront }
         ensures over { result ≡ Err LineEndFault.TooLong → IsTooLong self.new.text self.new.room }
         ensures still_over { IsTooLong self.old.text self.old.room
@@ -270,6 +277,7 @@ impl Lines {
             match self.cut() {
                 Found::Line(answer) => return Ok(answer),
                 Found::TooMuch => return Err(LineEndFault::TooLong),
+                Found::Nothing if self.ended => return Ok(self.take_last()),
                 Found::Nothing => {}
             }
             if self.fill(source)? == 0 {

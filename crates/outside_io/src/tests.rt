@@ -119,12 +119,14 @@ fn cuts_lines_in_any_pieces(rt: HostRuntime) -> Result<(), Fail> {
 #[test]
 fn goes_on_after_a_fault(rt: HostRuntime) -> Result<(), Fail> {
     let alloc = rt.alloc();
-    let rows: [(u64, &[u8]); 5] = [
+    // the fifth call gives the end, and there is no sixth
+    let rows: [(u64, &[u8]); 6] = [
         (1, b"fault[aa][b][cc]"),
         (2, b"fault[aa][b][cc]"),
         (3, b"[aa]fault[b][cc]"),
         (4, b"[aa][b]fault[cc]"),
         (5, b"[aa][b]fault[cc]"),
+        (6, b"[aa][b][cc]"),
     ];
     for (failing, want) in rows {
         let mut source = in_pieces(padded(alloc, 2, b"\nb\ncc")?, 2, failing);

@@ -1,9 +1,10 @@
 ghost use Rattle.body_store.specs.Contents.{IsStored};
 ghost use Rattle.phase_delete.specs.Closing.{ClosesAs};
-ghost use Rattle.phase_delete.specs.Gains.{Gains, IsNewTo};
+ghost use Rattle.phase_delete.specs.Gains.{Gains, IsNewTo, StepsFor};
 ghost use Rattle.phase_delete.specs.WithdrawPhase.{StoodAt};
 ghost use Rattle.phase_delete.specs.Withdrawer.{AreAll, new_withdrawer};
 ghost use Rattle.std.specs.Prelude.{◌≡◌, ◌≤◌, Contains, IfErr, IfOk, MatchOption, length, map};
+ghost use Rattle.step_core.specs.Shape.{homes_of};
 ghost use Rattle.step_core.specs.WithdrawCore.{reply_of};
 ghost use Rattle.store_spec.specs.Ballot.{numbers_of};
 ghost use Rattle.store_spec.specs.WithdrawPhase.{IsRight};
@@ -88,6 +89,8 @@ impl WithdrawPhase {
         ensures right { IsRight (numbers_of self.now.base.ballots) number (reply_of result) }
         ensures zero { number ≡ 0 → result ≡ WithdrawReply.Absent }
         ensures gains { Gains seat.old.view number result seat.new.view }
+        ensures steps { StepsFor (homes_of self.now.words.shape) seat.old.view number result
+            seat.new.view }
         ensures new { result ≡ WithdrawReply.Withdrawn → IsNewTo seat.old.view number }
     {
         match self.cell_of(number) {

@@ -1,21 +1,50 @@
-//! Withdrawing phases of the example election and of a crowded one, with a thread for each withdrawer.
+//! Withdrawing phases of the example election and of a crowded one, in which all withdrawers work at once, with what is
+//! seen of them at their turns.
 
 ghost use Rattle.body_store.specs.Contents.{ballots_of};
-ghost use Rattle.std.specs.Prelude.{◌≡◌, ◌<◌, ◌≤◌, IfOk, length};
+ghost use Rattle.std.specs.Prelude.{◌≡◌, ◌≤◌, IfOk, length, map};
 ghost use Rattle.store_spec.specs.Ballot.{IsListing};
 
-mod running;
-
-use crate::{WithdrawPhase, Withdrawal, Withdrawer};
+use crate::{WithdrawPhase, Withdrawal, run_withdraw};
 use ballot_record::{Contest, Election, MAX_MARK_SETS, Record};
 use body_store::Closed;
-use outside_io::Memory;
+use fake_turns::{Meeting, SeenWords, Turn};
+use outside_io::{Memory, NoTurns, Turns};
 use std::alloc::Global;
 use std::process::Abort;
 use std::test::Fail;
-use std::thread::{Threads, for_each_mut};
+use std::thread::Threads;
 use step_core::WithdrawReply;
 use step_core::WithdrawReply::{Absent, Gone, Withdrawn};
+
+/// The numbers held before, the lists that are withdrawn, the cells that are not empty then, and the replies.
+struct Case {
+    held: &'static [u64],
+    lists: &'static [&'static [u64]],
+    cells: &'static [(usize, u64)],
+    replies: &'static [&'static [WithdrawReply]],
+}
+
+const CASES: [Case; 3] = [
+    Case {
+        held: &[1, 9, 14, 22],
+        lists: &[&[22, 5, 9, 9]],
+        cells: &[(4, 1), (5, 14)],
+        replies: &[&[Withdrawn, Absent, Withdrawn, Gone]],
+    },
+    Case {
+        held: &[1, 9, 14, 22],
+        lists: &[&[22, 5], &[9, 9]],
+        cells: &[(4, 1), (5, 14)],
+        replies: &[&[Withdrawn, Absent], &[Withdrawn, Gone]],
+    },
+    Case {
+        held: &[1, 9, 14, 22],
+        lists: &[&[22, 5], &[], &[9, 9, 0]],
+        cells: &[(4, 1), (5, 14)],
+        replies: &[&[Withdrawn, Absent], &[], &[Withdrawn, Gone, Absent]],
+    },
+];
 
 /// Ballots with no marks and these numbers, which rise.
 fn blanks(
@@ -54,28 +83,37 @@ fn store(
     Closed::from_records(alloc, election, ballots)
 }
 
-/// Withdraws numbers in their order. Before each of the first ones this word is seen at its home.
-fn withdraw_all(
-    rt: &impl Abort,
-    tab: &mut Withdrawer,
-    phase: &WithdrawPhase,
-    numbers: &[u64],
-    seen: &[u64],
-)
-    requires belongs { tab.old.phase ≡ phase.now }
-    ensures { tab.new.phase ≡ tab.old.phase }
+/// The length of each list.
+fn lengths(rt: &impl Abort, alloc: Global, work: &[Vec<u64>]) -> Result<Vec<u32>, Memory>
+    ensures { IfOk result (λ plan. plan.items ≡ map (λ list. length list.items) work.now) }
 {
-    for (place, number) in numbers.iter().enumerate() {
-        if let Some(word) = seen.get(place) {
-            assert_eq!(rt; phase.peek(*number), *word, "before {place}");
+    let mut plan = Vec::with_capacity(alloc, work.len())?;
+    for list in work {
+        plan.push(u32::try_from(list.len()).expect(rt, "a long list"))?;
+    }
+    Ok(plan)
+}
+
+/// The store after a phase with a withdrawer for each list, all at work at once, and the replies.
+fn run<R: Threads + Abort + Sync, T: Turns>(
+    rt: &R,
+    alloc: Global,
+    closed: Closed,
+    work: &[Vec<u64>],
+    turns: &T,
+) -> Result<(Closed, Vec<Vec<WithdrawReply>>), Memory>
+    requires some_list { 1 ≤ length work.now }
+    requires few_lists { length work.now ≤ 64 }
+{
+    let election = *closed.election();
+    let plan = lengths(rt, alloc, work)?;
+    match WithdrawPhase::begin(alloc, closed, &election, &plan) {
+        Ok((phase, tabs)) => {
+            let mut tabs = tabs;
+            run_withdraw(rt, &phase, &mut tabs, work, turns);
+            phase.close(alloc, tabs).map_err(|refused| refused.1)
         }
-        assert!(rt; tab.room() > 0);
-        let reply = tab.withdraw(phase, *number);
-        let told = Withdrawal {
-            number: *number,
-            reply,
-        };
-        assert_eq!(rt; tab.tray().last(), Some(&told));
+        Err((_, memory)) => Err(memory),
     }
 }
 
@@ -93,62 +131,92 @@ fn holds(rt: &impl Abort, store: &Closed, wanted: &[(usize, u64)]) {
     }
 }
 
-/// The store after a phase with a withdrawer for each list, each in a thread of its own, and the replies.
-fn played<R: Threads + Abort + Sync>(
-    rt: &R,
-    alloc: Global,
-    closed: Closed,
-    work: &[Vec<u64>],
-    seen: &[u64],
-) -> Result<(Closed, Vec<Vec<WithdrawReply>>), Memory>
-    requires some_list { 1 ≤ length work.now }
-    requires few_lists { length work.now ≤ 64 }
+fn number_lists(alloc: Global, lists: &[&[u64]]) -> Result<Vec<Vec<u64>>, Memory>
+    ensures { IfOk result (λ v. length v.items ≡ length lists.now) }
 {
-    let election = *closed.election();
-    let mut plan = Vec::with_capacity(alloc, work.len())?;
-    for list in work {
-        plan.push(u32::try_from(list.len()).unwrap_or(0))?;
+    let mut work = Vec::with_capacity(alloc, lists.len())?;
+    for list in lists {
+        work.push(Vec::from_slice(alloc, list)?)?;
     }
-    match WithdrawPhase::begin(alloc, closed, &election, &plan) {
-        Ok((phase, tabs)) => {
-            let mut tabs = tabs;
-            let withdraw_list = |list: usize, tab: &mut Withdrawer|
-                requires listed { list < length work.now }
-                requires belongs { tab.now.phase ≡ phase }
-                ensures { tab.exit.now.phase ≡ tab.entry.now.phase }
-            { withdraw_all(rt, tab, &phase, &work[list], seen) };
-            for_each_mut(rt, &mut tabs, work.len(), &withdraw_list);
-            phase.close(alloc, tabs).map_err(|refused| refused.1)
-        }
-        Err((_, memory)) => Err(memory),
-    }
+    Ok(work)
 }
 
-#[test]
-fn one_withdrawer(rt: HostRuntime) -> Result<(), Fail> {
-    let alloc = rt.alloc();
-    let four = store(&rt, alloc, &Election::example(), &[1, 9, 14, 22])?;
-    let work = [Vec::from_slice(alloc, &[22, 5, 9, 9])?];
-    let (rest, replies) = played(&rt, alloc, four, &work, &[22, 0, 9, 1])?;
-    same(&rt, &replies, &[&[Withdrawn, Absent, Withdrawn, Gone]]);
-    assert_eq!(rt; rest.len(), 2);
-    holds(&rt, &rest, &[(4, 1), (5, 14)]);
+/// One case, of one list at least.
+fn withdraws_as(
+    rt: &(impl Threads + Abort + Sync),
+    alloc: Global,
+    case: &Case,
+) -> Result<(), Memory> {
+    let before = store(rt, alloc, &Election::example(), case.held)?;
+    assert!(rt; !case.lists.is_empty());
+    assert!(rt; case.lists.len() <= 64);
+    let work = number_lists(alloc, case.lists)?;
+    let (after, replies) = run(rt, alloc, before, &work, &NoTurns)?;
+    holds(rt, &after, case.cells);
+    same(rt, &replies, case.replies);
     Ok(())
 }
 
 #[test]
-fn two_threads(rt: HostRuntime) -> Result<(), Fail> {
+fn lists_of_numbers(rt: HostRuntime) -> Result<(), Fail> {
+    for case in &CASES {
+        for _ in 0..50 {
+            withdraws_as(&rt, rt.alloc(), case)?;
+        }
+    }
+    Ok(())
+}
+
+/// One withdrawer, which is asked by itself.
+#[test]
+fn one_number(rt: HostRuntime) -> Result<(), Fail> {
+    let two = store(&rt, rt.alloc(), &Election::example(), &[9, 22])?;
+    let election = *two.election();
+    let (phase, mut tabs) = WithdrawPhase::begin(rt.alloc(), two, &election, &[1]).map_err(
+        |refused| refused.1,
+    )?;
+    let mut tab = tabs.pop().ok_or("no withdrawer")?;
+    assert_eq!(rt; tab.room(), 1);
+    let reply = tab.withdraw(&phase, 22);
+    let told = Withdrawal { number: 22, reply };
+    assert_eq!(rt; reply, Withdrawn);
+    assert_eq!(rt; tab.tray(), [told].as_slice());
+    assert_eq!(rt; phase.peek(22), 9);
+    Ok(())
+}
+
+#[test]
+fn two_at_once(rt: HostRuntime) -> Result<(), Fail> {
     let alloc = rt.alloc();
     let work = [
-        Vec::from_slice(alloc, &[22, 5])?,
-        Vec::from_slice(alloc, &[9, 9])?,
+        Vec::from_slice(alloc, &[22])?,
+        Vec::from_slice(alloc, &[14])?,
     ];
-    for run in 0..50 {
-        let four = store(&rt, alloc, &Election::example(), &[1, 9, 14, 22])?;
-        let (rest, replies) = played(&rt, alloc, four, &work, &[])?;
-        same(&rt, &replies, &[&[Withdrawn, Absent], &[Withdrawn, Gone]]);
-        assert_eq!(rt; rest.len(), 2, "run {run}");
-        holds(&rt, &rest, &[(4, 1), (5, 14)]);
+    let meeting = Meeting::new();
+    let four = store(&rt, alloc, &Election::example(), &[1, 9, 14, 22])?;
+    let (rest, replies) = run(&rt, alloc, four, &work, &meeting)?;
+    assert_eq!(rt; meeting.met(), 2);
+    holds(&rt, &rest, &[(4, 9), (5, 1)]);
+    same(&rt, &replies, &[&[Withdrawn], &[Withdrawn]]);
+    Ok(())
+}
+
+#[test]
+fn words_seen(rt: HostRuntime) -> Result<(), Fail> {
+    let alloc = rt.alloc();
+    let five = store(&rt, alloc, &Election::example(), &[1, 9, 14, 17, 22])?;
+    let work = [Vec::from_slice(alloc, &[22, 9, 17, 1])?];
+    let seen = SeenWords::new();
+    let (one, _) = run(&rt, alloc, five, &work, &seen)?;
+    holds(&rt, &one, &[(5, 14)]);
+    assert_eq!(rt; seen.count(), 4);
+    for (index, word) in [(0, 22), (1, 17), (2, 17), (3, 1)] {
+        let turn = Turn {
+            tab: 0,
+            index,
+            seen: word,
+        };
+        assert_eq!(rt; seen.turn_at(index as usize), Some(turn));
     }
     Ok(())
 }
@@ -163,7 +231,7 @@ fn one_number_from_two_threads(rt: HostRuntime) -> Result<(), Fail> {
     ];
     for _ in 0..50 {
         let four = store(&rt, alloc, &election, &[1, 9, 14, 22])?;
-        let (one, replies) = played(&rt, alloc, four, &work, &[])?;
+        let (one, replies) = run(&rt, alloc, four, &work, &NoTurns)?;
         holds(&rt, &one, &[(4, 22)]);
         assert_eq!(rt; replies.len(), 2);
         let (first, second) = (&replies[0], &replies[1]);
@@ -219,12 +287,12 @@ fn a_crowd_of_threads(rt: HostRuntime) -> Result<(), Fail> {
     let wanted = store(&rt, alloc, &election, &up_to_300(alloc, 281)?)?;
     let work = crowd(alloc, 8)?;
     assert_eq!(rt; work.len(), 8);
-    for run in 0..200 {
+    for time in 0..200 {
         let full = store(&rt, alloc, &election, &all)?;
-        let (rest, replies) = played(&rt, alloc, full, &work, &[])?;
-        assert_eq!(rt; rest.cells(), wanted.cells(), "run {run}");
+        let (rest, replies) = run(&rt, alloc, full, &work, &NoTurns)?;
+        assert_eq!(rt; rest.cells(), wanted.cells(), "time {time}");
         for list in &replies {
-            assert!(rt; list.iter().all(|reply| *reply == Withdrawn), "run {run}");
+            assert!(rt; list.iter().all(|reply| *reply == Withdrawn), "time {time}");
         }
     }
     Ok(())

@@ -1,7 +1,8 @@
 ghost use Rattle.phase_delete.specs.Ends.{TellsOf, seat_of};
-ghost use Rattle.phase_delete.specs.Gains.{Gains};
+ghost use Rattle.phase_delete.specs.Gains.{Gains, StepsFor};
 ghost use Rattle.phase_delete.specs.Withdrawer.{new_withdrawer};
 ghost use Rattle.std.specs.Prelude.{◌≡◌, ◌+◌, ◌<◌, ◌↔◌, ◌++◌, [], ◌∷◌, Contains, IfOk};
+ghost use Rattle.step_core.specs.Shape.{homes_of};
 ghost use Rattle.store_spec.specs.Ballot.{numbers_of};
 ghost use Rattle.store_spec.specs.WithdrawStep.{fresh_view};
 ghost use Rattle.store_spec.specs.WithdrawStep.WithdrawState.{Rest};
@@ -101,6 +102,10 @@ impl Withdrawer {
 
         // Each other answer is told by what the seat's lists gained.
         ensures gains { Gains self.old.seat number result self.new.seat }
+
+        // For it the seat made the steps for the number, one after another, each a row of the table.
+        ensures steps { StepsFor (homes_of phase.now.words.shape) self.old.seat number result
+            self.new.seat }
         ensures at_rest { self.new.seat.state ≡ Rest }
     {
         let reply = phase.reply(&mut self.seat, number);

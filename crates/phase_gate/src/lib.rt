@@ -18,6 +18,3 @@ pub use gate::Phase;
 pub use report::Report;
 pub use session::Session;
 pub use telling::Telling;
-
-#[cfg(test)]
-mod tests;

@@ -3,8 +3,9 @@ use Rattle.std.specs.Prelude.{◌≡◌, ◌≢◌, ◌⊎◌, ℕ, [], Contains
 use Rattle.phase_insert.specs.declared.reply.CastReply.{CastReply}
 use Rattle.phase_insert.specs.declared.reply.CastReply.TheVariants.{Accepted, Duplicate, Conflict, Taken, Full}
 use Rattle.store_spec.specs.CastStep as note
-use Rattle.store_spec.specs.CastStep.{CastView, view_after}
+use Rattle.store_spec.specs.CastStep.{CastView, Table, view_after}
 use Rattle.store_spec.specs.CastStep.CastState.{Rest}
+use Rattle.word_rule.specs.CastSeats.{CastsByRows}
 
 -- The number is in the list that the reply names, and the seat is at rest. Where the base answers, or there are no claim
 -- words, nothing changes.
@@ -14,6 +15,15 @@ Gains claims old number Duplicate now = now ≡ old
 Gains claims old number Conflict now = now ≡ old
 Gains claims old number Taken now = now ≡ view_after old number Rest note.CastNote.Taken
 Gains claims old number Full now = ((claims ≡ 0) × (now ≡ old)) ⊎ (now ≡ view_after old number Rest note.CastNote.Full)
+
+-- The seat made the steps of the number, each a row of the table. Where the base answers, or there are no claim words, it
+-- made none.
+abbrev pub StepsFor : Table → CastView → ℕ → CastReply → CastView → Type 0
+StepsFor t old number Accepted now = CastsByRows t number old now
+StepsFor t old number Duplicate now = now ≡ old
+StepsFor t old number Conflict now = now ≡ old
+StepsFor t old number Taken now = CastsByRows t number old now
+StepsFor t old number Full now = ((t.claims ≡ 0) × (now ≡ old)) ⊎ CastsByRows t number old now
 
 -- a reply that the claim words give
 abbrev pub IsMet : CastReply → Type 0

@@ -1,7 +1,8 @@
 //! One number at shared words, and the reply that it gets there.
 
-ghost use Rattle.phase_insert.specs.Gains.{Gains, IsMet, IsNewTo};
+ghost use Rattle.phase_insert.specs.Gains.{Gains, IsMet, IsNewTo, StepsFor};
 ghost use Rattle.std.specs.Prelude.{◌≡◌, ◌≢◌, Contains};
+ghost use Rattle.step_core.specs.Shape.{table_of};
 ghost use Rattle.store_spec.specs.CastStep.CastState.{Rest};
 ghost use Rattle.store_spec.specs.Layout.{numbers_in};
 
@@ -19,6 +20,7 @@ pub fn claim(words: &CastWords, claims: usize, seat: &mut CastSeat, number: u64)
     ensures words { seat.new.words ≡ seat.old.words }
     ensures met { IsMet result }
     ensures gains { Gains claims seat.old.view number result seat.new.view }
+    ensures steps { StepsFor (table_of words.now.shape) seat.old.view number result seat.new.view }
     ensures new { result ≡ CastReply.Accepted → IsNewTo claims seat.old.view number }
 {
     if claims == 0 {

@@ -2,7 +2,7 @@ ghost use Rattle.ballot_record.specs.Record.{ballot};
 ghost use Rattle.body_store.specs.Contents.{IsStored};
 ghost use Rattle.phase_insert.specs.CastPhase.{AreCastWordsOf};
 ghost use Rattle.phase_insert.specs.Closing.{ClosesAs};
-ghost use Rattle.phase_insert.specs.Gains.{Gains, IsNewTo};
+ghost use Rattle.phase_insert.specs.Gains.{Gains, IsNewTo, StepsFor};
 ghost use Rattle.phase_insert.specs.Tabulator.{AreAll, new_tabulator};
 ghost use Rattle.phase_insert.specs.Tray.{Compares};
 ghost use Rattle.std.specs.Prelude.{◌≡◌, ◌≤◌, IfErr, IfOk, length, map};
@@ -89,6 +89,8 @@ impl CastPhase {
         ensures compares { Compares self.now.base.ballots (ballot cast.now) result }
         ensures gains { Gains self.now.words.shape.claims seat.old.view cast.now.number result
             seat.new.view }
+        ensures steps { StepsFor (table_of self.now.words.shape) seat.old.view cast.now.number
+            result seat.new.view }
         ensures new { result ≡ CastReply.Accepted → IsNewTo self.now.words.shape.claims
             seat.old.view cast.now.number }
     {

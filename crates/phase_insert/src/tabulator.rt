@@ -1,9 +1,10 @@
 ghost use Rattle.ballot_record.specs.Record.{ballot};
 ghost use Rattle.phase_insert.specs.Ends.{TellsOf, seat_of};
-ghost use Rattle.phase_insert.specs.Gains.{Gains};
+ghost use Rattle.phase_insert.specs.Gains.{Gains, StepsFor};
 ghost use Rattle.phase_insert.specs.Tabulator.{new_tabulator};
 ghost use Rattle.phase_insert.specs.Tray.{AnotherHas};
 ghost use Rattle.std.specs.Prelude.{◌≡◌, ◌+◌, ◌<◌, ◌↔◌, ◌++◌, [], ◌∷◌, Contains, IfOk};
+ghost use Rattle.step_core.specs.Shape.{table_of};
 ghost use Rattle.store_spec.specs.Ballot.{IsValid};
 ghost use Rattle.store_spec.specs.CastStep.{fresh_view};
 ghost use Rattle.store_spec.specs.CastStep.CastState.{Rest};
@@ -102,6 +103,10 @@ impl Tabulator {
 
         // Each other answer is told by what the seat's lists gained.
         ensures gains { Gains phase.now.words.shape.claims self.old.seat cast.number result
+            self.new.seat }
+
+        // For it the seat made the steps of the number, one after another, each a row of the table.
+        ensures steps { StepsFor (table_of phase.now.words.shape) self.old.seat cast.number result
             self.new.seat }
         ensures at_rest { self.new.seat.state ≡ Rest }
     {

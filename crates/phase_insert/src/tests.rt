@@ -1,17 +1,85 @@
-//! Casting phases of the example election and of a crowded one, with a thread for each tabulator.
+//! Casting phases of the example election and of a crowded one, in which all tabulators cast at once, with what is seen
+//! of them at their turns.
 
-ghost use Rattle.std.specs.Prelude.{◌≡◌, ◌<◌, ◌≤◌, All, length};
+ghost use Rattle.body_store.specs.Contents.{ballots_of};
+ghost use Rattle.std.specs.Prelude.{◌≡◌, ◌≤◌, All, IfOk, length, map};
+ghost use Rattle.store_spec.specs.Ballot.{IsValid};
 
-mod running;
-
-use crate::{Cast, CastPhase, Final, Tabulator};
+use crate::{Cast, CastPhase, CastReply, Final, Tabulator, run_cast};
+use Final::{Accepted, Conflict, Duplicate, Full};
 use ballot_record::{Contest, Election, MAX_MARK_SETS, Record};
 use body_store::Closed;
-use outside_io::Memory;
+use fake_turns::{Meeting, SeenWords, Turn};
+use outside_io::{Memory, NoTurns, Turns};
 use std::alloc::Global;
 use std::process::Abort;
 use std::test::Fail;
-use std::thread::{Threads, for_each_mut};
+use std::thread::Threads;
+
+/// A number, and the marks in the first contest.
+type Brief = (u64, u32);
+
+/// The ballots held before, the lists that are cast, the cells that are not empty then, and the final replies.
+struct Case {
+    held: &'static [Brief],
+    lists: &'static [&'static [Brief]],
+    cells: &'static [(usize, u64)],
+    finals: &'static [&'static [Final]],
+}
+
+const CASES: [Case; 5] = [
+    Case {
+        held: &[],
+        lists: &[&[(9, 1), (1, 0)], &[(14, 2)]],
+        cells: &[(4, 9), (5, 14), (6, 1)],
+        finals: &[&[Accepted, Accepted], &[Accepted]],
+    },
+    Case {
+        held: &[(9, 1), (1, 0), (14, 2)],
+        lists: &[&[(22, 0), (9, 2), (14, 2), (22, 0), (22, 1), (17, 0)]],
+        cells: &[(4, 22), (5, 17), (6, 14), (7, 9), (8, 1)],
+        finals: &[&[Accepted, Conflict, Duplicate, Duplicate, Conflict, Accepted]],
+    },
+    Case {
+        held: &[],
+        lists: &[&[(9, 1), (1, 0)], &[], &[(14, 2), (22, 0), (14, 2)]],
+        cells: &[(4, 22), (5, 14), (6, 9), (7, 1)],
+        finals: &[&[Accepted, Accepted], &[], &[Accepted, Accepted, Duplicate]],
+    },
+    Case {
+        held: &[(1, 0), (2, 0), (6, 0), (9, 0), (14, 0), (17, 0), (22, 0)],
+        lists: &[&[(u64::MAX, 0), (5, 0), (9, 0)]],
+        cells: &EIGHT,
+        finals: &[&[Accepted, Full, Duplicate]],
+    },
+    Case {
+        held: &[
+            (1, 0),
+            (2, 0),
+            (6, 0),
+            (9, 0),
+            (14, 0),
+            (17, 0),
+            (22, 0),
+            (u64::MAX, 0),
+        ],
+        lists: &[&[(5, 0), (9, 0)]],
+        cells: &EIGHT,
+        finals: &[&[Full, Duplicate]],
+    },
+];
+
+/// Where as many numbers stand as the example election may hold.
+const EIGHT: [(usize, u64); 8] = [
+    (1, 2),
+    (3, u64::MAX),
+    (4, 22),
+    (5, 17),
+    (6, 14),
+    (7, 9),
+    (8, 6),
+    (9, 1),
+];
 
 /// A ballot with these marks in the first contest.
 fn ballot(number: u64, set: u32) -> Record {
@@ -24,79 +92,70 @@ fn ballot(number: u64, set: u32) -> Record {
     }
 }
 
-/// Casts ballots in their order. Before each of the first ones this word is seen at its home.
-fn cast_all(
-    rt: &impl Abort,
-    tab: &mut Tabulator,
-    phase: &CastPhase,
-    election: &Election,
-    work: &[Record],
-    seen: &[u64],
-)
-    requires belongs { tab.old.phase ≡ phase.now }
-    requires own { election.now ≡ phase.now.base.election }
-    ensures { tab.new.phase ≡ tab.old.phase }
+fn ballots(alloc: Global, list: &[Brief]) -> Result<Vec<Record>, Memory> {
+    let mut ballots = Vec::with_capacity(alloc, list.len())?;
+    for (number, set) in list {
+        ballots.push(ballot(*number, *set))?;
+    }
+    Ok(ballots)
+}
+
+fn ballot_lists(alloc: Global, lists: &[&[Brief]]) -> Result<Vec<Vec<Record>>, Memory>
+    ensures { IfOk result (λ v. length v.items ≡ length lists.now) }
 {
-    for (place, cast) in work.iter().enumerate() {
-        if let Some(word) = seen.get(place) {
-            assert_eq!(rt; phase.peek(cast.number), *word, "before {place}");
-        }
-        assert!(rt; cast.valid(election));
-        assert!(rt; tab.room() > 0);
-        let reply = tab.cast(phase, *cast);
-        let told = Cast {
-            ballot: *cast,
-            reply,
-        };
-        assert_eq!(rt; tab.tray().last(), Some(&told));
+    let mut work = Vec::with_capacity(alloc, lists.len())?;
+    for list in lists {
+        work.push(ballots(alloc, list)?)?;
+    }
+    Ok(work)
+}
+
+/// All ballots of lists are valid.
+fn all_valid(rt: &impl Abort, election: &Election, work: &[Vec<Record>])
+    ensures { All (λ list. All (IsValid election.now) (ballots_of list.items)) work.now }
+{
+    for list in work {
+        list_valid(rt, election, list);
     }
 }
 
-/// Each tabulator casts its list, each in a thread of its own.
-fn cast_lists<R: Threads + Abort + Sync>(
-    rt: &R,
-    tabs: &mut [Tabulator],
-    phase: &CastPhase,
-    election: &Election,
-    work: &[Vec<Record>],
-    seen: &[u64],
-)
-    requires some_list { 1 ≤ length work.now }
-    requires as_many { length tabs.old ≡ length work.now }
-    requires belong { All (λ tab. tab.phase ≡ phase.now) tabs.old }
-    requires own { election.now ≡ phase.now.base.election }
-    ensures { All (λ tab. tab.phase ≡ phase.now) tabs.new }
+fn list_valid(rt: &impl Abort, election: &Election, list: &[Record])
+    ensures { All (IsValid election.now) (ballots_of list.now) }
 {
-    let cast_list = |list: usize, tab: &mut Tabulator|
-        requires listed { list < length work.now }
-        requires belongs { tab.now.phase ≡ phase.now }
-        requires own { election.now ≡ phase.now.base.election }
-        ensures { tab.exit.now.phase ≡ tab.entry.now.phase }
-    { cast_all(rt, tab, phase, election, &work[list], seen) };
-    for_each_mut(rt, tabs, work.len(), &cast_list);
+    for cast in list {
+        assert!(rt; cast.valid(election));
+    }
 }
 
-/// The store after a phase with a tabulator for each list, and the final replies.
-fn played<R: Threads + Abort + Sync>(
+/// The length of each list.
+fn lengths(rt: &impl Abort, alloc: Global, work: &[Vec<Record>]) -> Result<Vec<u32>, Memory>
+    ensures { IfOk result (λ plan. plan.items ≡ map (λ list. length list.items) work.now) }
+{
+    let mut plan = Vec::with_capacity(alloc, work.len())?;
+    for list in work {
+        plan.push(u32::try_from(list.len()).expect(rt, "a long list"))?;
+    }
+    Ok(plan)
+}
+
+/// The store after a phase with a tabulator for each list, all casting at once, and the final replies.
+fn run<R: Threads + Abort + Sync, T: Turns>(
     rt: &R,
     alloc: Global,
     closed: Closed,
     work: &[Vec<Record>],
-    seen: &[u64],
+    turns: &T,
 ) -> Result<(Closed, Vec<Vec<Final>>), Memory>
     requires some_list { 1 ≤ length work.now }
     requires few_lists { length work.now ≤ 64 }
 {
     let election = *closed.election();
-    let mut plan = Vec::with_capacity(alloc, work.len())?;
-    for list in work {
-        plan.push(u32::try_from(list.len()).unwrap_or(0))?;
-    }
-    assert_eq!(rt; plan.len(), work.len());
+    all_valid(rt, &election, work);
+    let plan = lengths(rt, alloc, work)?;
     match CastPhase::begin(alloc, closed, &election, &plan) {
         Ok((phase, tabs)) => {
             let mut tabs = tabs;
-            cast_lists(rt, &mut tabs, &phase, &election, work, seen);
+            run_cast(rt, &phase, &mut tabs, work, turns);
             phase.close(alloc, tabs).map_err(|refused| refused.1)
         }
         Err((_, memory)) => Err(memory),
@@ -117,78 +176,105 @@ fn holds(rt: &impl Abort, store: &Closed, wanted: &[(usize, u64)]) {
     }
 }
 
-#[test]
-fn one_phase_after_another(rt: HostRuntime) -> Result<(), Fail> {
-    let alloc = rt.alloc();
+/// One case, of one list at least.
+fn casts_as(rt: &(impl Threads + Abort + Sync), alloc: Global, case: &Case) -> Result<(), Memory> {
     let empty = Closed::empty(alloc, &Election::example())?;
-    let work = [
-        Vec::from_slice(alloc, &[ballot(9, 1), ballot(1, 0)])?,
-        Vec::from_slice(alloc, &[ballot(14, 2)])?,
-    ];
-    let (three, finals) = played(&rt, alloc, empty, &work, &[])?;
-    holds(&rt, &three, &[(4, 9), (5, 14), (6, 1)]);
-    same(
-        &rt,
-        &finals,
-        &[&[Final::Accepted, Final::Accepted], &[Final::Accepted]],
-    );
-
-    let more = [Vec::from_slice(
-        alloc,
-        &[
-            ballot(22, 0),
-            ballot(9, 2),
-            ballot(14, 2),
-            ballot(22, 0),
-            ballot(22, 1),
-            ballot(17, 0),
-        ],
-    )?];
-    let (five, finals) = played(&rt, alloc, three, &more, &[9, 22, 14, 22, 22, 22])?;
-    holds(&rt, &five, &[(4, 22), (5, 17), (6, 14), (7, 9), (8, 1)]);
-    same(
-        &rt,
-        &finals,
-        &[&[
-            Final::Accepted,
-            Final::Conflict,
-            Final::Duplicate,
-            Final::Duplicate,
-            Final::Conflict,
-            Final::Accepted,
-        ]],
-    );
+    let held = ballot_lists(alloc, &[case.held])?;
+    let (before, _) = run(rt, alloc, empty, &held, &NoTurns)?;
+    assert!(rt; !case.lists.is_empty());
+    assert!(rt; case.lists.len() <= 64);
+    let work = ballot_lists(alloc, case.lists)?;
+    let (after, finals) = run(rt, alloc, before, &work, &NoTurns)?;
+    holds(rt, &after, case.cells);
+    same(rt, &finals, case.finals);
     Ok(())
 }
 
 #[test]
-fn no_room(rt: HostRuntime) -> Result<(), Fail> {
-    let alloc = rt.alloc();
-    let empty = Closed::empty(alloc, &Election::example())?;
-    let mut nine = Vec::with_capacity(alloc, 9)?;
-    for number in [1, 2, 6, 9, 14, 17, 22, u64::MAX, 5] {
-        nine.push(ballot(number, 0))?;
+fn lists_of_ballots(rt: HostRuntime) -> Result<(), Fail> {
+    for case in &CASES {
+        for _ in 0..20 {
+            casts_as(&rt, rt.alloc(), case)?;
+        }
     }
-    let (eight, finals) = played(&rt, alloc, empty, &[nine], &[])?;
-    let cells = [
-        (1, 2),
-        (3, u64::MAX),
-        (4, 22),
-        (5, 17),
-        (6, 14),
-        (7, 9),
-        (8, 6),
-        (9, 1),
-    ];
-    holds(&rt, &eight, &cells);
-    let mut wanted = [Final::Accepted; 9];
-    wanted[8] = Final::Full;
-    same(&rt, &finals, &[&wanted]);
+    Ok(())
+}
 
-    let more = [Vec::from_slice(alloc, &[ballot(5, 0), ballot(9, 0)])?];
-    let (eight, finals) = played(&rt, alloc, eight, &more, &[])?;
-    holds(&rt, &eight, &cells);
-    same(&rt, &finals, &[&[Final::Full, Final::Duplicate]]);
+/// A tabulator casts one ballot.
+fn casts_nine(rt: &impl Abort, phase: &CastPhase, election: &Election, tab: &mut Tabulator)
+    requires belongs { tab.old.phase ≡ phase.now }
+    requires own { election.now ≡ phase.now.base.election }
+{
+    let nine = ballot(9, 1);
+    assert_eq!(rt; tab.room(), 1);
+    assert!(rt; nine.valid(election));
+    let reply = tab.cast(phase, nine);
+    assert_eq!(rt; reply, CastReply::Accepted);
+    let told = Cast {
+        ballot: nine,
+        reply,
+    };
+    assert_eq!(rt; tab.tray(), [told].as_slice());
+    assert_eq!(rt; phase.peek(9), 9);
+}
+
+/// One tabulator of an empty store.
+fn casts_alone(rt: &impl Abort, alloc: Global) -> Result<(), Memory> {
+    let election = Election::example();
+    let empty = Closed::empty(alloc, &election)?;
+    match CastPhase::begin(alloc, empty, &election, &[1]) {
+        Ok((phase, tabs)) => {
+            let mut tabs = tabs;
+            let mut tab = tabs.pop().expect(rt, "a tabulator");
+            casts_nine(rt, &phase, &election, &mut tab);
+            Ok(())
+        }
+        Err((_, memory)) => Err(memory),
+    }
+}
+
+/// One tabulator, which is asked by itself.
+#[test]
+fn one_ballot(rt: HostRuntime) -> Result<(), Fail> {
+    casts_alone(&rt, rt.alloc())?;
+    Ok(())
+}
+
+#[test]
+fn two_at_once(rt: HostRuntime) -> Result<(), Fail> {
+    let alloc = rt.alloc();
+    let work = [
+        Vec::from_slice(alloc, &[ballot(9, 1)])?,
+        Vec::from_slice(alloc, &[ballot(14, 2)])?,
+    ];
+    let meeting = Meeting::new();
+    let empty = Closed::empty(alloc, &Election::example())?;
+    let (two, finals) = run(&rt, alloc, empty, &work, &meeting)?;
+    assert_eq!(rt; meeting.met(), 2);
+    holds(&rt, &two, &[(4, 9), (5, 14)]);
+    same(&rt, &finals, &[&[Final::Accepted], &[Final::Accepted]]);
+    Ok(())
+}
+
+#[test]
+fn words_seen(rt: HostRuntime) -> Result<(), Fail> {
+    let alloc = rt.alloc();
+    let three = [Vec::from_slice(alloc, &[ballot(9, 1), ballot(14, 2), ballot(1, 0)])?];
+    let empty = Closed::empty(alloc, &Election::example())?;
+    let (three, _) = run(&rt, alloc, empty, &three, &NoTurns)?;
+    let work = [Vec::from_slice(alloc, &[ballot(22, 0), ballot(17, 0), ballot(5, 0)])?];
+    let seen = SeenWords::new();
+    let (six, _) = run(&rt, alloc, three, &work, &seen)?;
+    assert_eq!(rt; six.len(), 6);
+    assert_eq!(rt; seen.count(), 3);
+    for (index, word) in [(0, 9), (1, 22), (2, 0)] {
+        let turn = Turn {
+            tab: 0,
+            index,
+            seen: word,
+        };
+        assert_eq!(rt; seen.turn_at(index as usize), Some(turn));
+    }
     Ok(())
 }
 
@@ -202,7 +288,7 @@ fn one_number_from_two_threads(rt: HostRuntime) -> Result<(), Fail> {
                 Vec::from_slice(alloc, &[ballot(6, 1)])?,
                 Vec::from_slice(alloc, &[ballot(6, set)])?,
             ];
-            let (one, finals) = played(&rt, alloc, empty, &work, &[])?;
+            let (one, finals) = run(&rt, alloc, empty, &work, &NoTurns)?;
             assert_eq!(rt; one.len(), 1);
             assert_eq!(rt; finals.len(), 2);
             let first = finals[0].as_slice() == [Final::Accepted].as_slice();
@@ -245,18 +331,24 @@ fn a_crowd_of_threads(rt: HostRuntime) -> Result<(), Fail> {
     let election = Election::from_parts(&contests, &[1], 300, 2, 0).ok_or("no election")?;
     let alone = crowd(alloc, 1)?;
     assert_eq!(rt; alone.len(), 1);
-    let (wanted, _) = played(&rt, alloc, Closed::empty(alloc, &election)?, &alone, &[])?;
+    let (wanted, _) = run(
+        &rt,
+        alloc,
+        Closed::empty(alloc, &election)?,
+        &alone,
+        &NoTurns,
+    )?;
     assert_eq!(rt; wanted.len(), 300);
     let work = crowd(alloc, 8)?;
     assert_eq!(rt; work.len(), 8);
-    for run in 0..200 {
+    for time in 0..200 {
         let empty = Closed::empty(alloc, &election)?;
-        let (store, finals) = played(&rt, alloc, empty, &work, &[])?;
-        assert_eq!(rt; store.cells(), wanted.cells(), "run {run}");
+        let (store, finals) = run(&rt, alloc, empty, &work, &NoTurns)?;
+        assert_eq!(rt; store.cells(), wanted.cells(), "time {time}");
         for list in &finals {
             assert!(rt;
                 list.iter().all(|told| *told == Final::Accepted),
-                "run {run}"
+                "time {time}"
             );
         }
     }

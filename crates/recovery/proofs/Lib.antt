@@ -4,3 +4,4 @@ pub mod OnlyReading
 pub mod Paging
 pub mod Refusals
 pub mod Runs
+pub mod Unharmed

@@ -9,6 +9,3 @@ mod restoring;
 pub use fault::RecoverFault;
 pub use look::{choose, first_difference, read_bank};
 pub use restoring::{other_of, recover};
-
-#[cfg(test)]
-mod tests;

@@ -1,6 +1,6 @@
 //! Recovery.
 
-ghost use Rattle.std.specs.Prelude.{◌≡◌, ◌≤◌, ◌↔◌, ℕ, List, length, Some, is_some, IsErrOf, IsTrue, IfErr, IfOk, IfSome, OnOk};
+ghost use Rattle.std.specs.Prelude.{◌≡◌, ◌<◌, ◌≤◌, ◌↔◌, ℕ, List, length, Some, is_some, IsErrOf, IsTrue, IfErr, IfOk, IfSome, OnOk};
 ghost use Rattle.std.specs.Option.{ForSome};
 ghost use Rattle.bank_medium.specs.Banks.{bank_named, bytes_of};
 ghost use Rattle.body_store.specs.Contents.{IsStored};
@@ -8,11 +8,11 @@ ghost use Rattle.outside_io.specs.Told.{AsTold};
 ghost use Rattle.image_builder.specs.Page.{page_size};
 ghost use Rattle.recovery.specs.Canonical.{IsReadFrom};
 ghost use Rattle.recovery.specs.ReadsOnly.{ReadsOnly};
-ghost use Rattle.recovery.specs.Refused.{IsRefusedMedium, IsUnchangedAt};
+ghost use Rattle.recovery.specs.Refused.{IsRefusedMedium, IsUnchangedAt, IsUnharmedAt};
 ghost use Rattle.store_spec.specs.Ballot.{Ballot};
-ghost use Rattle.store_spec.specs.Disk.{IsSettled, LeavesOnly, SyncsFirst};
+ghost use Rattle.store_spec.specs.Disk.{disk_model, IsSettled, LeavesOnly, LeavesOnlyOnceSynced, SyncsFirst};
 ghost use Rattle.store_spec.specs.Election.{IsElection, bank_size};
-ghost use Rattle.store_spec.specs.Fault.{CountsFault, CountsFaultIf};
+ghost use Rattle.store_spec.specs.Fault.{last_count, CountsFault, CountsFaultIf};
 ghost use Rattle.store_spec.specs.Image.{IsImageOf};
 ghost use Rattle.store_spec.specs.Medium.{HoldsSet, HoldsTheSame, IsMediumOf, IsOpen, other_bank};
 
@@ -47,9 +47,15 @@ pub fn recover<D: Disk>(
         (λ fault. IfSome (D.seen disk.old) (λ bytes. IsRefusedMedium election.now bytes fault)) }
     ensures unchanged { IfErr result
         (λ fault. IsUnchangedAt fault (D.seen disk.old) (D.seen disk.new)) }
+    ensures unharmed { IfErr result (λ fault. (bytes : List ℕ) → D.seen disk.old ≡ Some bytes
+        → IsUnharmedAt (disk_model D.seen D.calls D.may_leave D.faults) election.now bytes fault
+        disk.old disk.new) }
     ensures told { is_some (D.seen disk.new) ≡ is_some (D.seen disk.old) }
     ensures any_moment { (bytes : List ℕ) → D.seen disk.old ≡ Some bytes
         → SyncsFirst D.calls D.may_leave disk.old disk.new (HoldsTheSame election.now bytes) }
+    ensures once_synced { OnOk result ((bytes : List ℕ) → D.seen disk.old ≡ Some bytes
+        → LeavesOnlyOnceSynced D.calls D.may_leave disk.old disk.new
+        (HoldsTheSame election.now bytes)) }
 
     // On a settled disk that holds the medium of a set nothing is written.
     ensures canonical { (bytes : List ℕ) (set : List Ballot)
@@ -57,6 +63,7 @@ pub fn recover<D: Disk>(
         → IsMediumOf election.now bytes set
         → ReadsOnly D.seen D.calls D.may_leave disk.old disk.new }
     ensures later { D.calls disk.old ≤ D.calls disk.new }
+    ensures called { D.calls disk.new < last_count → D.calls disk.old < D.calls disk.new }
     ensures fault { CountsFaultIf (IsErrOf result RecoverFault.DiskFault)
         (D.faults disk.old) (D.faults disk.new) }
 {
@@ -84,6 +91,9 @@ fn restore<D: Disk>(
         (λ fault. IfSome (D.seen disk.old) (λ bytes. IsRefusedMedium election.now bytes fault)) }
     ensures unchanged { IfErr result
         (λ fault. IsUnchangedAt fault (D.seen disk.old) (D.seen disk.new)) }
+    ensures unharmed { IfErr result (λ fault. (bytes : List ℕ) → D.seen disk.old ≡ Some bytes
+        → IsUnharmedAt (disk_model D.seen D.calls D.may_leave D.faults) election.now bytes fault
+        disk.old disk.new) }
     ensures any_moment { (bytes : List ℕ) → D.seen disk.old ≡ Some bytes
         → LeavesOnly D.calls D.may_leave disk.old disk.new (HoldsTheSame election.now bytes) }
     ensures canonical { (bytes : List ℕ) (set : List Ballot) → D.seen disk.old ≡ Some bytes

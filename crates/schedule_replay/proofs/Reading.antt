@@ -1,16 +1,14 @@
 -- The lines of a script as they are read: they are good, or which of them is the first bad one.
-use Rattle.std.proofs.Common.{◌≡◌, ℕ, ◌+◌, ◌<◌, ◌≤◌, ⊎_elim, List, [], ◌∷◌, ◌++◌, All, length, take, Option, Some, None, Ok, Err, refl, ap, sym, subst, ◌∙◌, arith, append_assoc, length-append}
+use Rattle.std.proofs.Common.{◌≡◌, ℕ, ◌+◌, ◌<◌, ◌≤◌, List, [], ◌∷◌, ◌++◌, All, length, take, Option, Some, None, Ok, Err, refl, ap, sym, subst, ◌∙◌, arith, append_assoc, length-append}
 use Rattle.std.specs.List.{AllZip}
-use Rattle.std.proofs.lemmas.List.{append-nil, length-drop, take_at}
+use Rattle.std.proofs.lemmas.List.{length-drop, take_at}
 use Rattle.std.proofs.lemmas.List.Elements.{All-nil}
 use Rattle.std.proofs.lemmas.Slice.Zip.{AllZip-long, all_zipped_more}
 use Rattle.ballot_record.specs.LineWhy.{reason}
 use Rattle.ballot_record.specs.declared.fault.LineWhy.{LineWhy}
 use Rattle.ballot_record.specs.declared.fault.LineWhy.TheVariants as whys
-use Rattle.outside_io.proofs.FirstLine.{all_within}
-use Rattle.outside_io.proofs.Readings.{reading_first}
 use Rattle.outside_io.proofs.Told.{told_as, told_with}
-use Rattle.outside_io.specs.Reading.{ReadFirst, ReadLines, ReadToFault, ReadsTo}
+use Rattle.outside_io.specs.Reading.{ReadFirst, ReadLines, ReadsTo}
 use Rattle.outside_io.specs.Reading.Ending.{ReadOut, TooMuch, Faulted}
 use Rattle.outside_io.specs.Stream.{GivesAtMost}
 use Rattle.outside_io.specs.Told.{IfTold}
@@ -33,7 +31,7 @@ use Rattle.schedule_replay.specs.declared.script.Stage.TheVariants as stages
 use Rattle.store_spec.specs.Build.{Reason}
 use Rattle.store_spec.specs.Build.Reason.{Malformed, Invalid, Duplicate, Conflict, Full}
 use Rattle.store_spec.specs.Election.{Election}
-use Rattle.store_spec.specs.Input.{script_limit, ended_lines, taken_lines}
+use Rattle.store_spec.specs.Input.{script_limit}
 
 -- ---- lines by their parts
 
@@ -51,20 +49,6 @@ parts_but (l ∷ lines) line [] each = absurd each
 parts_but (l ∷ lines) line (p ∷ parts) each =
     let rest = parts_but lines line parts each.1 in
     record { front = p ∷ rest.front; last = rest.last; each = (each.0, rest.each); taken = rest.taken }
-
--- the parts of the first lines
-record FirstParts (lines : List (Option (List ℕ))) (parts : List ReplayLine) : Type 0 where
-  front : List ReplayLine
-  behind : List ReplayLine
-  cut : parts ≡ front ++ behind
-  each : AllZip TakenAs lines front
-
-first_parts : (lines others : List (Option (List ℕ))) (parts : List ReplayLine) → AllZip TakenAs (lines ++ others) parts → FirstParts lines parts
-first_parts [] others parts each = record { front = []; behind = parts; cut = refl; each = tt }
-first_parts (l ∷ lines) others [] each = absurd each
-first_parts (l ∷ lines) others (p ∷ parts) each =
-    let rest = first_parts lines others parts each.1 in
-    record { front = p ∷ rest.front; behind = rest.behind; cut = ap (λ ps. p ∷ ps) rest.cut; each = (each.0, rest.each) }
 
 -- ---- lines that are good
 
@@ -114,16 +98,6 @@ good_taken : (e : Election) (script : Script) (count : ℕ) (lines : List (Optio
 good_taken e script count lines taken =
     let some = valid_at e script taken.parts script.stage taken.read.ready taken.read.stage in
     (some.input, record { parts = taken.parts; each = taken.each; first = some.begins }, some.valid)
-
-good_front : (e : Election) (lines others : List (Option (List ℕ))) → AreGood e (lines ++ others) → AreGood e lines
-good_front e lines others good =
-    let begun = good.1 in
-    let first = first_parts lines others begun.parts begun.each in
-    let begins : BeginsInput first.front good.0 = record {
-      others = first.behind ++ begun.first.others;
-      first = begun.first.first ∙ ap (λ ps. ps ++ begun.first.others) first.cut ∙ append_assoc first.front first.behind begun.first.others;
-    } in
-    (good.0, record { parts = first.front; each = first.each; first = begins }, good.2)
 
 -- ---- a line that is bad behind good ones
 
@@ -256,14 +230,7 @@ told_too_much e script count read =
     let good = good_taken e script count read.lines read.good in
     told_as read.told (λ x y h. (omega (arith, h.0, ap length h.1, length-drop (script_limit + 1) x), subst (AreGood e) h.2 good))
 
-pub told_fault : {a b : Option (List ℕ)} (e : Election) (script : Script) (count : ℕ) → ReadsTo ReadToFault (AreTaken e script count) a b → IfTold a b (IsGoodSoFar e)
+pub told_fault : {a b : Option (List ℕ)} (e : Election) (script : Script) (count : ℕ) → ReadsTo (ReadLines Faulted) (AreTaken e script count) a b → IfTold a b (IsGoodSoFar e)
 told_fault e script count read =
     let good = good_taken e script count read.lines read.good in
-    told_as read.told (λ x y h. ⊎_elim
-    (λ (ended : ReadLines Faulted x y read.lines). (ended.0, ended.1, ended.2, subst (AreGood e) ended.3 good))
-    (λ (out : ReadLines ReadOut x y read.lines).
-    let whole : ReadLines Faulted x [] (taken_lines (ended_lines x)) = (x, sym (append-nil x), out.0, refl) in
-    let first = reading_first Faulted x [] (taken_lines (ended_lines x)) whole in
-    let same : read.lines ≡ taken_lines (ended_lines x) ++ first.0 = out.2 ∙ ap taken_lines (sym (all_within script_limit x out.0)) ∙ first.1 in
-    (x, sym (append-nil x) ∙ ap (λ rest. x ++ rest) (sym out.1), out.0, good_front e (taken_lines (ended_lines x)) first.0 (subst (AreGood e) same good)))
-    h)
+    told_as read.told (λ x y ended. (ended.0, ended.1, ended.2, subst (AreGood e) ended.3 good))

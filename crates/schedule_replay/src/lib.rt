@@ -15,6 +15,3 @@ pub use fault::ReplayFault;
 pub use machine::Machine;
 pub use run::rest_all;
 pub use schedule::replay;
-
-#[cfg(test)]
-mod tests;

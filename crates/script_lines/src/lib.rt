@@ -14,6 +14,3 @@ pub use generated::large_line;
 pub use generated_script::GeneratedScript;
 pub use line::{Entry, Line};
 pub use reading::{read_entry, read_script_line};
-
-#[cfg(test)]
-mod tests;

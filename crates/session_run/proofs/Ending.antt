@@ -9,8 +9,8 @@ use Rattle.outside_io.specs.Window.{Kept}
 use Rattle.outside_io.specs.declared.lines.NextLine.{NextLine}
 use Rattle.store_spec.specs.Input.{first_width, script_limit}
 use Rattle.outside_io.specs.Outside.{Input, Output}
-use Rattle.outside_io.specs.Reading.{ReadFirst, ReadLines, ReadToFault, ReadsTo}
-use Rattle.outside_io.specs.Reading.Ending.{ReadOut, TooMuch}
+use Rattle.outside_io.specs.Reading.{ReadFirst, ReadLines, ReadsTo}
+use Rattle.outside_io.specs.Reading.Ending.{Faulted, ReadOut, TooMuch}
 use Rattle.outside_io.specs.Stream.{GivesAtMost, GivesFront, TakesAll}
 use Rattle.outside_io.proofs.Told.{told_as, told_with}
 use Rattle.outside_io.specs.declared.lines.LineEndFault.{LineEndFault}
@@ -20,14 +20,14 @@ use Rattle.phase_gate.specs.Checkpointed.{Acknowledges}
 use Rattle.phase_gate.specs.LineEnds.{IsHalfTold, IsUncheckpointed, LastEnds, LineEnds}
 use Rattle.phase_gate.specs.declared.fault.SessionFault.{SessionFault}
 use Rattle.phase_gate.specs.declared.fault.SessionFault.TheVariants as session
-use Rattle.session_run.proofs.Acknowledging.{acknowledged_then, marks_then, uncheckpointed}
+use Rattle.session_run.proofs.Acknowledging.{acknowledged_then, marks_then, uncheckpointed, uncheckpointed_synced}
 use Rattle.session_run.proofs.Beginning.{takes_none}
 use Rattle.session_run.proofs.SoFar.{IsHanded, SoFar, answers_handed, nothing_says, taken_then}
 use Rattle.session_run.proofs.SoFar.IsHanded.{whole, wide}
 use Rattle.session_run.specs.Ends.{Begun, HandlingEnds, IsDiskFailed, IsInterrupted, OfScript, SessionEnds, StopsBehind}
 use Rattle.session_run.specs.Ends.ComesNext.{to_end, to_line}
 use Rattle.session_run.specs.Faults.{line_fault, session_fault}
-use Rattle.session_run.specs.History.{AreMarks, LosesNothing, Wrote, written_by}
+use Rattle.session_run.specs.History.{AreMarks, LosesNothing, LosesNothingOnceSynced, Wrote, written_by}
 use Rattle.session_run.specs.declared.fault.RunFault.{RunFault}
 use Rattle.store_spec.specs.Ballot.{Ballot, IsBallotSet, IsWithinLimit}
 use Rattle.store_spec.specs.Disk.{DiskModel}
@@ -140,7 +140,7 @@ module _ {K D : Type 0} (model : DiskModel D) (tell : List ℕ → List ℕ) (e 
         inr (began lines state index mid mid so_far (Err (line_fault line.TooLong)) old new
         (read, wrote [] [] mid (takes_none mid.sink.taken) (refl, refl), so_far.held, steady, so_far.no_fault))
 
-    pub unread : {S : Type 0} (old new : Input S) → OfScript old new (λ text left. ReadToFault text left lines)
+    pub unread : {S : Type 0} (old new : Input S) → OfScript old new (λ text left. ReadLines Faulted text left lines)
         → Rose old.faults new.faults → SessionEnds model tell e (Err (line_fault line.ReadFault)) old new before mid
     unread old new read rose =
         inr (began lines state index mid mid so_far (Err (line_fault line.ReadFault)) old new
@@ -185,6 +185,10 @@ module _ {K D : Type 0} (model : DiskModel D) (tell : List ℕ → List ℕ) (e 
         crashes = subst (λ marks. LosesNothing model e set before.disk now.disk marks (acknowledged_in so_far.effects)
             (state.set ∷ [])) (sym failed.marks) (uncheckpointed model e election set (acknowledged_in so_far.effects)
             before.disk mid.disk mid.marks so_far.acknowledged state.set now.disk failed.fails);
+        once_synced = subst (λ marks. LosesNothingOnceSynced model e set before.disk now.disk marks
+            (acknowledged_in so_far.effects) (state.set ∷ [])) (sym failed.marks)
+            (uncheckpointed_synced model e election set (acknowledged_in so_far.effects) before.disk mid.disk mid.marks
+            so_far.acknowledged state.set now.disk failed.fails);
         rose = subst (λ n. Rose n (model.faults now.disk)) so_far.acknowledged.no_fault failed.fails.rose;
       }
         where

@@ -1,22 +1,22 @@
 -- What a run of a session makes of a script and a medium.
-use Rattle.std.specs.Prelude.{◌≡◌, ◌⊎◌, ℕ, ◌+◌, List, [], ◌∷◌, ◌++◌, length, take, IfSome, Option, Some, is_some, Result, Ok, Err}
+use Rattle.std.specs.Prelude.{◌≡◌, ◌⊎◌, ℕ, ◌+◌, ◌<◌, List, [], ◌∷◌, ◌++◌, length, take, IfSome, Option, Some, is_some, Result, Ok, Err}
 use Rattle.outside_io.specs.Outside.{Input}
-use Rattle.outside_io.specs.Reading.{ReadFirst, ReadLines, ReadToFault}
-use Rattle.outside_io.specs.Reading.Ending.{ReadOut, TooMuch}
+use Rattle.outside_io.specs.Reading.{ReadFirst, ReadLines}
+use Rattle.outside_io.specs.Reading.Ending.{Faulted, ReadOut, TooMuch}
 use Rattle.outside_io.specs.Stream.{GivesAtMost, TakesAll}
 use Rattle.outside_io.specs.Told.{IfTold}
 use Rattle.phase_gate.specs.Around.{Around}
-use Rattle.recovery.specs.Refused.{IsRefusedMedium, IsUnchangedAt}
+use Rattle.recovery.specs.Refused.{IsRefusedMedium, IsUnchangedAt, IsUnharmedAt}
 use Rattle.recovery.specs.declared.fault.RecoverFault.{RecoverFault}
 use Rattle.recovery.specs.declared.fault.RecoverFault.TheVariants as recover
 use Rattle.session_run.specs.Faults.{recover_fault}
-use Rattle.session_run.specs.History.{AreMarks, LosesNothing, Wrote, written_by}
+use Rattle.session_run.specs.History.{AreMarks, HoldsOnceSynced, LosesNothing, LosesNothingOnceSynced, Wrote, written_by}
 use Rattle.session_run.specs.declared.fault.RunFault.{RunFault}
 use Rattle.session_run.specs.declared.fault.RunFault.TheVariants.{TooLong, ReadFault, DiskFault, WriteFault, Memory}
 use Rattle.store_spec.specs.Ballot.{Ballot, IsBallotSet, IsWithinLimit}
-use Rattle.store_spec.specs.Disk.{DiskModel}
+use Rattle.store_spec.specs.Disk.{DiskModel, KeepsCrashImages}
 use Rattle.store_spec.specs.Election.{Election}
-use Rattle.store_spec.specs.Fault.{CountsFaultIf, Rose}
+use Rattle.store_spec.specs.Fault.{CountsFaultIf, Rose, last_count}
 use Rattle.store_spec.specs.Input.{script_limit}
 use Rattle.store_spec.specs.Medium.{HoldsSet}
 use Rattle.store_spec.specs.ScriptLine.{Says}
@@ -27,7 +27,9 @@ use Rattle.store_spec.specs.Session.Phase.{Closed}
 -- ---- no session began
 
 -- Nothing was read of the script, nothing was written, and nothing is reported: the medium was refused for this reason.
--- Its bytes stay, unless the disk failed.
+-- Its bytes stay, unless the disk failed, and a crash at any moment leaves what it might have left at the start, or the
+-- set that was read. Where the bytes held a set, no call was made, or the first sync failed and nothing was written, or
+-- from its return on a crash leaves that set.
 pub record NotBegun {S K D : Type 0} (model : DiskModel D) (e : Election) (why : RecoverFault) (old new : Input S)
     (before after : Around K D) : Type 0 where
   pub script : new ≡ old
@@ -37,7 +39,13 @@ pub record NotBegun {S K D : Type 0} (model : DiskModel D) (e : Election) (why :
   pub refused : IfSome (model.seen before.disk) (λ bytes. IsRefusedMedium e bytes why)
   pub unchanged : IsUnchangedAt why (model.seen before.disk) (model.seen after.disk)
   pub told : is_some (model.seen after.disk) ≡ is_some (model.seen before.disk)
+  pub unharmed : (bytes : List ℕ) → model.seen before.disk ≡ Some bytes
+      → IsUnharmedAt model e bytes why before.disk after.disk
   pub crashes : (set : List Ballot) → LosesNothing model e set before.disk after.disk [] [] []
+  pub once_synced : (set : List Ballot) (bytes : List ℕ) → model.seen before.disk ≡ Some bytes → HoldsSet e bytes set
+      → (after.disk ≡ before.disk)
+      ⊎ (KeepsCrashImages model.calls model.may_leave before.disk after.disk
+      ⊎ (model.calls after.disk < last_count → HoldsOnceSynced model e set before.disk after.disk [] [] []))
   pub fault : CountsFaultIf (why ≡ recover.DiskFault) (model.faults before.disk) (model.faults after.disk)
 
 -- ---- a session
@@ -86,6 +94,8 @@ pub record IsDiskFailed {S K D : Type 0} (model : DiskModel D) (tell : List ℕ 
   pub told : is_some (model.seen after.disk) ≡ is_some (model.seen before.disk)
   pub marks : AreMarks (model.calls before.disk) after.marks (acknowledged_in effects) (model.calls after.disk)
   pub crashes : LosesNothing model e set before.disk after.disk after.marks (acknowledged_in effects) (state.set ∷ [])
+  pub once_synced : LosesNothingOnceSynced model e set before.disk after.disk after.marks (acknowledged_in effects)
+      (state.set ∷ [])
   pub rose : Rose (model.faults before.disk) (model.faults after.disk)
 
 -- how the handling of lines ended, once these were handled, where `tell` says what is told of a reply
@@ -101,7 +111,7 @@ HandlingEnds model tell e set lines effects state (Err TooLong) old new before a
     × Wrote model tell e set effects [] [] before after
     × (after.held ≡ length state.set) × (new.faults ≡ old.faults) × (after.sink.faults ≡ before.sink.faults)
 HandlingEnds model tell e set lines effects state (Err ReadFault) old new before after =
-    OfScript old new (λ text left. ReadToFault text left lines)
+    OfScript old new (λ text left. ReadLines Faulted text left lines)
     × Wrote model tell e set effects [] [] before after
     × (after.held ≡ length state.set) × Rose old.faults new.faults × (after.sink.faults ≡ before.sink.faults)
 HandlingEnds model tell e set lines effects state (Err DiskFault) old new before after =

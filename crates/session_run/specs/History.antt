@@ -1,10 +1,10 @@
 -- What a session has done so far.
-use Rattle.std.specs.Prelude.{◌≡◌, ◌<◌, ◌≤◌, ℕ, List, [], ◌∷◌, ◌++◌, flat_map, Some, is_some}
+use Rattle.std.specs.Prelude.{◌≡◌, ◌+◌, ◌<◌, ◌≤◌, ℕ, List, [], ◌∷◌, ◌++◌, flat_map, Some, is_some}
 use Rattle.outside_io.specs.Stream.{TakesAll}
 use Rattle.phase_gate.specs.Around.{Around}
 use Rattle.phase_gate.specs.Checkpointed.{IsMediumNow}
 use Rattle.store_spec.specs.Ballot.{Ballot}
-use Rattle.store_spec.specs.Disk.{DiskModel, leaves_now}
+use Rattle.store_spec.specs.Disk.{DiskModel, EachCrashImage, after_calls, inside_next, leaves_now}
 use Rattle.store_spec.specs.Election.{Election}
 use Rattle.store_spec.specs.Fault.{last_count}
 use Rattle.store_spec.specs.Medium.{HoldsSet}
@@ -37,6 +37,24 @@ LosesNothing model e set before after marks acknowledged tried =
     HoldsOne model e set before → model.calls after < last_count
     → HoldsAcknowledged e (model.may_leave after) (model.calls before) set marks acknowledged tried (model.calls after)
 
+-- The first call is a sync that succeeds. Up to its return a crash leaves what it might have left before, and from then
+-- on up to each mark the set that was acknowledged before it or the next one.
+pub record HoldsOnceSynced {D : Type 0} (model : DiskModel D) (e : Election) (set : List Ballot) (before after : D)
+    (marks : List ℕ) (acknowledged tried : List (List Ballot)) : Type 0 where
+  pub early : EachCrashImage (model.may_leave after) (after_calls (model.calls before))
+      (inside_next (model.calls before)) (leaves_now model.calls model.may_leave before)
+  pub marked : AreMarks (model.calls before + 1) marks acknowledged (model.calls after)
+  pub late : HoldsAcknowledged e (model.may_leave after) (model.calls before + 1) set marks acknowledged tried
+      (model.calls after)
+
+-- What a crash may leave at each moment of a run, where the bytes read at its start held one set, whatever a crash might
+-- have left then.
+abbrev pub LosesNothingOnceSynced : {D : Type 0} → DiskModel D → Election → List Ballot → D → D → List ℕ
+    → List (List Ballot) → List (List Ballot) → Type 0
+LosesNothingOnceSynced model e set before after marks acknowledged tried =
+    (bytes : List ℕ) → model.seen before ≡ Some bytes → HoldsSet e bytes set → model.calls after < last_count
+    → HoldsOnceSynced model e set before after marks acknowledged tried
+
 -- From one state of a disk to another these sets were acknowledged, one after another, at these marks, and the last one
 -- stands on the disk.
 pub record Acknowledged {D : Type 0} (model : DiskModel D) (e : Election) (set : List Ballot)
@@ -45,6 +63,7 @@ pub record Acknowledged {D : Type 0} (model : DiskModel D) (e : Election) (set :
   pub medium : IsMediumNow model e (latest set acknowledged) after
   pub marked : AreMarks (model.calls before) marks acknowledged (model.calls after)
   pub crashes : LosesNothing model e set before after marks acknowledged []
+  pub once_synced : LosesNothingOnceSynced model e set before after marks acknowledged []
   pub no_fault : model.faults after ≡ model.faults before
 
 -- what is written for lines, where `tell` says what is told of a reply

@@ -131,7 +131,6 @@ pub fn cast_after(shape: &Shape, state: CastState, found: u64) -> (CastState, Ca
 
 /// What becomes of a tabulator at rest whose first step for a number found this claim word.
 pub fn cast_first(shape: &Shape, number: u64, found: u64) -> (CastState, CastNote)
-    requires small { shape.now.cells + shape.now.claims < 2 ^ 32 }
     requires some { number ≢ 0 }
     requires claims { shape.now.claims ≢ 0 }
     ensures { LeadsTo (table_of shape.now) (Probing number 0) found (state_of result.0)
@@ -141,11 +140,11 @@ pub fn cast_first(shape: &Shape, number: u64, found: u64) -> (CastState, CastNot
 }
 
 fn after_probe(shape: &Shape, number: u64, tries: usize, found: u64) -> (CastState, CastNote)
-    requires fits { FitsIn (table_of shape.now) (Probing number tries) }
-    requires small { shape.now.cells + shape.now.claims < 2 ^ 32 }
+    requires { FitsIn (table_of shape.now) (Probing number tries) }
     ensures { LeadsTo (table_of shape.now) (Probing number tries) found (state_of result.0)
         (note_of result.1) }
 {
+    let claims = shape.claims;
     if found == 0 {
         let carrying = CastState::Carrying {
             number,
@@ -154,7 +153,7 @@ fn after_probe(shape: &Shape, number: u64, tries: usize, found: u64) -> (CastSta
         (carrying, CastNote::Claimed)
     } else if found == number {
         (CastState::Rest, CastNote::Taken)
-    } else if tries + 1 < shape.claims {
+    } else if tries + 1 < claims {
         let probing = CastState::Probing {
             number,
             tries: tries + 1,

@@ -5,8 +5,6 @@
 mod act;
 mod cast;
 mod cast_core;
-#[cfg(test)]
-mod draws;
 pub mod laws;
 mod seats;
 mod shape;

@@ -254,7 +254,6 @@ fn after_exchange(
 
 /// What becomes of a withdrawer at rest whose first step for a number found this flag.
 pub fn withdraw_first(shape: &Shape, number: u64, found: u64) -> (WithdrawState, WithdrawNote)
-    requires small { shape.now.cells + shape.now.claims < 2 ^ 32 }
     requires some { number ≢ 0 }
     requires flag { found ≤ 1 }
     ensures { FirstRow (homes_of shape.now) number found (state_of result.0) (note_of result.1) }

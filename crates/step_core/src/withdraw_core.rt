@@ -1,8 +1,5 @@
 //! A core of withdrawing: withdrawers that make their steps one by one, in any order.
 
-#[cfg(test)]
-mod tests;
-
 ghost use Rattle.std.specs.Prelude.{◌≡◌, ◌≢◌, ◌↔◌, ◌+◌, ◌^◌, ◌<◌, ◌≤◌, All, AllPairs, IfOk, IsTrue, length, map, vec_len};
 ghost use Rattle.step_core.specs.Seats.{AreSeats};
 ghost use Rattle.step_core.specs.WithdrawCore.{HasReplyRoom, reply_of, tab_of};

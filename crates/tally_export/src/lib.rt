@@ -15,6 +15,3 @@ pub use fault::PutFault;
 pub use lines::export;
 pub use text::write_tally;
 pub use threads::tally_threads;
-
-#[cfg(test)]
-mod tests;

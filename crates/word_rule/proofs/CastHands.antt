@@ -7,7 +7,9 @@ use Rattle.store_spec.specs.CastStep.CastNote.{Quiet, Claimed, Taken, Full, Plac
 use Rattle.store_spec.specs.CastStep.CastRow.{claim_won, claim_met, claim_passed, claims_full, look_passes, look_ready, takes_empty, displaces, lost_passes, lost_ready}
 use Rattle.store_spec.specs.CastStep.CastState.{Rest, Probing, Carrying, Ready}
 use Rattle.store_spec.specs.Measure.{Falls}
-use Rattle.word_rule.specs.CastSeats.{MakesRow}
+use Rattle.word_rule.specs.CastSeats.{MakesNextRow, MakesRow}
+use Rattle.word_rule.specs.Chain.{Rows}
+use Rattle.word_rule.specs.Chain.Rows.{one_more}
 
 -- Nothing is in hand, or a number that is not above another one, and is above the word that was seen for it.
 abbrev pub IsHeld : ℕ → CastState → Type 0
@@ -83,14 +85,19 @@ work_falls top t (Ready v i s) (Ready w j r) moving h k falls = digits_fall (top
 
 -- ---- a step with a number in hand
 
--- the lists are those of before, and less is left to do
+-- a row from the state that a view has is one from that view
+pub next_row : (t : Table) (from : CastState) (old now : CastView) (note : CastNote) → old.state ≡ from → MakesRow t from old note now → MakesNextRow t old note now
+next_row t from old now note is row = subst (λ (s : CastState). MakesRow t s old note now) (sym is) row
+
+-- the lists are those of before, one row more was made, and less is left to do
 pub record HasMoved (t : Table) (top : ℕ) (first : CastView) (from new : CastState) (now : CastView) : Type 0 where
   pub held : IsHeld top new
   pub lists : now ≡ record first { state = new }
+  pub rows : Rows (MakesNextRow t) first now
   pub falls : work_left top t new < work_left top t from
 
-pub has_moved : (t : Table) (top : ℕ) (first old now : CastView) (from new : CastState) (note : CastNote) → from ≢ Rest → IsHeld top from → old ≡ record first { state = from } → MakesRow t from old note now → now.state ≡ new → Falls (cast_measure t new) (cast_measure t from) → HasMoved t top first from new now
-has_moved t top first old now from new note moving h lists row state falls =
+pub has_moved : (t : Table) (top : ℕ) (first old now : CastView) (from new : CastState) (note : CastNote) → from ≢ Rest → IsHeld top from → old ≡ record first { state = from } → Rows (MakesNextRow t) first old → MakesRow t from old note now → now.state ≡ new → Falls (cast_measure t new) (cast_measure t from) → HasMoved t top first from new now
+has_moved t top first old now from new note moving h lists rows row state falls =
     let after = row_from_hand t top from _ row.found _ now.state note row.leads h in
     let held = subst (IsHeld top) state (held_after top now.state note after) in
     record {
@@ -98,6 +105,7 @@ has_moved t top first old now from new note moving h lists row state falls =
       lists = lists_stay top _ old now note row.is after
           ∙ ap (λ (v : CastView). record v { state = now.state }) lists
           ∙ ap (λ (s : CastState). record first { state = s }) state;
+      rows = one_more old now note rows (next_row t from old now note (ap (λ (v : CastView). v.state) lists) row);
       falls = work_falls top t from new moving h held falls;
     }
 

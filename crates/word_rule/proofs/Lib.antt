@@ -9,6 +9,7 @@ pub mod CastLaws
 pub mod CastProbes
 pub mod CastStates
 pub mod CastTold
+pub mod Chains
 pub mod Closing
 pub mod Copying
 pub mod Dealing

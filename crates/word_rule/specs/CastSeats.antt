@@ -10,6 +10,7 @@ use Rattle.store_spec.specs.CastStep.CastNote.{Quiet, Claimed, Taken, Full, Plac
 use Rattle.store_spec.specs.CastStep.CastState.{Probing, Rest}
 use Rattle.store_spec.specs.Layout.{numbers_in}
 use Rattle.store_spec.specs.Measure.{Falls}
+use Rattle.word_rule.specs.Chain.{Chain}
 use Rattle.word_rule.specs.declared.seats.Known.{Known}
 
 -- the casting invariant over the words and all views
@@ -34,6 +35,15 @@ pub record MakesRow (t : Table) (from : CastState) (old : CastView) (note : Cast
   pub found : ℕ
   pub leads : LeadsTo t from found now.state note
   pub is : now ≡ view_after old (number_of from) now.state note
+
+-- a row from the state of the view before it
+abbrev pub MakesNextRow : Table → CastView → CastNote → CastView → Type 0
+MakesNextRow t old note now = MakesRow t old.state old note now
+
+-- A chain of rows for a number: its first step, for which no claim word was tried yet, and then a row from each state
+-- that a step led to. Each row names a word that the step found.
+abbrev pub CastsByRows : Table → ℕ → CastView → CastView → Type 0
+CastsByRows t number old now = Chain (MakesRow t (Probing number 0)) (MakesNextRow t) old now
 
 -- the last of some probes for a number, of which those before told nothing
 pub record Probes (t : Table) (number : ℕ) (old : CastView) (told : CastNote) (now : CastView) : Type 0 where

@@ -1,5 +1,6 @@
 pub mod CastSeats
 pub mod CastWords
+pub mod Chain
 pub mod Places
 pub mod Seats
 pub mod Steps

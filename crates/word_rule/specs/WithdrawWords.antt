@@ -11,6 +11,7 @@ use Rattle.store_spec.specs.WithdrawPhase.{without}
 use Rattle.store_spec.specs.WithdrawStep.{FirstRow, WithdrawState, WithdrawView, number_of, view_after}
 use Rattle.store_spec.specs.WithdrawStep as definition
 use Rattle.step_core.specs.WithdrawTables.{LeadsTo}
+use Rattle.word_rule.specs.Chain.{Chain}
 use Rattle.word_rule.specs.Places.{IsSingle, Place, place_of}
 use Rattle.word_rule.specs.Seats.{SharedWords, base_of, words_of}
 use Rattle.word_rule.specs.declared.seats.Known.{Known}
@@ -36,6 +37,11 @@ pub record MakesRow (home : ℕ → ℕ) (old : WithdrawView) (note : definition
   pub found : ℕ
   pub leads : LeadsTo home old.state found now.state note
   pub is : now ≡ view_after old (number_of old.state) now.state note
+
+-- A chain of rows for a number: its first step, which finds the flag of its cell, and then a row from each state that a
+-- step led to. Each row names a word that the step found.
+abbrev pub WithdrawsByRows : (ℕ → ℕ) → ℕ → WithdrawView → WithdrawView → Type 0
+WithdrawsByRows home x old now = Chain (MakesFirstRow home x) (MakesRow home) old now
 
 -- the numbers whose removal seats have begun
 abbrev pub begun_at : List (Place WithdrawView) → List ℕ

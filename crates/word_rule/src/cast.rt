@@ -10,8 +10,9 @@ ghost use Rattle.store_spec.specs.CastStep.{cast_measure, fresh_view, number_of,
 ghost use Rattle.store_spec.specs.CastStep.CastNote.{Quiet};
 ghost use Rattle.store_spec.specs.CastStep.CastState.{Carrying, Probing, Rest};
 ghost use Rattle.store_spec.specs.Measure.{Falls};
-ghost use Rattle.word_rule.specs.CastSeats.{IsAnswer, IsAtRest, IsToldAlike, MakesRow, Probes};
+ghost use Rattle.word_rule.specs.CastSeats.{CastsByRows, IsAnswer, IsAtRest, IsToldAlike, MakesNextRow, MakesRow, Probes};
 ghost use Rattle.word_rule.specs.CastWords.{AgreeOn, IsAbout, MayBegin, MayHold, cells_after};
+ghost use Rattle.word_rule.specs.Chain.{Rows};
 ghost use Rattle.word_rule.specs.Places.{AreAll, AreMadeOf, AreWhole, IsSingle, place_of};
 
 use crate::seats::{Known, Opening, Phase, Seated, close_table, deal_seats, join_seats, lay_out};
@@ -207,6 +208,9 @@ impl CastWords {
         ensures answers { IsAnswer (note_of result) }
         ensures view { seat.new.view ≡ view_after seat.old.view number Rest (note_of result) }
         ensures told_alike { IsToldAlike seat.old.view number (note_of result) }
+
+        // The first step of the number led from the view of before to another, and so on by rows to the view after it.
+        ensures chain { CastsByRows (table_of self.now.shape) number seat.old.view seat.new.view }
     {
         let (state, note) = self.claim(&mut seat.seat, number);
         if let CastState::Carrying { .. } = state {
@@ -223,6 +227,8 @@ impl CastWords {
         ensures about { IsAbout self.now (state_of result.0) seat.new }
         ensures probes { Probes (table_of self.now.shape) number seat.old.me.0.view
             (note_of result.1) seat.new.me.0.view }
+        ensures chain { CastsByRows (table_of self.now.shape) number seat.old.me.0.view
+            seat.new.me.0.view }
         ensures told { note_of result.1 ≢ Quiet }
         ensures told_alike { IsToldAlike seat.old.me.0.view number (note_of result.1) }
     {
@@ -249,6 +255,8 @@ impl CastWords {
         requires in_hand { (number place : ℕ) × (state_of in_hand ≡ Carrying number place) }
         ensures at_rest { IsAbout self.now Rest seat.new }
         ensures placed { seat.new.me.0.view ≡ record seat.old.me.0.view { state = Rest } }
+        ensures rows { Rows (MakesNextRow (table_of self.now.shape)) seat.old.me.0.view
+            seat.new.me.0.view }
     {
         let mut state = in_hand;
         'cells: while let CastState::Carrying { .. } = state {

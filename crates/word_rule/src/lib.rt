@@ -3,6 +3,8 @@
 #![tactic(auto)]
 
 mod cast;
+#[cfg(test)]
+mod draws;
 pub mod laws;
 mod seats;
 mod steps;

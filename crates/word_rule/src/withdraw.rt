@@ -10,10 +10,11 @@ ghost use Rattle.store_spec.specs.Measure.{Falls};
 ghost use Rattle.store_spec.specs.WithdrawStep.{IsSeated, fresh_view, number_of, withdraw_measure};
 ghost use Rattle.store_spec.specs.WithdrawStep.WithdrawNote.{Gone};
 ghost use Rattle.store_spec.specs.WithdrawStep.WithdrawState.{Chosen, Rest};
+ghost use Rattle.word_rule.specs.Chain.{Rows};
 ghost use Rattle.word_rule.specs.Places.{AreAll, AreMadeOf, AreWhole, IsSingle, place_of};
 ghost use Rattle.word_rule.specs.WithdrawRemoval.{HasRemoved, Removes};
 ghost use Rattle.word_rule.specs.WithdrawSeats.{IsAtRest};
-ghost use Rattle.word_rule.specs.WithdrawWords.{AgreeOn, IsAbout, MakesFirstRow, MakesRow, MayEmpty, cells_after};
+ghost use Rattle.word_rule.specs.WithdrawWords.{AgreeOn, IsAbout, MakesFirstRow, MakesRow, MayEmpty, WithdrawsByRows, cells_after};
 
 use crate::seats::{Known, Opening, Phase, Seated, close_table, deal_seats, join_seats, lay_out};
 use crate::steps::perform;
@@ -197,6 +198,10 @@ impl WithdrawWords {
         ensures words { seat.new.words ≡ seat.old.words }
         ensures removes { Removes number seat.old.view (note_of result) seat.new.view }
 
+        // The first step for the number led from the view of before to another, and so on by rows to the view after it.
+        ensures chain { WithdrawsByRows (homes_of self.now.shape) number seat.old.view
+            seat.new.view }
+
         // A number whose removal the seat has begun, or that it has found gone, is found gone.
         ensures again { Contains seat.old.view.begun number ⊎ Contains seat.old.view.gone number
             → note_of result ≡ Gone }
@@ -216,6 +221,8 @@ impl WithdrawWords {
         requires chosen { (number place : ℕ) × (state_of chosen ≡ Chosen number place) }
         ensures at_rest { IsAbout self.now Rest seat.new }
         ensures removed { HasRemoved (number_of (state_of chosen)) seat.old.me.0.view
+            seat.new.me.0.view }
+        ensures rows { Rows (MakesRow (homes_of self.now.shape)) seat.old.me.0.view
             seat.new.me.0.view }
     {
         let shape = self.shape;

@@ -1,116 +1,151 @@
 //! The disk over a file: which calls it makes, over a stand-in for the file, and that a real file is read back.
 
-use crate::{Disk, FileDisk};
+use crate::{Disk, FileDisk, FileLock};
 use fake_system::Call::{
-    Make, Open, OpenFolder, OpenToWrite, ReadAt, Size, SyncAll, SyncData, SyncFolder, WriteAt,
+    Lock, LockShared, Make, Open, OpenFolder, OpenToWrite, ReadAt, Size, SyncAll, SyncData,
+    SyncFolder, WriteAt,
 };
-use fake_system::{Call, FAULT_KINDS, FakeFiles, Stage};
+use fake_system::{Call, FAULT_KINDS, FakeFile, FakeFiles, Others, Stage};
 use outside_io::Failed;
 use std::alloc::Global;
-use std::fs::{self, Files};
+use std::fs::{self, Files, TryLockError};
 use std::io::ErrorKind;
 use std::os::unix::fs::{FileExt, PermissionsExt};
 use std::process::Abort;
 use std::test::Fail;
 
-const PATH: &str = "folder/file";
+impl FileLock for FakeFile<'_> {
+    fn try_lock(&self) -> Result<(), TryLockError> {
+        FakeFile::try_lock(self)
+    }
 
-/// A call on a disk.
+    fn try_lock_shared(&self) -> Result<(), TryLockError> {
+        FakeFile::try_lock_shared(self)
+    }
+}
+
+/// A call on a disk, or what others make of the file's lock before the next.
 #[derive(Clone, Copy, Debug)]
 enum Act {
     AskSize,
     Get(u64, usize),
     Put(u64, usize),
     Settle,
+    Meanwhile(Others),
 }
 
 /// A call on a disk, in which the call of the system with this number fails, or none with 0; whether it succeeds, and
 /// which calls of the system it makes.
 type Row<'a> = (u64, Act, bool, &'a [Call]);
 
+/// A path and its folder; a file there, or none, of which others have such a lock; the kind of each error; the calls; and the bytes that they leave.
+#[derive(Clone, Copy)]
+struct Case<'a> {
+    path: &'a str,
+    folder: &'a str,
+    bytes: Option<&'a [u8]>,
+    others: Others,
+    kind: ErrorKind,
+    rows: &'a [Row<'a>],
+    left: Option<&'a [u8]>,
+}
+
 // Makes a call, and answers whether it succeeded. What is put is a number of letters.
-fn succeeds(disk: &mut FileDisk<'_, FakeFiles<'_>>, act: Act) -> bool {
+fn succeeds(disk: &mut FileDisk<'_, FakeFiles<'_>>, stage: &Stage, act: Act) -> bool {
     let mut buf = [b'x'; 8];
     match act {
         Act::AskSize => disk.size().is_ok(),
         Act::Get(at, count) => disk.read(at, &mut buf[..count.min(8)]).is_ok(),
         Act::Put(at, count) => disk.write_at(at, &buf[..count.min(8)]).is_ok(),
         Act::Settle => disk.sync().is_ok(),
+        Act::Meanwhile(others) => {
+            stage.lock_by_others(others);
+            true
+        }
     }
 }
 
-// Makes these calls one after another, over a file of these bytes, or none, and compares what each does.
-fn assert_rows(
+// Makes a call, and compares what it does.
+fn assert_row(
     rt: &impl Abort,
-    alloc: Global,
-    bytes: Option<&[u8]>,
+    stage: &Stage,
+    disk: &mut FileDisk<'_, FakeFiles<'_>>,
     kind: ErrorKind,
-    rows: &[Row<'_>],
-) -> Result<Stage, Fail> {
-    let bytes = match bytes {
+    row: Row<'_>,
+) -> Result<(), Fail> {
+    let (failing, act, wanted, calls) = row;
+    stage.fail(failing, kind)?;
+    let found = succeeds(disk, stage, act);
+    assert_eq!(rt; found, wanted, "{act:?} with {failing} failing");
+    let log = stage.log()?;
+    assert_eq!(rt; log.as_slice(), calls, "{act:?} with {failing} failing");
+    Ok(())
+}
+
+// Makes the calls of a case one after another, and compares what each does, and what they leave.
+fn assert_case(rt: &impl Abort, alloc: Global, case: Case<'_>) -> Result<(), Fail> {
+    let bytes = match case.bytes {
         Some(bytes) => Some(bytes.to_vec(alloc)?),
         None => None,
     };
     let stage = Stage::new(alloc, bytes, 3);
-    let files = FakeFiles::new(alloc, &stage, PATH, "folder");
-    let mut disk = FileDisk::new(&files, PATH);
-    for (failing, act, wanted, calls) in rows {
-        stage.fail(*failing, kind)?;
-        assert_eq!(rt;
-            succeeds(&mut disk, *act),
-            *wanted,
-            "{act:?} with {failing} failing"
-        );
-        assert_eq!(rt;
-            stage.log()?.as_slice(),
-            *calls,
-            "{act:?} with {failing} failing"
-        );
+    stage.lock_by_others(case.others);
+    let files = FakeFiles::new(alloc, &stage, case.path, case.folder);
+    let mut disk = FileDisk::new(&files, case.path);
+    for row in case.rows {
+        assert_row(rt, &stage, &mut disk, case.kind, *row)?;
     }
-    assert_eq!(rt; disk.calls(), rows.len() as u64);
-    Ok(stage)
+    let left = stage.bytes()?;
+    assert_eq!(rt; left.as_ref().map(|left| left.as_slice()), case.left);
+    Ok(())
 }
+
+const ALL_SYNCED: [Call; 5] = [OpenToWrite, Lock, SyncAll, OpenFolder, SyncFolder];
+
+/// A file of four bytes.
+const FOUR: Case<'static> = Case {
+    path: "folder/file",
+    folder: "folder",
+    bytes: Some(b"abcd"),
+    others: Others::HoldNone,
+    kind: ErrorKind::Other,
+    rows: &[],
+    left: Some(b"abcd"),
+};
 
 #[test]
 fn a_sync_reaches_what_is_owed(rt: HostRuntime) -> Result<(), Fail> {
-    let all = [OpenToWrite, SyncAll, OpenFolder, SyncFolder];
-    for (failing, first) in [(2, 2usize), (3, 3), (4, 4)] {
+    for failing in 3..6usize {
         let rows = [
-            (failing, Act::Settle, false, &all[..first]),
-            (0, Act::Settle, true, &all[1..]),
+            (failing as u64, Act::Settle, false, &ALL_SYNCED[..failing]),
+            (0, Act::Settle, true, &ALL_SYNCED[2..]),
             (0, Act::Settle, true, &[SyncData]),
             (1, Act::Settle, false, &[SyncData]),
             (0, Act::Settle, true, &[SyncAll]),
             (0, Act::Settle, true, &[SyncData]),
         ];
-        assert_rows(&rt, rt.alloc(), Some(b"old"), ErrorKind::Other, &rows)?;
+        assert_case(
+            &rt,
+            rt.alloc(),
+            Case {
+                rows: &rows,
+                ..FOUR
+            },
+        )?;
     }
     Ok(())
 }
 
-#[test]
-fn a_file_in_no_folder_has_the_current_one(rt: HostRuntime) -> Result<(), Fail> {
-    let alloc = rt.alloc();
-    let stage = Stage::new(alloc, Some(b"old".to_vec(alloc)?), 3);
-    let files = FakeFiles::new(alloc, &stage, "file", ".");
-    assert_eq!(rt; FileDisk::new(&files, "file").sync(), Ok(()));
-    let calls = stage.log()?;
-    assert_eq!(rt;
-        calls.as_slice(),
-        [OpenToWrite, SyncAll, OpenFolder, SyncFolder].as_slice()
-    );
-    Ok(())
-}
+const IN_NO_FOLDER: Case<'static> = Case {
+    path: "file",
+    folder: ".",
+    rows: &[(0, Act::Settle, true, &ALL_SYNCED)],
+    ..FOUR
+};
 
-#[test]
-fn a_write_that_grows_the_file_asks_for_all(rt: HostRuntime) -> Result<(), Fail> {
-    let rows = [
-        (
-            0,
-            Act::Settle,
-            true,
-            [OpenToWrite, SyncAll, OpenFolder, SyncFolder].as_slice(),
-        ),
+const GROWN: Case<'static> = Case {
+    rows: &[
+        (0, Act::Settle, true, &ALL_SYNCED),
         (0, Act::Put(2, 2), true, &[Size, WriteAt(2, 2)]),
         (0, Act::Settle, true, &[SyncData]),
         (0, Act::Put(3, 2), true, &[WriteAt(3, 2)]),
@@ -126,24 +161,28 @@ fn a_write_that_grows_the_file_asks_for_all(rt: HostRuntime) -> Result<(), Fail>
             &[Size, WriteAt(5, 4), WriteAt(8, 1)],
         ),
         (0, Act::Settle, true, &[SyncAll]),
-    ];
-    let stage = assert_rows(&rt, rt.alloc(), Some(b"abcd"), ErrorKind::Other, &rows)?;
-    assert_eq!(rt; stage.bytes()?, Some(b"abxxxxxxx".to_vec(rt.alloc())?));
-    Ok(())
-}
+    ],
+    left: Some(b"abxxxxxxx"),
+    ..FOUR
+};
 
-#[test]
-fn the_size_is_asked_for_once(rt: HostRuntime) -> Result<(), Fail> {
-    let rows = [
+const SIZE_ASKED_ONCE: Case<'static> = Case {
+    bytes: Some(b"abcdef"),
+    rows: &[
         (
             0,
             Act::Get(1, 2),
             true,
-            [OpenToWrite, Size, ReadAt(1, 2)].as_slice(),
+            &[OpenToWrite, LockShared, Size, ReadAt(1, 2)],
         ),
         (0, Act::Get(0, 5), true, &[ReadAt(0, 5), ReadAt(3, 2)]),
-        (0, Act::Put(6, 1), true, &[WriteAt(6, 1)]),
+        (0, Act::Put(6, 1), true, &[Lock, Size, WriteAt(6, 1)]),
         (0, Act::Get(5, 2), true, &[ReadAt(5, 2)]),
+        // Behind a write inside the file are the same bytes as before it.
+        (0, Act::Put(1, 1), true, &[WriteAt(1, 1)]),
+        (0, Act::Get(5, 2), true, &[ReadAt(5, 2)]),
+        (0, Act::Put(0, 1), true, &[WriteAt(0, 1)]),
+        (0, Act::Put(6, 1), true, &[WriteAt(6, 1)]),
         (0, Act::AskSize, true, &[Size]),
         (0, Act::Get(6, 2), false, &[]),
         (0, Act::Get(8, 0), false, &[]),
@@ -152,24 +191,25 @@ fn the_size_is_asked_for_once(rt: HostRuntime) -> Result<(), Fail> {
         (0, Act::Put(u64::MAX, 1), false, &[]),
         (1, Act::Put(0, 1), false, &[WriteAt(0, 1)]),
         (0, Act::Get(0, 2), true, &[Size, ReadAt(0, 2)]),
-    ];
-    assert_rows(&rt, rt.alloc(), Some(b"abcdef"), ErrorKind::Other, &rows)?;
-    Ok(())
-}
+    ],
+    left: Some(b"xxcdefx"),
+    ..FOUR
+};
 
-#[test]
-fn a_missing_file_is_made_by_a_write_alone(rt: HostRuntime) -> Result<(), Fail> {
-    let rows = [
-        (0, Act::AskSize, true, [OpenToWrite].as_slice()),
+const MADE_BY_A_WRITE: Case<'static> = Case {
+    bytes: None,
+    kind: ErrorKind::StorageFull,
+    rows: &[
+        (0, Act::AskSize, true, &[OpenToWrite]),
         (0, Act::Settle, true, &[OpenToWrite]),
         (0, Act::Get(0, 1), false, &[]),
         (0, Act::Put(1, 1), false, &[]),
         (1, Act::Put(0, 2), false, &[Make]),
         (
-            3,
+            4,
             Act::Put(0, 2),
             false,
-            &[OpenToWrite, Make, WriteAt(0, 2)],
+            &[OpenToWrite, Make, Lock, WriteAt(0, 2)],
         ),
         (
             0,
@@ -178,105 +218,308 @@ fn a_missing_file_is_made_by_a_write_alone(rt: HostRuntime) -> Result<(), Fail> 
             &[Size, WriteAt(0, 5), WriteAt(3, 2)],
         ),
         (0, Act::Settle, true, &[SyncAll, OpenFolder, SyncFolder]),
+    ],
+    left: Some(b"xxxxx"),
+    ..FOUR
+};
+
+const READ_ALONE: Case<'static> = Case {
+    kind: ErrorKind::PermissionDenied,
+    rows: &[
+        (
+            1,
+            Act::AskSize,
+            true,
+            &[OpenToWrite, Open, LockShared, Size],
+        ),
+        (0, Act::Get(1, 2), true, &[ReadAt(1, 2)]),
+        (
+            0,
+            Act::Settle,
+            true,
+            &[Lock, SyncAll, OpenFolder, SyncFolder],
+        ),
+        (2, Act::Put(0, 2), false, &[Size, WriteAt(0, 2)]),
+    ],
+    ..FOUR
+};
+
+const INTERRUPTED: Case<'static> = Case {
+    kind: ErrorKind::Interrupted,
+    rows: &[
+        (0, Act::Settle, true, &ALL_SYNCED),
+        (0, Act::AskSize, true, &[Size]),
+        (1, Act::Get(1, 2), true, &[ReadAt(1, 2), ReadAt(1, 2)]),
+        (1, Act::Put(1, 1), true, &[WriteAt(1, 1), WriteAt(1, 1)]),
+    ],
+    left: Some(b"axcd"),
+    ..FOUR
+};
+
+#[test]
+fn each_call_makes_calls_of_the_system(rt: HostRuntime) -> Result<(), Fail> {
+    let also_read_alone = Case {
+        kind: ErrorKind::ReadOnlyFilesystem,
+        ..READ_ALONE
+    };
+    let cases = [
+        IN_NO_FOLDER,
+        GROWN,
+        SIZE_ASKED_ONCE,
+        MADE_BY_A_WRITE,
+        READ_ALONE,
+        also_read_alone,
+        INTERRUPTED,
     ];
-    let stage = assert_rows(&rt, rt.alloc(), None, ErrorKind::StorageFull, &rows)?;
-    assert_eq!(rt; stage.bytes()?, Some(b"xxxxx".to_vec(rt.alloc())?));
+    for case in cases {
+        assert_case(&rt, rt.alloc(), case)?;
+    }
     Ok(())
 }
+
+const OTHERS_SHARE: Case<'static> = Case {
+    others: Others::Share,
+    rows: &[
+        (0, Act::AskSize, true, &[OpenToWrite, LockShared, Size]),
+        (0, Act::Get(0, 2), true, &[ReadAt(0, 2)]),
+        (0, Act::Settle, false, &[Lock]),
+        // The share was let go for that.
+        (0, Act::Get(0, 2), true, &[LockShared, Size, ReadAt(0, 2)]),
+        (0, Act::Put(0, 2), false, &[Lock]),
+        (0, Act::Meanwhile(Others::HoldAlone), true, &[]),
+        (0, Act::Get(0, 2), false, &[LockShared]),
+        (0, Act::AskSize, false, &[LockShared]),
+        (0, Act::Meanwhile(Others::HoldNone), true, &[]),
+        (0, Act::Put(0, 2), true, &[Lock, Size, WriteAt(0, 2)]),
+        // It is held from then on.
+        (0, Act::Meanwhile(Others::HoldAlone), true, &[]),
+        (0, Act::Get(0, 2), true, &[ReadAt(0, 2)]),
+        (0, Act::AskSize, true, &[Size]),
+        (0, Act::Put(0, 2), true, &[WriteAt(0, 2)]),
+        (0, Act::Settle, true, &[SyncAll, OpenFolder, SyncFolder]),
+    ],
+    left: Some(b"xxcd"),
+    ..FOUR
+};
+
+const ANOTHER_HOLDS_IT: Case<'static> = Case {
+    others: Others::HoldAlone,
+    rows: &[
+        (0, Act::Settle, false, &[OpenToWrite, Lock]),
+        (0, Act::AskSize, false, &[LockShared]),
+        (0, Act::Get(0, 1), false, &[LockShared]),
+        (0, Act::Put(0, 1), false, &[Lock]),
+        (0, Act::Meanwhile(Others::HoldNone), true, &[]),
+        (
+            0,
+            Act::Settle,
+            true,
+            &[Lock, SyncAll, OpenFolder, SyncFolder],
+        ),
+    ],
+    ..FOUR
+};
+
+const NO_LOCKS: Case<'static> = Case {
+    others: Others::HaveNoLocks,
+    rows: &[
+        (0, Act::AskSize, true, &[OpenToWrite, LockShared, Size]),
+        (0, Act::Get(0, 2), true, &[ReadAt(0, 2)]),
+        (0, Act::Put(2, 2), true, &[Lock, Size, WriteAt(2, 2)]),
+        (0, Act::Settle, true, &[SyncAll, OpenFolder, SyncFolder]),
+        (0, Act::Put(2, 2), true, &[WriteAt(2, 2)]),
+    ],
+    left: Some(b"abxx"),
+    ..FOUR
+};
+
+const LOCKED_ONCE_MADE: Case<'static> = Case {
+    bytes: None,
+    others: Others::HoldAlone,
+    rows: &[
+        (0, Act::Settle, true, &[OpenToWrite]),
+        (0, Act::Put(0, 2), false, &[OpenToWrite, Make, Lock]),
+        (0, Act::Put(0, 2), false, &[Lock]),
+    ],
+    left: Some(b""),
+    ..FOUR
+};
+
+#[test]
+fn the_lock_of_another_is_a_fault(rt: HostRuntime) -> Result<(), Fail> {
+    for case in [OTHERS_SHARE, ANOTHER_HOLDS_IT, NO_LOCKS, LOCKED_ONCE_MADE] {
+        assert_case(&rt, rt.alloc(), case)?;
+    }
+    Ok(())
+}
+
+const LOCK_FAILS: Case<'static> = Case {
+    rows: &[
+        (2, Act::AskSize, true, &[OpenToWrite, LockShared, Size]),
+        (0, Act::AskSize, true, &[Size]),
+        (
+            1,
+            Act::Settle,
+            true,
+            &[Lock, SyncAll, OpenFolder, SyncFolder],
+        ),
+        (0, Act::Settle, true, &[SyncData]),
+    ],
+    ..FOUR
+};
+
+const LOCK_IS_HELD: Case<'static> = Case {
+    kind: ErrorKind::WouldBlock,
+    rows: &[
+        (2, Act::AskSize, false, &[OpenToWrite, LockShared]),
+        (0, Act::AskSize, true, &[LockShared, Size]),
+        (1, Act::Settle, false, &[Lock]),
+        (
+            0,
+            Act::Settle,
+            true,
+            &[Lock, SyncAll, OpenFolder, SyncFolder],
+        ),
+    ],
+    ..FOUR
+};
+
+#[test]
+fn only_a_held_lock_is_a_fault(rt: HostRuntime) -> Result<(), Fail> {
+    for kind in FAULT_KINDS {
+        let case = if kind == ErrorKind::WouldBlock {
+            LOCK_IS_HELD
+        } else {
+            Case { kind, ..LOCK_FAILS }
+        };
+        assert_case(&rt, rt.alloc(), case)?;
+    }
+    Ok(())
+}
+
+const FAULTS: [Row<'static>; 8] = [
+    (1, Act::AskSize, false, &[OpenToWrite]),
+    (1, Act::Put(0, 1), false, &[OpenToWrite]),
+    (1, Act::Settle, false, &[OpenToWrite]),
+    (3, Act::Settle, false, &[OpenToWrite, Lock, SyncAll]),
+    (1, Act::AskSize, false, &[Size]),
+    (2, Act::Get(0, 2), false, &[Size, ReadAt(0, 2)]),
+    (1, Act::Put(0, 2), false, &[WriteAt(0, 2)]),
+    (1, Act::Settle, false, &[SyncAll]),
+];
 
 #[test]
 fn each_error_is_a_fault(rt: HostRuntime) -> Result<(), Fail> {
-    let rows = [
-        (1, Act::AskSize, false, [OpenToWrite].as_slice()),
-        (1, Act::Put(0, 1), false, &[OpenToWrite]),
-        (1, Act::Settle, false, &[OpenToWrite]),
-        (2, Act::AskSize, false, &[OpenToWrite, Size]),
-        (0, Act::AskSize, true, &[Size]),
-        (1, Act::Get(0, 2), false, &[ReadAt(0, 2)]),
-        (1, Act::Put(0, 2), false, &[WriteAt(0, 2)]),
-        (1, Act::Settle, false, &[SyncAll]),
+    // A file that is not found is none, and one that may not be written is opened to be read.
+    let opens = [
+        ErrorKind::NotFound,
+        ErrorKind::PermissionDenied,
+        ErrorKind::ReadOnlyFilesystem,
     ];
     for kind in FAULT_KINDS {
-        // A file that is not found is none, and one that may not be written is opened to be read.
-        let opens = [
-            ErrorKind::NotFound,
-            ErrorKind::PermissionDenied,
-            ErrorKind::ReadOnlyFilesystem,
-        ];
         let skipped = if opens.contains(&kind) { 3usize } else { 0 };
-        let stage = assert_rows(&rt, rt.alloc(), Some(b"abcd"), kind, &rows[skipped..])?;
-        assert_eq!(rt; stage.bytes()?, Some(b"abcd".to_vec(rt.alloc())?));
+        let rows = &FAULTS[skipped..];
+        assert_case(&rt, rt.alloc(), Case { kind, rows, ..FOUR })?;
     }
-    Ok(())
-}
-
-#[test]
-fn a_file_that_may_not_be_written_is_read(rt: HostRuntime) -> Result<(), Fail> {
-    let rows = [
-        (1, Act::AskSize, true, [OpenToWrite, Open, Size].as_slice()),
-        (0, Act::Get(1, 2), true, &[ReadAt(1, 2)]),
-        (0, Act::Settle, true, &[SyncAll, OpenFolder, SyncFolder]),
-        (1, Act::Put(0, 2), false, &[WriteAt(0, 2)]),
-    ];
-    for kind in [ErrorKind::PermissionDenied, ErrorKind::ReadOnlyFilesystem] {
-        assert_rows(&rt, rt.alloc(), Some(b"abcd"), kind, &rows)?;
-    }
-    Ok(())
-}
-
-#[test]
-fn an_interruption_is_none(rt: HostRuntime) -> Result<(), Fail> {
-    let rows = [
-        (0, Act::AskSize, true, [OpenToWrite, Size].as_slice()),
-        (1, Act::Get(1, 2), true, &[ReadAt(1, 2), ReadAt(1, 2)]),
-        (1, Act::Put(1, 1), true, &[WriteAt(1, 1), WriteAt(1, 1)]),
-    ];
-    assert_rows(
-        &rt,
-        rt.alloc(),
-        Some(b"abcd"),
-        ErrorKind::Interrupted,
-        &rows,
-    )?;
     Ok(())
 }
 
 const REAL: &str = "crash_disk_test_medium";
 
-// A disk over a file that is missing: a sync makes nothing, and a write makes it.
-fn assert_made_by_a_write<R: Files + Abort>(rt: &R) -> Result<(), Fail>
-where
-    R::File: FileExt,
-{
-    let mut disk = FileDisk::new(rt, REAL);
-    assert_eq!(rt; disk.size(), Ok(0), "it is missing");
-    assert_eq!(rt; disk.sync(), Ok(()));
-    assert!(rt; fs::metadata(rt, REAL).is_err(), "a sync makes nothing");
-    assert_eq!(rt; disk.write_at(0, b"abcdefgh"), Ok(()));
-    assert_eq!(rt; fs::metadata(rt, REAL)?.permissions().mode() & 0o777, 0o600);
-    assert_eq!(rt; super::replace(&mut disk, 2, b"XY"), Ok(()));
-    Ok(())
+/// What one of three disks over a real file does, or what stands in its folder.
+#[derive(Clone, Copy, Debug)]
+enum RealAct<'a> {
+    Missing,
+    OwnersAlone,
+    Leave,
+    Settle,
+    HasSize(u64),
+    Has(u64, &'a [u8]),
+    Put(u64, &'a [u8]),
 }
 
-// What another disk reads of it.
-fn assert_read_back<R: Files + Abort>(rt: &R)
+// Whether a disk does so, or whether it stands so.
+fn does<'a, R: Files>(rt: &'a R, disk: &mut FileDisk<'a, R>, act: RealAct<'_>) -> bool
 where
-    R::File: FileExt,
+    R::File: FileExt + FileLock,
 {
-    let mut again = FileDisk::new(rt, REAL);
-    assert_eq!(rt; again.sync(), Ok(()));
-    assert_eq!(rt; again.size(), Ok(8));
-    let mut back = [0; 5];
-    assert_eq!(rt; again.read(1, &mut back), Ok(()));
-    assert_eq!(rt; back, *b"bXYef");
-    assert_eq!(rt; again.read(4, &mut back), Err(Failed), "it ends at 8");
+    match act {
+        RealAct::Missing => fs::metadata(rt, REAL).is_err(),
+        RealAct::OwnersAlone => match fs::metadata(rt, REAL) {
+            Ok(found) => found.permissions().mode() & 0o777 == 0o600,
+            Err(_) => false,
+        },
+        RealAct::Leave => {
+            *disk = FileDisk::new(rt, REAL);
+            true
+        }
+        RealAct::Settle => disk.sync().is_ok(),
+        RealAct::HasSize(size) => disk.size() == Ok(size),
+        RealAct::Has(at, bytes) => {
+            let mut buf = [0; 8];
+            let back = &mut buf[..bytes.len().min(8)];
+            disk.read(at, back).is_ok() && &*back == bytes
+        }
+        RealAct::Put(at, bytes) => disk.write_at(at, bytes).is_ok(),
+    }
+}
+
+// One of three disks of one process over one file, what it does, and whether it succeeds.
+const TOGETHER: [(usize, RealAct<'static>, bool); 27] = [
+    (0, RealAct::HasSize(0), true),
+    (0, RealAct::Settle, true),
+    (0, RealAct::Missing, true),
+    (0, RealAct::Put(0, b"abcdefgh"), true),
+    (0, RealAct::OwnersAlone, true),
+    // It was locked when it was made.
+    (1, RealAct::HasSize(8), false),
+    (1, RealAct::Settle, false),
+    (1, RealAct::Put(0, b"x"), false),
+    (0, RealAct::Put(2, b"XY"), true),
+    (0, RealAct::Settle, true),
+    (0, RealAct::Leave, true),
+    (1, RealAct::Settle, true),
+    (2, RealAct::HasSize(8), false),
+    (1, RealAct::HasSize(8), true),
+    (1, RealAct::Has(1, b"bXYef"), true),
+    // It ends at 8.
+    (1, RealAct::Has(4, b"efgh\0"), false),
+    (1, RealAct::Leave, true),
+    // Readers share it, and lock out a writer.
+    (0, RealAct::HasSize(8), true),
+    (2, RealAct::Has(0, b"ab"), true),
+    (1, RealAct::Has(6, b"gh"), true),
+    (2, RealAct::Settle, false),
+    (1, RealAct::Leave, true),
+    (0, RealAct::Settle, true),
+    (2, RealAct::Has(0, b"ab"), false),
+    (0, RealAct::Put(8, b"i"), true),
+    (0, RealAct::Leave, true),
+    (2, RealAct::Has(0, b"abXYefgh"), true),
+];
+
+// Has three disks over the file do so, one after another.
+fn assert_together<R: Files + Abort>(rt: &R)
+where
+    R::File: FileExt + FileLock,
+{
+    let mut first = FileDisk::new(rt, REAL);
+    let mut second = FileDisk::new(rt, REAL);
+    let mut third = FileDisk::new(rt, REAL);
+    for (who, act, wanted) in &TOGETHER {
+        let done = match who {
+            0 => does(rt, &mut first, *act),
+            1 => does(rt, &mut second, *act),
+            _ => does(rt, &mut third, *act),
+        };
+        assert_eq!(rt; done, *wanted, "{who} {act:?}");
+    }
 }
 
 #[test]
-fn a_real_file_is_read_back(rt: HostRuntime) -> Result<(), Fail> {
+fn a_real_file_has_one_user_and_is_read_back(rt: HostRuntime) -> Result<(), Fail> {
     let _ = fs::remove_file(&rt, REAL);
-    assert_made_by_a_write(&rt)?;
-    assert_read_back(&rt);
+    assert_together(&rt);
     fs::remove_file(&rt, REAL)?;
     Ok(())
 }
@@ -284,7 +527,7 @@ fn a_real_file_is_read_back(rt: HostRuntime) -> Result<(), Fail> {
 // How many bytes the file of a path seems to have, and whether a write to it succeeds.
 fn size_and_write<R: Files>(rt: &R, path: &str) -> (Result<u64, Failed>, bool)
 where
-    R::File: FileExt,
+    R::File: FileExt + FileLock,
 {
     let mut disk = FileDisk::new(rt, path);
     (disk.size(), disk.write_at(0, b"x").is_ok())

@@ -1,17 +1,11 @@
 //! Disks in memory that are stopped.
 
-use super::{Step, assert_steps};
-use crate::{Disk, DiskCall, MemoryDisk, Room, Torn};
+use super::{Step, assert_steps, three_bytes};
+use crate::{Disk, DiskCall, MemoryDisk, Torn};
 use outside_io::Failed;
 use std::alloc::Global;
 use std::process::Abort;
 use std::test::Fail;
-
-const ROOM: Room = Room {
-    size: 6,
-    calls: 10,
-    written: 8,
-};
 
 const STEPS: [Step<'static>; 7] = [
     (DiskCall::Write { at: 0, count: 1 }, &[9], Ok(true)),
@@ -43,7 +37,7 @@ fn assert_left(
 #[test]
 fn stopped_before_and_inside_its_calls(rt: HostRuntime) -> Result<(), Fail> {
     let alloc = rt.alloc();
-    let mut disk = MemoryDisk::new(alloc, [1, 2, 3].to_vec(alloc)?, [5].to_vec(alloc)?, ROOM)?;
+    let mut disk = three_bytes(alloc, 5)?;
     assert_steps(&rt, &mut disk, &STEPS);
     let fill = Torn::Fill(60);
     let table: [((u64, bool, Torn), &[u8]); 17] = [
@@ -74,7 +68,7 @@ fn stopped_before_and_inside_its_calls(rt: HostRuntime) -> Result<(), Fail> {
 #[test]
 fn goes_on_behind_a_stop(rt: HostRuntime) -> Result<(), Fail> {
     let alloc = rt.alloc();
-    let mut disk = MemoryDisk::new(alloc, [1, 2, 3].to_vec(alloc)?, [2].to_vec(alloc)?, ROOM)?;
+    let mut disk = three_bytes(alloc, 2)?;
     let before: [Step<'_>; 2] = [
         (DiskCall::Write { at: 3, count: 1 }, &[4], Ok(true)),
         (DiskCall::Sync, &[], Err(Failed)),

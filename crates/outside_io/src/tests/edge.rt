@@ -149,6 +149,16 @@ fn standard_output_takes_all_or_tells(rt: HostRuntime) -> Result<(), Fail> {
 }
 
 #[test]
+fn a_long_write_is_one_write(rt: HostRuntime) -> Result<(), Fail> {
+    let alloc = rt.alloc();
+    let stage = stage_of(alloc, b"", 70_000)?;
+    let long = vec![in alloc; b'a'; 70_000]?;
+    let written = StdoutSink::new(&FakeOutput::new(&stage)).write_all(&long);
+    assert_eq!(rt; written, Ok(()));
+    assert_log(&rt, &stage, &[Call::Write(70_000)])
+}
+
+#[test]
 fn reads_a_real_file(rt: HostRuntime) -> Result<(), Fail> {
     let path = "outside_io_reads_a_file";
     fs::write(&rt, path, "abc")?;

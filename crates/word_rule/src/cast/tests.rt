@@ -1,21 +1,79 @@
-//! Two numbers that share a claim word and a home, step by step at two seats.
+//! Numbers that share claim words and homes, row by row at two seats, and in one call each.
 
-ghost use Rattle.std.specs.Prelude.{◌≡◌, ◌<◌, IsTrue};
+ghost use Rattle.std.specs.Prelude.{◌≡◌, ◌≢◌, ◌+◌, ◌^◌, ◌≤◌, Contains, IsTrue, length};
 ghost use Rattle.store_spec.specs.CastStep.CastState.{Rest};
+ghost use Rattle.store_spec.specs.Layout.{numbers_in};
 ghost use Rattle.word_rule.specs.CastWords.{MayBegin};
 
 use super::{CastSeat, CastWords};
+use crate::draws::{FEW_HOMES, drawn, number_at};
+use CastNote::{Claimed, Placed, Quiet, Taken};
+use Kind::{Carrying, Probing, Ready, Rest};
+use layout_def::is_ordered;
 use outside_io::Memory;
 use probe_order::Salted;
 use std::alloc::Global;
 use std::process::Abort;
 use step_core::{CastNote, CastState, Shape};
 
-const EXAMPLE: Shape = Shape {
-    order: Salted { bits: 3, salt: 0 },
-    cells: 16,
-    claims: 8,
-};
+const EXAMPLE: Salted = Salted { bits: 3, salt: 0 };
+
+#[derive(Clone, Copy, Debug, PartialEq, Eq)]
+enum Kind {
+    Rest,
+    Probing,
+    Carrying,
+    Ready,
+}
+
+/// The seat that acts, and the number with which it begins, where it does not go on. Then what the step tells, and the
+/// state after it with the numbers in it.
+type Row = (usize, Option<u64>, CastNote, Kind, [u64; 3]);
+
+/// 1 and 9 share a claim word and a home. 1 is placed first, and 9 displaces it.
+const RACE: [Row; 10] = [
+    (0, Some(1), Claimed, Carrying, [1, 4, 0]),
+    (1, Some(9), Quiet, Probing, [9, 1, 0]),
+    (1, None, Claimed, Carrying, [9, 4, 0]),
+    (0, None, Quiet, Ready, [1, 4, 0]),
+    (1, None, Quiet, Ready, [9, 4, 0]),
+    (0, None, Placed, Rest, [0, 0, 0]),
+    (1, None, Quiet, Ready, [9, 4, 1]),
+    (1, None, Quiet, Carrying, [1, 5, 0]),
+    (1, None, Quiet, Ready, [1, 5, 0]),
+    (1, None, Placed, Rest, [0, 0, 0]),
+];
+
+/// 22 displaces 9, which was held in cell 4. 9 is to go to cell 5, which 14 takes first.
+const DISPLACED: [Row; 10] = [
+    (0, Some(22), Claimed, Carrying, [22, 4, 0]),
+    (0, None, Quiet, Ready, [22, 4, 9]),
+    (1, Some(14), Claimed, Carrying, [14, 5, 0]),
+    (1, None, Quiet, Ready, [14, 5, 0]),
+    (0, None, Quiet, Carrying, [9, 5, 0]),
+    (1, None, Placed, Rest, [0, 0, 0]),
+    (0, None, Quiet, Carrying, [9, 6, 0]),
+    (0, None, Quiet, Ready, [9, 6, 0]),
+    (0, None, Placed, Rest, [0, 0, 0]),
+    (1, Some(22), Taken, Rest, [0, 0, 0]),
+];
+
+/// 1 passes 9, which was held in cell 4, and is to go to cell 5, which 14 takes after 1 has looked there.
+const PASSED: [Row; 9] = [
+    (0, Some(1), Claimed, Carrying, [1, 4, 0]),
+    (0, None, Quiet, Carrying, [1, 5, 0]),
+    (0, None, Quiet, Ready, [1, 5, 0]),
+    (1, Some(14), Claimed, Carrying, [14, 5, 0]),
+    (1, None, Quiet, Ready, [14, 5, 0]),
+    (1, None, Placed, Rest, [0, 0, 0]),
+    (0, None, Quiet, Carrying, [1, 6, 0]),
+    (0, None, Quiet, Ready, [1, 6, 0]),
+    (0, None, Placed, Rest, [0, 0, 0]),
+];
+
+const EMPTY: [u64; 16] = [0; 16];
+
+const NINE: [u64; 16] = [0, 0, 0, 0, 9, 0, 0, 0, 0, 0, 0, 0, 0, 0, 0, 0];
 
 fn is_at_rest(seat: &CastSeat) -> bool
     ensures yes { IsTrue result → seat.now.view.state ≡ Rest }
@@ -24,44 +82,76 @@ fn is_at_rest(seat: &CastSeat) -> bool
     matches!(seat.state(), CastState::Rest)
 }
 
-/// The first step of a number tells this, and leads to this state.
-fn first(
-    rt: &impl Abort,
-    words: &CastWords,
-    seat: &mut CastSeat,
-    number: u64,
-    note: CastNote,
-    state: CastState,
-)
-    requires belongs { seat.old.words ≡ words.now }
-    requires may_begin { MayBegin words.now number }
-    ensures { seat.new.words ≡ seat.old.words }
-{
-    assert!(rt; is_at_rest(seat));
-    assert_eq!(rt; words.first(seat, number), note);
-    assert_eq!(rt; seat.state(), state);
-}
-
-/// The next step tells this, and leads to this state.
-fn next(rt: &impl Abort, words: &CastWords, seat: &mut CastSeat, note: CastNote, state: CastState)
-    requires { seat.old.words ≡ words.now }
-    ensures { seat.new.words ≡ seat.old.words }
-{
-    assert!(rt; !is_at_rest(seat));
-    assert_eq!(rt; words.next(seat), note);
-    assert_eq!(rt; seat.state(), state);
-}
-
-fn at(number: u64, place: usize) -> CastState {
-    CastState::Carrying { number, place }
-}
-
-fn ready(number: u64, place: usize, seen: u64) -> CastState {
-    CastState::Ready {
-        number,
-        place,
-        seen,
+fn kind_of(state: CastState) -> (Kind, [u64; 3]) {
+    match state {
+        CastState::Rest => (Rest, [0, 0, 0]),
+        CastState::Probing { number, tries } => (Probing, [number, tries as u64, 0]),
+        CastState::Carrying { number, place } => (Carrying, [number, place as u64, 0]),
+        CastState::Ready {
+            number,
+            place,
+            seen,
+        } => (Ready, [number, place as u64, seen]),
     }
+}
+
+fn is_among(cells: &[u64], number: u64) -> bool
+    ensures { Contains cells.now number → IsTrue result }
+{
+    cells.contains(&number)
+}
+
+/// It is not 0, and stands in no cell.
+fn is_new(cells: &[u64], number: u64) -> bool
+    ensures some { IsTrue result → number ≢ 0 }
+    ensures new { IsTrue result → ¬ Contains (numbers_in cells.now) number }
+{
+    number != 0 && !is_among(cells, number)
+}
+
+/// Words over these cells, and two seats.
+fn two_seats(
+    rt: &impl Abort,
+    alloc: Global,
+    cells: &[u64],
+    claims: usize,
+) -> (CastWords, CastSeat, CastSeat)
+    requires size { length cells.now ≡ 16 }
+    requires room { length (numbers_in cells.now) + claims ≤ 8 }
+    ensures base { result.0.base ≡ cells.now }
+    ensures claims { result.0.shape.claims ≡ claims }
+    ensures two { result.0.seats ≡ 2 }
+    ensures belong { (result.1.words ≡ result.0) × (result.2.words ≡ result.0) }
+{
+    assert!(rt; is_ordered(&EXAMPLE, cells));
+    let shape = Shape {
+        order: EXAMPLE,
+        cells: 16,
+        claims,
+    };
+    let (words, mut seats) = CastWords::new(alloc, shape, cells, 2).expect(rt, "memory");
+    let two = seats.pop().expect(rt, "a seat");
+    let one = seats.pop().expect(rt, "a seat");
+    (words, one, two)
+}
+
+/// One row, by a seat at words over these cells.
+fn turn(rt: &impl Abort, words: &CastWords, cells: &[u64], seat: &mut CastSeat, row: &Row)
+    requires base { words.now.base ≡ cells.now }
+    requires claims { words.now.shape.claims ≢ 0 }
+    requires belongs { seat.old.words ≡ words.now }
+    ensures { seat.new.words ≡ words.now }
+{
+    let told = if let Some(number) = row.1 {
+        assert!(rt; is_at_rest(seat));
+        assert!(rt; is_new(cells, number));
+        words.first(seat, number)
+    } else {
+        assert!(rt; !is_at_rest(seat));
+        words.next(seat)
+    };
+    assert_eq!(rt; told, row.2);
+    assert_eq!(rt; kind_of(seat.state()), (row.3, row.4));
 }
 
 /// The cells at the end, from two seats.
@@ -74,70 +164,117 @@ fn close(alloc: Global, words: CastWords, one: CastSeat, two: CastSeat) -> Resul
     words.close(alloc, seats)
 }
 
-/// The steps after 1 was claimed by one seat, and 9 has met its claim word by the other.
-fn displace(rt: &impl Abort, words: &CastWords, one: &mut CastSeat, two: &mut CastSeat)
-    requires cells { 4 < words.now.shape.cells }
-    requires belong { (one.old.words ≡ words.now) × (two.old.words ≡ words.now) }
-    ensures { (one.new.words ≡ words.now) × (two.new.words ≡ words.now) }
+/// Rows at words over these cells, after which the seats are at rest, and these numbers stand from cell 4 on.
+fn play(rt: &impl Abort, alloc: Global, cells: &[u64], claims: usize, rows: &[Row], ends: [u64; 3])
+    requires size { length cells.now ≡ 16 }
+    requires some { claims ≢ 0 }
+    requires room { length (numbers_in cells.now) + claims ≤ 8 }
 {
-    use CastNote::{Claimed, Placed, Quiet};
-    next(rt, words, two, Claimed, at(9, 4));
-    next(rt, words, one, Quiet, ready(1, 4, 0));
-    next(rt, words, two, Quiet, ready(9, 4, 0));
-    next(rt, words, one, Placed, CastState::Rest);
-    next(rt, words, two, Quiet, ready(9, 4, 1));
-    next(rt, words, two, Quiet, at(1, 5));
-    assert_eq!(rt; words.peek(4), 9);
-    next(rt, words, two, Quiet, ready(1, 5, 0));
-    next(rt, words, two, Placed, CastState::Rest);
-}
-
-/// 1 and 9 share a claim word and a home. 1 is placed first, and 9 displaces it.
-#[test]
-fn a_placed_number_is_displaced(rt: HostRuntime) {
-    let (words, mut seats) = CastWords::new(rt.alloc(), EXAMPLE, &[0; 16], 2).expect(&rt, "memory");
-    let mut two = seats.pop().expect(&rt, "a seat");
-    let mut one = seats.pop().expect(&rt, "a seat");
-    let second = CastState::Probing {
-        number: 9,
-        tries: 1,
-    };
-    first(&rt, &words, &mut one, 1, CastNote::Claimed, at(1, 4));
-    first(&rt, &words, &mut two, 9, CastNote::Quiet, second);
-    displace(&rt, &words, &mut one, &mut two);
+    let (words, mut one, mut two) = two_seats(rt, alloc, cells, claims);
+    for row in rows {
+        match row.0 {
+            0 => turn(rt, &words, cells, &mut one, row),
+            _ => turn(rt, &words, cells, &mut two, row),
+        }
+    }
     assert!(rt; is_at_rest(&one));
     assert!(rt; is_at_rest(&two));
-    let cells = close(rt.alloc(), words, one, two).expect(&rt, "memory");
-    for (place, cell) in cells.iter().enumerate() {
-        let number = match place {
-            4 => 9,
-            5 => 1,
-            _ => 0,
-        };
-        assert_eq!(rt; *cell, number, "cell {place}");
-    }
+    let left = close(alloc, words, one, two).expect(rt, "memory");
+    assert_eq!(rt; left.get(4..7), Some(ends.as_slice()));
 }
 
-/// All steps of a number tell this.
-fn cast(rt: &impl Abort, words: &CastWords, seat: &mut CastSeat, number: u64, note: CastNote)
+/// Each state is that of the row for the word of its own cell or claim word.
+#[test]
+fn rows_of_numbers(rt: HostRuntime) {
+    play(&rt, rt.alloc(), &EMPTY, 8, &RACE, [9, 1, 0]);
+    play(&rt, rt.alloc(), &NINE, 7, &DISPLACED, [22, 14, 9]);
+    play(&rt, rt.alloc(), &NINE, 7, &PASSED, [9, 14, 1]);
+}
+
+// ---- all steps in one call
+
+/// The same steps as in one call, each in a call of its own.
+fn cast_by_steps(rt: &impl Abort, words: &CastWords, seat: &mut CastSeat, number: u64) -> CastNote
     requires belongs { seat.old.words ≡ words.now }
     requires at_rest { seat.old.view.state ≡ Rest }
     requires may_begin { MayBegin words.now number }
-    ensures words { seat.new.words ≡ words.now }
-    ensures at_rest { seat.new.view.state ≡ Rest }
+    ensures { seat.new.words ≡ words.now }
 {
-    assert_eq!(rt; words.cast(seat, number), note);
-    assert!(rt; is_at_rest(seat));
+    let mut answer = words.first(seat, number);
+    for _ in 0..1000 {
+        if is_at_rest(seat) {
+            return answer;
+        }
+        let told = words.next(seat);
+        if !matches!(told, Quiet | Placed) {
+            answer = told;
+        }
+    }
+    panic!(rt; "{number} is never placed")
 }
 
-/// The same two numbers, each in one call, and the first of them again.
+/// A number in one call at some words, and step by step at others. What is told is the same, and so are all words then.
+fn cast_twice(
+    rt: &impl Abort,
+    number: u64,
+    words: &CastWords,
+    seat: &mut CastSeat,
+    others: &CastWords,
+    other: &mut CastSeat,
+)
+    requires alike { words.now.shape ≡ others.now.shape }
+    requires belong { (seat.old.words ≡ words.now) × (other.old.words ≡ others.now) }
+    requires may_begin { MayBegin words.now number × MayBegin others.now number }
+    ensures { (seat.new.words ≡ words.now) × (other.new.words ≡ others.now) }
+{
+    assert!(rt; is_at_rest(seat));
+    assert!(rt; is_at_rest(other));
+    let told = words.cast(seat, number);
+    assert_eq!(rt; cast_by_steps(rt, others, other, number), told);
+    for word in 0..words.shape.cells + words.shape.claims {
+        assert_eq!(rt;
+            words.table.shared.peek(word),
+            others.table.shared.peek(word),
+            "word {word}"
+        );
+    }
+}
+
+/// Empty words of a shape, and a seat.
+fn one_seat(rt: &impl Abort, alloc: Global, shape: Shape) -> (CastWords, CastSeat)
+    requires cells { shape.cells ≡ 16 }
+    requires room { shape.claims + 2 ^ shape.order.bits ≤ 16 }
+    ensures base { result.0.base ≡ EMPTY }
+    ensures shape { result.0.shape ≡ shape }
+    ensures belongs { result.1.words ≡ result.0 }
+{
+    assert!(rt; is_ordered(&shape.order, &EMPTY));
+    let (words, mut seats) = CastWords::new(alloc, shape, &EMPTY, 1).expect(rt, "memory");
+    let seat = seats.pop().expect(rt, "a seat");
+    (words, seat)
+}
+
+/// Sixteen numbers of twelve, at words with four homes.
+fn phase(rt: &impl Abort, alloc: Global, seed: u64) {
+    let mut seed = seed;
+    let shape = Shape {
+        order: FEW_HOMES,
+        cells: 16,
+        claims: 8,
+    };
+    let (words, mut seat) = one_seat(rt, alloc, shape);
+    let (others, mut other) = one_seat(rt, alloc, shape);
+    for _ in 0..16 {
+        let number = number_at(drawn(&mut seed, 12));
+        assert!(rt; is_new(&EMPTY, number));
+        cast_twice(rt, number, &words, &mut seat, &others, &mut other);
+    }
+}
+
+/// One call makes the steps that `first` and `next` make.
 #[test]
-fn numbers_in_one_call_each(rt: HostRuntime) {
-    let (words, mut seats) = CastWords::new(rt.alloc(), EXAMPLE, &[0; 16], 1).expect(&rt, "memory");
-    let mut seat = seats.pop().expect(&rt, "a seat");
-    cast(&rt, &words, &mut seat, 1, CastNote::Claimed);
-    cast(&rt, &words, &mut seat, 9, CastNote::Claimed);
-    cast(&rt, &words, &mut seat, 1, CastNote::Taken);
-    assert_eq!(rt; words.peek(4), 9);
-    assert_eq!(rt; words.peek(5), 1);
+fn one_call_and_many_make_the_same_steps(rt: HostRuntime) {
+    for seed in 1..501 {
+        phase(&rt, rt.alloc(), seed);
+    }
 }

@@ -1,32 +1,169 @@
-//! Seats that remove numbers of the example's cells, by one thread and by two.
+//! Seats that remove numbers, row by row, in one call each, and by two threads.
 
-ghost use Rattle.std.specs.Prelude.{◌≡◌, ◌≢◌, ◌<◌, length};
-ghost use Rattle.step_core.specs.WithdrawTables.{note_of};
+ghost use Rattle.std.specs.Prelude.{◌≡◌, IsTrue};
 ghost use Rattle.store_spec.specs.WithdrawStep.{IsSeated};
-ghost use Rattle.store_spec.specs.WithdrawStep.WithdrawNote.{Gone};
 ghost use Rattle.store_spec.specs.WithdrawStep.WithdrawState.{Rest};
 ghost use Rattle.word_rule.specs.Places.{AreWhole};
-ghost use Rattle.word_rule.specs.WithdrawRemoval.{HasFoundGone, HasRemoved};
 ghost use Rattle.word_rule.specs.WithdrawSeats.{IsAtRest};
 
+use crate::draws::{FEW_HOMES, drawn, number_at};
 use crate::{WithdrawSeat, WithdrawWords};
+use Kind::{Chosen, Down, Owing, Rest, Up};
+use WithdrawNote::{Begun, Done, Gone, Quiet};
 use layout_def::is_ordered;
-use probe_order::Salted;
+use probe_order::{Order, Salted};
 use std::alloc::Global;
 use std::process::Abort;
 use std::thread;
 use step_core::{Shape, WithdrawNote, WithdrawState};
 
-const EXAMPLE: Shape = Shape {
-    order: Salted { bits: 3, salt: 0 },
-    cells: 16,
-    claims: 0,
-};
+const EXAMPLE: Salted = Salted { bits: 3, salt: 0 };
 
 const CELLS: [u64; 16] = [0, 0, 0, 0, 22, 14, 9, 1, 0, 0, 0, 0, 0, 0, 0, 0];
 
-/// Removes a number, or finds it gone. It tells how it began.
-fn remove(
+#[derive(Clone, Copy, Debug, PartialEq, Eq)]
+enum Kind {
+    Rest,
+    Chosen,
+    Owing,
+    Up,
+    Down,
+}
+
+/// The seat that acts, and the number with which it begins and its cell, where it does not go on. Then what the step
+/// tells, and the state after it with the numbers in it.
+type Row = (usize, Option<(u64, usize)>, WithdrawNote, Kind, [u64; 5]);
+
+/// The first seat removes 22, and sees 9 as what may stand in its place. Then the second removes 9.
+const STALE: [Row; 28] = [
+    (0, Some((22, 4)), Quiet, Chosen, [22, 4, 0, 0, 0]),
+    (0, None, Begun, Owing, [22, 4, 0, 0, 0]),
+    (0, None, Quiet, Up, [22, 4, 5, 0, 0]),
+    (0, None, Quiet, Up, [22, 4, 6, 0, 0]),
+    (0, None, Quiet, Down, [22, 4, 5, 9, 6]),
+    (0, None, Quiet, Down, [22, 4, 4, 9, 6]),
+    (1, Some((9, 6)), Quiet, Chosen, [9, 4, 0, 0, 0]),
+    (1, None, Quiet, Chosen, [9, 5, 0, 0, 0]),
+    (1, None, Quiet, Chosen, [9, 6, 0, 0, 0]),
+    (1, None, Begun, Owing, [9, 6, 0, 0, 0]),
+    (1, None, Quiet, Up, [9, 6, 7, 0, 0]),
+    (1, None, Quiet, Down, [9, 6, 6, 1, 7]),
+    (1, None, Quiet, Owing, [1, 7, 0, 0, 0]),
+    (1, None, Quiet, Up, [1, 7, 8, 0, 0]),
+    (1, None, Quiet, Down, [1, 7, 7, 0, 8]),
+    (1, None, Done, Rest, [0, 0, 0, 0, 0]),
+    (0, None, Quiet, Owing, [9, 6, 0, 0, 0]),
+    (0, None, Quiet, Owing, [9, 5, 0, 0, 0]),
+    (0, None, Quiet, Owing, [9, 4, 0, 0, 0]),
+    (0, None, Quiet, Up, [9, 4, 5, 0, 0]),
+    (0, None, Quiet, Up, [9, 4, 6, 0, 0]),
+    (0, None, Quiet, Down, [9, 4, 5, 1, 6]),
+    (0, None, Quiet, Down, [9, 4, 4, 1, 6]),
+    (0, None, Quiet, Owing, [1, 6, 0, 0, 0]),
+    (0, None, Quiet, Up, [1, 6, 7, 0, 0]),
+    (0, None, Quiet, Down, [1, 6, 6, 0, 7]),
+    (0, None, Done, Rest, [0, 0, 0, 0, 0]),
+    (1, Some((9, 6)), Gone, Rest, [0, 0, 0, 0, 0]),
+];
+
+fn is_at_rest(seat: &WithdrawSeat) -> bool
+    ensures yes { IsTrue result → seat.now.view.state ≡ Rest }
+    ensures no { seat.now.view.state ≡ Rest → IsTrue result }
+{
+    matches!(seat.state(), WithdrawState::Rest)
+}
+
+fn kind_of(state: WithdrawState) -> (Kind, [u64; 5]) {
+    match state {
+        WithdrawState::Rest => (Rest, [0; 5]),
+        WithdrawState::Chosen { number, place } => (Chosen, [number, place as u64, 0, 0, 0]),
+        WithdrawState::Owing { number, bound } => (Owing, [number, bound as u64, 0, 0, 0]),
+        WithdrawState::Up {
+            number,
+            bound,
+            place,
+        } => (Up, [number, bound as u64, place as u64, 0, 0]),
+        WithdrawState::Down {
+            number,
+            bound,
+            place,
+            candidate,
+            source,
+        } => (
+            Down,
+            [number, bound as u64, place as u64, candidate, source as u64],
+        ),
+    }
+}
+
+/// Whether a number, which is not 0, stands in this cell.
+fn stands(cells: &[u64], number: u64, place: usize) -> bool
+    ensures { IsTrue result → IsSeated cells.now number place }
+{
+    number != 0 && cells.get(place) == Some(&number)
+}
+
+/// Words over these cells, and two seats.
+fn two_seats(
+    rt: &impl Abort,
+    alloc: Global,
+    order: Salted,
+    cells: &[u64; 16],
+) -> (WithdrawWords, Vec<WithdrawSeat>)
+    ensures base { result.0.base ≡ cells.now }
+    ensures shape { result.0.shape ≡ record { order = order; cells = 16; claims = 0 } }
+    ensures seats { result.0.seats ≡ 2 }
+    ensures whole { AreWhole IsAtRest result.0 result.1.items }
+{
+    assert!(rt; is_ordered(&order, cells));
+    assert_eq!(rt; cells[15], 0);
+    let shape = Shape {
+        order,
+        cells: 16,
+        claims: 0,
+    };
+    WithdrawWords::new(alloc, shape, cells, 2).expect(rt, "memory")
+}
+
+/// One row, by a seat at words over these cells.
+fn turn(rt: &impl Abort, words: &WithdrawWords, cells: &[u64], seat: &mut WithdrawSeat, row: &Row)
+    requires base { words.now.base ≡ cells.now }
+    requires belongs { seat.old.words ≡ words.now }
+    ensures { seat.new.words ≡ words.now }
+{
+    let told = if let Some((number, place)) = row.1 {
+        assert!(rt; is_at_rest(seat));
+        assert!(rt; stands(cells, number, place));
+        words.first(seat, number, place)
+    } else {
+        assert!(rt; !is_at_rest(seat));
+        words.next(seat)
+    };
+    assert_eq!(rt; told, row.2);
+    assert_eq!(rt; kind_of(seat.state()), (row.3, row.4));
+}
+
+/// Each state is that of the row for the word of its own cell or flag.
+#[test]
+fn rows_of_removals(rt: HostRuntime) {
+    let (words, mut seats) = two_seats(&rt, rt.alloc(), EXAMPLE, &CELLS);
+    let mut two = seats.pop().expect(&rt, "a seat");
+    let mut one = seats.pop().expect(&rt, "a seat");
+    for row in &STALE {
+        match row.0 {
+            0 => turn(&rt, &words, &CELLS, &mut one, row),
+            _ => turn(&rt, &words, &CELLS, &mut two, row),
+        }
+    }
+    for (place, left) in [(4, 1), (5, 14), (6, 0), (7, 0)] {
+        assert_eq!(rt; words.peek(place), left, "cell {place}");
+    }
+}
+
+// ---- all steps in one call
+
+/// The same steps as in one call, each in a call of its own.
+fn withdraw_by_steps(
     rt: &impl Abort,
     words: &WithdrawWords,
     seat: &mut WithdrawSeat,
@@ -36,100 +173,92 @@ fn remove(
     requires belongs { seat.old.words ≡ words.now }
     requires at_rest { seat.old.view.state ≡ Rest }
     requires seated { IsSeated words.now.base number place }
-    ensures words { seat.new.words ≡ seat.old.words }
-    ensures at_rest { seat.new.view.state ≡ Rest }
-    ensures gone { note_of result ≡ Gone → HasFoundGone number seat.old.view seat.new.view }
-    ensures removed { note_of result ≢ Gone → HasRemoved number seat.old.view seat.new.view }
+    ensures { seat.new.words ≡ words.now }
 {
-    let note = words.first(seat, number, place);
-    for _ in 0..1000 {
-        if seat.state() == WithdrawState::Rest {
-            return note;
+    let mut answer = words.first(seat, number, place);
+    for _ in 0..10_000 {
+        if is_at_rest(seat) {
+            return answer;
         }
-        words.next(seat);
+        let told = words.next(seat);
+        if told == Begun {
+            answer = told;
+        }
     }
     panic!(rt; "{number} is never removed")
 }
 
-/// Removes a number by one of all seats, or finds it gone.
-fn remove_by(
+/// A number in one call at some words, and step by step at others. What is told is the same, and so are all words then.
+fn withdraw_twice(
     rt: &impl Abort,
-    words: &WithdrawWords,
-    seats: &mut [WithdrawSeat],
-    at: usize,
     number: u64,
     place: usize,
-) -> WithdrawNote
-    requires whole { AreWhole IsAtRest words.now seats.old }
-    requires within { at < length seats.old }
-    requires seated { IsSeated words.now.base number place }
-    ensures { AreWhole IsAtRest words.now seats.new }
-{
-    remove(rt, words, &mut seats[at], number, place)
-}
-
-/// Words over the example's cells, and two seats.
-fn example(rt: &impl Abort, alloc: Global) -> (WithdrawWords, Vec<WithdrawSeat>)
-    ensures base { result.0.base ≡ CELLS }
-    ensures seats { result.0.seats ≡ 2 }
-    ensures whole { AreWhole IsAtRest result.0 result.1.items }
-{
-    assert!(rt; is_ordered(&EXAMPLE.order, &CELLS));
-    WithdrawWords::new(alloc, EXAMPLE, &CELLS, 2).expect(rt, "memory")
-}
-
-/// The first seat removes 22, and the second 9 and then 9 again.
-#[test]
-fn two_seats_in_turn(rt: HostRuntime) {
-    let (words, mut seats) = example(&rt, rt.alloc());
-    let first = remove_by(&rt, &words, &mut seats, 0, 22, 4);
-    let second = remove_by(&rt, &words, &mut seats, 1, 9, 6);
-    let again = remove_by(&rt, &words, &mut seats, 1, 9, 6);
-    assert_eq!(rt;
-        [first, second, again],
-        [WithdrawNote::Quiet, WithdrawNote::Quiet, WithdrawNote::Gone]
-    );
-    assert_eq!(rt; words.peek(4), 1);
-    let cells = words.close(rt.alloc(), seats).expect(&rt, "memory");
-    assert_eq!(rt;
-        cells.as_slice(),
-        [0, 0, 0, 0, 1, 14, 0, 0, 0, 0, 0, 0, 0, 0, 0, 0].as_slice()
-    );
-}
-
-/// The same removals, each number in one call.
-#[test]
-fn numbers_in_one_call_each(rt: HostRuntime) {
-    let (words, mut seats) = example(&rt, rt.alloc());
-    let first = withdraw_by(&words, &mut seats, 0, 22, 4);
-    let second = withdraw_by(&words, &mut seats, 1, 9, 6);
-    let again = withdraw_by(&words, &mut seats, 1, 9, 6);
-    assert_eq!(rt;
-        [first, second, again],
-        [WithdrawNote::Begun, WithdrawNote::Begun, WithdrawNote::Gone]
-    );
-    let cells = words.close(rt.alloc(), seats).expect(&rt, "memory");
-    assert_eq!(rt;
-        cells.as_slice(),
-        [0, 0, 0, 0, 1, 14, 0, 0, 0, 0, 0, 0, 0, 0, 0, 0].as_slice()
-    );
-}
-
-/// Removes a number in one call, by one of all seats.
-fn withdraw_by(
     words: &WithdrawWords,
-    seats: &mut [WithdrawSeat],
-    at: usize,
-    number: u64,
-    place: usize,
-) -> WithdrawNote
-    requires whole { AreWhole IsAtRest words.now seats.old }
-    requires within { at < length seats.old }
-    requires seated { IsSeated words.now.base number place }
-    ensures { AreWhole IsAtRest words.now seats.new }
+    seat: &mut WithdrawSeat,
+    others: &WithdrawWords,
+    other: &mut WithdrawSeat,
+)
+    requires alike { words.now.shape ≡ others.now.shape }
+    requires belong { (seat.old.words ≡ words.now) × (other.old.words ≡ others.now) }
+    requires seated { IsSeated words.now.base number place × IsSeated others.now.base number place }
+    ensures { (seat.new.words ≡ words.now) × (other.new.words ≡ others.now) }
 {
-    words.withdraw(&mut seats[at], number, place)
+    assert!(rt; is_at_rest(seat));
+    assert!(rt; is_at_rest(other));
+    let told = words.withdraw(seat, number, place);
+    assert_eq!(rt; withdraw_by_steps(rt, others, other, number, place), told);
+    for word in 0..words.shape.cells + words.shape.cells {
+        assert_eq!(rt;
+            words.table.shared.peek(word),
+            others.table.shared.peek(word),
+            "word {word}"
+        );
+    }
 }
+
+/// The layout of some of eleven numbers with four homes: the greatest are placed first.
+fn drawn_cells(seed: &mut u64) -> [u64; 16] {
+    let mut cells = [0; 16];
+    for below in 0..11 {
+        let number = number_at(10 - below);
+        let home = FEW_HOMES.home(number);
+        if drawn(seed, 4) != 0 {
+            let mut free = cells.iter_mut().skip(home).filter(|cell| **cell == 0);
+            if let Some(cell) = free.next() {
+                *cell = number;
+            }
+        }
+    }
+    cells
+}
+
+/// Twenty of the cells' numbers.
+fn phase(rt: &impl Abort, alloc: Global, seed: u64) {
+    let mut seed = seed;
+    let order = FEW_HOMES;
+    let cells = drawn_cells(&mut seed);
+    let (words, mut seats) = two_seats(rt, alloc, order, &cells);
+    let (others, mut more) = two_seats(rt, alloc, order, &cells);
+    let mut seat = seats.pop().expect(rt, "a seat");
+    let mut other = more.pop().expect(rt, "a seat");
+    for _ in 0..20 {
+        let place = drawn(&mut seed, 16);
+        let number = cells[place];
+        if stands(&cells, number, place) {
+            withdraw_twice(rt, number, place, &words, &mut seat, &others, &mut other);
+        }
+    }
+}
+
+/// One call makes the steps that `first` and `next` make.
+#[test]
+fn one_call_and_many_make_the_same_steps(rt: HostRuntime) {
+    for seed in 1..501 {
+        phase(&rt, rt.alloc(), seed);
+    }
+}
+
+// ---- threads
 
 /// A seat that removes a number, on a thread of its own.
 fn removed_by(
@@ -151,7 +280,7 @@ fn removed_by(
 /// Two threads remove 22 and 9 at once.
 #[test]
 fn two_seats_at_once(rt: HostRuntime) {
-    let (words, mut seats) = example(&rt, rt.alloc());
+    let (words, mut seats) = two_seats(&rt, rt.alloc(), EXAMPLE, &CELLS);
     let second = seats.pop().expect(&rt, "two seats");
     let first = seats.pop().expect(&rt, "two seats");
     let shared = &words;

@@ -7,3 +7,6 @@ returns-in-Claimed-clause-new c _ = claimed_new c.args.claims c.args.seat.now.vi
 
 pub returns-in-Full-clause-gains : goal.returns-in-Full-clause-gains
 returns-in-Full-clause-gains c = inr c.in-Full.ensures.view
+
+pub returns-in-Full-clause-steps : goal.returns-in-Full-clause-steps
+returns-in-Full-clause-steps c = inr c.in-Full.ensures.chain

@@ -1,9 +1,14 @@
-use Rattle.std.proofs.Common.{◌≡◌, ℕ, List, Option, drop, length, sym, subst, ◌∙◌}
+use Rattle.std.proofs.Common.{◌≡◌, ℕ, List, Option, Some, drop, length, sym, subst, ◌∙◌}
 use Rattle.std.proofs.lemmas.List.{take_at}
 use Rattle.bank_medium.specs.Banks.{bank_named}
 use Rattle.outside_io.proofs.Told.{told_holds}
 use Rattle.outside_io.specs.Told.{IfTold}
-use Rattle.recovery.proofs.OnlyReading.{reads_joined}
+use Rattle.recovery.proofs.OnlyReading.{nothing_joined, reads_joined}
+use Rattle.recovery.proofs.Unharmed.{each_fault, half_restored, only_fault, unharmed}
+use Rattle.recovery.specs.Refused.{IsUnharmedAt}
+use Rattle.recovery.specs.declared.fault.RecoverFault.{RecoverFault}
+use Rattle.recovery.specs.declared.fault.RecoverFault.TheVariants.{DiskFault}
+use Rattle.store_spec.specs.Disk.{disk_model}
 use Rattle.recovery.proofs.Paging.{stored_election}
 use Rattle.recovery.proofs.Runs.{looked, restored_told}
 use Rattle.recovery.proofs.restoring.restore.Goals as goal
@@ -60,3 +65,26 @@ pub returns-clause-canonical : goal.returns-clause-canonical
 returns-clause-canonical g c bytes set sees medium =
     let reads = looked g.D.Disk.seen g.D.Disk.calls g.D.Disk.may_leave c.args.disk.now c.choose.new.disk c.read_bank.new.disk c.requires c.choose.ensures.reads c.read_bank.ensures.reads in
     reads_joined g.D.Disk.seen g.D.Disk.calls g.D.Disk.may_leave c.args.disk.now c.read_bank.new.disk c.make_canonical.new.disk reads (c.make_canonical.ensures.canonical bytes set (reads.same_bytes ∙ sees) medium)
+
+pub returns-in_err-bank-clause-unharmed : goal.returns-in_err-bank-clause-unharmed
+returns-in_err-bank-clause-unharmed g c =
+    let model = disk_model g.D.Disk.seen g.D.Disk.calls g.D.Disk.may_leave g.D.Disk.faults in
+    each_fault c.from_residual.result (λ (fault : RecoverFault). (bytes : List ℕ) → g.D.Disk.seen c.args.disk.now ≡ Some bytes → IsUnharmedAt model c.args.election.now bytes fault c.args.disk.now c.choose.new.disk)
+    (λ fault bytes sees. unharmed model c.args.election.now bytes fault c.args.disk.now c.choose.new.disk c.choose.ensures.reads.any_moment)
+
+pub returns-in_err-closed-clause-unharmed : goal.returns-in_err-closed-clause-unharmed
+returns-in_err-closed-clause-unharmed g c =
+    let model = disk_model g.D.Disk.seen g.D.Disk.calls g.D.Disk.may_leave g.D.Disk.faults in
+    let reads = nothing_joined g.D.Disk.seen g.D.Disk.calls g.D.Disk.may_leave c.args.disk.now c.choose.new.disk c.read_bank.new.disk c.choose.ensures.reads c.read_bank.ensures.reads in
+    each_fault c.from_residual-in_err-closed.result (λ (fault : RecoverFault). (bytes : List ℕ) → g.D.Disk.seen c.args.disk.now ≡ Some bytes → IsUnharmedAt model c.args.election.now bytes fault c.args.disk.now c.read_bank.new.disk)
+    (λ fault bytes sees. unharmed model c.args.election.now bytes fault c.args.disk.now c.read_bank.new.disk reads.any_moment)
+
+pub returns-in_err-make_canonical-clause-unharmed : goal.returns-in_err-make_canonical-clause-unharmed
+returns-in_err-make_canonical-clause-unharmed g c =
+    let model = disk_model g.D.Disk.seen g.D.Disk.calls g.D.Disk.may_leave g.D.Disk.faults in
+    let e = c.args.election.now in
+    only_fault c.from_residual-in_err-make_canonical.result (λ (fault : RecoverFault). (bytes : List ℕ) → g.D.Disk.seen c.args.disk.now ≡ Some bytes → IsUnharmedAt model e bytes fault c.args.disk.now c.make_canonical.new.disk)
+    DiskFault c.from_residual-in_err-make_canonical.ensures.1
+    (λ bytes sees. half_restored model e bytes c.in_ok-closed.closed.ballots c.args.disk.now c.choose.new.disk c.read_bank.new.disk c.make_canonical.new.disk (bank_named c.in_ok-bank.bank)
+    c.choose.ensures.reads c.read_bank.ensures.reads sees c.in_ok-closed.ensures.read (λ x is. c.make_canonical.ensures.any_moment x c.in_ok-closed.closed.ballots is
+    (kept_image e c.in_ok-closed.closed.ballots c.read_bank.new.made c.deref.result.now (c.deref.ensures.value ∙ take_at c.read_bank.new.made (drop (length c.read_bank.new.made) c.fit.new.self.made.items) c.fit.new.self.made.len (c.read_bank.auto.made ∙ c.deref_mut.ensures.len)) c.in_ok-closed.ensures.image)))

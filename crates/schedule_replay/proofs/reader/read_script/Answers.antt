@@ -13,7 +13,7 @@ use Rattle.schedule_replay.proofs.reader.read_script.Goals as goal
 
 pub lines-init : goal.lines-init
 lines-init g c = record {
-  read = read_nothing c.in_ok-lines.lines c.in_ok-lines.ensures.text c.in_ok-lines.ensures.room (none_taken c.args.election.now c.new-script.result (c.new-script.ensures c.args.election.now));
+  read = read_nothing c.in_ok-lines.lines c.in_ok-lines.ensures.text c.in_ok-lines.ensures.room c.in_ok-lines.ensures.ended (none_taken c.args.election.now c.new-script.result (c.new-script.ensures c.args.election.now));
   few = omega (arith, c.in_ok-lines.ensures.room);
   no_fault = refl;
 }

@@ -41,7 +41,7 @@ returns-in_err-closed g c =
     (sym (answer_is c.from_residual-in_err-closed.result (recover_fault why)
     c.from_residual-in_err-closed.ensures.1))
     (refused model c.args.election.now (told_by c.args.telling) script before c.requires.marks c.requires.held why
-    c.recover.new.disk no.refused no.unchanged no.told no.any_moment (counts_of why no.fault))
+    c.recover.new.disk no.refused no.unchanged no.unharmed no.told no.any_moment no.called (counts_of why no.fault))
 
 pub lines-init : goal.lines-init
 lines-init g c =
@@ -53,7 +53,7 @@ lines-init g c =
     let is : state ≡ begun c.in_ok-closed.closed.ballots = c.telling-session.ensures.begun in
     let set : state.set ≡ c.in_ok-closed.closed.ballots = ap (λ (s : State). s.set) is in
     record {
-      read = read_nothing c.in_ok-lines.lines c.in_ok-lines.ensures.text c.in_ok-lines.ensures.room
+      read = read_nothing c.in_ok-lines.lines c.in_ok-lines.ensures.text c.in_ok-lines.ensures.room c.in_ok-lines.ensures.ended
           (begins model (told_by c.args.telling) e state.set state before c.recover.new.disk c.len.result
           (is ∙ ap begun (sym set)) c.requires.marks (c.len.ensures.count ∙ ap length (sym set)) did.told
           (record {
@@ -63,7 +63,7 @@ lines-init g c =
                 (now_told (g.D.Disk.seen c.args.disk.now) (g.D.Disk.seen c.recover.new.disk)
                 (λ bytes. IsMediumOf e bytes c.in_ok-closed.closed.ballots) did.medium);
           }) did.later
-          (did.fault.steady (λ failed. cc)) did.any_moment);
+          (did.fault.steady (λ failed. cc)) did.called did.once_synced);
       own = c.telling-session.ensures.election;
       telling = c.telling-session.ensures.telling;
       counted = omega (arith, c.in_ok-lines.ensures.room);

@@ -11,10 +11,10 @@ pub returns-then-found-number : goal.returns-then-found-number
 returns-then-found-number c =
     leads_met (table_of c.args.shape.now) c.args.number c.args.tries c.args.found c.if-found-eq0.false c.if-found-number.true
 
-pub returns-then-tries-shape : goal.returns-then-tries-shape
-returns-then-tries-shape c =
-    leads_passed (table_of c.args.shape.now) c.args.number c.args.tries c.args.found c.if-found-eq0.false c.if-found-number.false c.if-tries-shape.true
+pub returns-then-tries-claims : goal.returns-then-tries-claims
+returns-then-tries-claims c =
+    leads_passed (table_of c.args.shape.now) c.args.number c.args.tries c.args.found c.if-found-eq0.false c.if-found-number.false c.if-tries-claims.true
 
-pub returns-else-tries-shape : goal.returns-else-tries-shape
-returns-else-tries-shape c =
+pub returns-else-tries-claims : goal.returns-else-tries-claims
+returns-else-tries-claims c =
     leads_full (table_of c.args.shape.now) c.args.number c.args.tries c.args.found c.if-found-eq0.false c.if-found-number.false (omega arith)

@@ -17,7 +17,7 @@ use Rattle.ballot_store_cli.proofs.build.script.read_ballots.Goals as goal
 
 pub lines-init : goal.lines-init
 lines-init g c = record {
-  read = read_nothing c.in_ok-lines.lines c.in_ok-lines.ensures.text c.in_ok-lines.ensures.room
+  read = read_nothing c.in_ok-lines.lines c.in_ok-lines.ensures.text c.in_ok-lines.ensures.room c.in_ok-lines.ensures.ended
       (subst (λ (ballots : List Ballot). AreSpelled c.args.election.now ballots []) (sym c.in_ok-ballots.ensures.none) ([], refl, tt));
   sound = c.in_ok-ballots.ensures.sound;
   counted = omega (arith, ap length c.in_ok-ballots.ensures.none);

@@ -38,7 +38,7 @@ returns-then-width-self-clause-finds c =
       | inr none ↦ omega arith
     ] in
     let Q : NextLine → Type 0 = λ told. IsAnswerFor told line kept_line in
-    let P : Kept → Type 0 = λ old. CutsOff c.answer_for.result old (record { text = slice_range a.buffer.items (a.start + (size + 1)) a.end; room = a.room - (width + 1); line = kept_line; space = 65536 - a.end }) in
+    let P : Kept → Type 0 = λ old. CutsOff c.answer_for.result old (record { text = slice_range a.buffer.items (a.start + (size + 1)) a.end; room = a.room - (width + 1); line = kept_line; space = 65536 - a.end; ended = a.ended }) in
     subst P c.self.view_is (record {
       ends = omega (arith, m.text_length);
       within = omega arith;
@@ -48,6 +48,7 @@ returns-then-width-self-clause-finds c =
       ];
       rest = behind_cut a.buffer.items a.skipped a.start a.end size (first_width text + 1) (omega arith) (omega arith);
       room = omega arith;
+      ended = refl;
     })
 
 pub returns-then-self-kept-clause-finds : goal.returns-then-self-kept-clause-finds
@@ -63,7 +64,7 @@ returns-then-self-kept-clause-finds c =
           | else-length-kept-via-else-length-kept w ↦ omega (arith, w.if-length-kept.false, m.found, m.kept, m.text_width, c.if-self-kept.true)
         ];
       },
-      record { text = refl; room = refl },
+      record { text = refl; room = refl; ended = refl },
     )
 
 pub invariant_of-self-2 : goal.invariant_of-self-2
@@ -98,4 +99,4 @@ returns-clause-finds c =
       | else-length-kept-via-else-length-kept w ↦ omega (arith, w.if-length-kept.false, m.found, m.kept, m.short)
     ] in
     let P : Kept → Type 0 = λ old. (first_width old.text ≡ length old.text) × (length old.text ≤ old.room) × StaysSame old (kept_of a) in
-    subst P c.self.view_is (omega (arith, m.text_width, m.text_length), omega (arith, m.text_length, m.kept, c.if-self-kept.false), record { text = refl; room = refl })
+    subst P c.self.view_is (omega (arith, m.text_width, m.text_length), omega (arith, m.text_length, m.kept, c.if-self-kept.false), record { text = refl; room = refl; ended = refl })

@@ -1,4 +1,4 @@
-use Rattle.std.proofs.Common.{◌≡◌, ◌+◌, ◌-◌, length}
+use Rattle.std.proofs.Common.{◌≡◌, true, ◌+◌, ◌-◌, length}
 use Rattle.outside_io.specs.Stream.{GivesFront}
 use Rattle.outside_io.specs.Told.{AsTold}
 use Rattle.store_spec.specs.Input.{IsTooLong}
@@ -12,6 +12,8 @@ invariant-lines g l = record {
   gives : AsTold g.S.Source.left l.initial.source l.source GivesFront;
   room : l.self.room ≡ l.initial.self.room;
   over : IsTooLong l.initial.self.text l.initial.self.room → IsTooLong l.self.text l.self.room;
+  ended : l.self.ended ≡ l.initial.self.ended;
+  first : l.self.ended ≡ true → (l.self ≡ l.initial.self) × (l.source ≡ l.initial.source);
   steady : g.S.Source.faults l.source ≡ g.S.Source.faults l.initial.source;
 }
 

@@ -2,12 +2,13 @@ use Rattle.std.proofs.Common.{◌≢◌, ℕ, sym, ap, ◌∙◌, subst}
 use Rattle.step_core.specs.CastTables.{note_of, state_of}
 use Rattle.step_core.specs.Shape.{table_of}
 use Rattle.store_spec.specs.CastStep.{CastState, CastView, view_after}
-use Rattle.store_spec.specs.CastStep.CastState.{Carrying, Rest}
+use Rattle.store_spec.specs.CastStep.CastState.{Carrying, Probing, Rest}
 use Rattle.word_rule.proofs.CastAnswers.{rest_again}
 use Rattle.word_rule.proofs.CastProbes.{placed_so, refused_so, rests_after}
 use Rattle.word_rule.proofs.CastStates.{not_carrying}
+use Rattle.word_rule.proofs.Chains.{led_on}
 use Rattle.word_rule.proofs.cast.CastWords.cast.Goals as goal
-use Rattle.word_rule.specs.CastSeats.{IsToldAlike}
+use Rattle.word_rule.specs.CastSeats.{CastsByRows, IsToldAlike, MakesNextRow, MakesRow}
 use Rattle.word_rule.specs.CastWords.{IsAbout}
 use Rattle.word_rule.specs.Places.{Place}
 
@@ -31,11 +32,13 @@ returns-in_default c =
       answers = so.answers;
       view = so.view ∙ ap (λ (p : Place CastView). view_after p.view c.args.number Rest (note_of claimed.result.1)) c.seat.view_is;
       told_alike = subst (λ (p : Place CastView). IsToldAlike p.view c.args.number (note_of claimed.result.1)) c.seat.view_is claimed.ensures.told_alike;
+      chain = subst (λ (p : Place CastView). CastsByRows (table_of c.args.self.now.shape) c.args.number p.view claimed.new.seat.me.0.view) c.seat.view_is claimed.ensures.chain;
     }
 
 pub returns-in-Carrying : goal.returns-in-Carrying
 returns-in-Carrying c =
     let claimed = c.claim-state in
+    let t = table_of c.args.self.now.shape in
     let so = placed_so (table_of c.args.self.now.shape) c.args.number c.in-Carrying.number c.in-Carrying.place c.seat.inside.seat.me.0.view claimed.new.seat.me.0.view c.place.new.seat.me.0.view (note_of claimed.result.1)
     (claimed.ensures.about.state_is ∙ ap state_of c.in-Carrying.is) claimed.ensures.probes c.place.ensures.placed in
     record {
@@ -43,4 +46,6 @@ returns-in-Carrying c =
       answers = so.answers;
       view = so.view ∙ ap (λ (p : Place CastView). view_after p.view c.args.number Rest (note_of claimed.result.1)) c.seat.view_is;
       told_alike = subst (λ (p : Place CastView). IsToldAlike p.view c.args.number (note_of claimed.result.1)) c.seat.view_is claimed.ensures.told_alike;
+      chain = subst (λ (p : Place CastView). CastsByRows t c.args.number p.view c.place.new.seat.me.0.view) c.seat.view_is
+          (led_on (MakesNextRow t) (MakesRow t (Probing c.args.number 0)) c.seat.inside.seat.me.0.view claimed.new.seat.me.0.view c.place.new.seat.me.0.view claimed.ensures.chain c.place.ensures.rows);
     }

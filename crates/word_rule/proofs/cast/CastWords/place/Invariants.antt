@@ -5,13 +5,16 @@ use Rattle.store_spec.specs.CastStep.{number_of}
 use Rattle.store_spec.specs.CastStep.CastState.{Ready}
 use Rattle.word_rule.proofs.CastHands.{IsHeld, work_left}
 use Rattle.word_rule.proofs.cast.CastWords.place.Given as goal
+use Rattle.word_rule.specs.CastSeats.{MakesNextRow}
 use Rattle.word_rule.specs.CastWords.{IsAbout}
+use Rattle.word_rule.specs.Chain.{Rows}
 
 abbrev pub invariant-cells : goal.invariant-cells
 invariant-cells l = record {
   about : IsAbout l.self (state_of l.state) l.seat;
   held : IsHeld (number_of (state_of l.fn.in_hand)) (state_of l.state);
   lists : l.seat.me.0.view ≡ record l.fn.seat.me.0.view { state = state_of l.state };
+  rows : Rows (MakesNextRow (table_of l.self.shape)) l.fn.seat.me.0.view l.seat.me.0.view;
   seen_none : (number place seen : ℕ) → state_of l.state ≢ Ready number place seen;
 }
 
@@ -23,6 +26,7 @@ invariant-exchanges l = record {
   about : IsAbout l.self (state_of l.state) l.seat;
   held : IsHeld (number_of (state_of l.fn.in_hand)) (state_of l.state);
   lists : l.seat.me.0.view ≡ record l.fn.seat.me.0.view { state = state_of l.state };
+  rows : Rows (MakesNextRow (table_of l.self.shape)) l.fn.seat.me.0.view l.seat.me.0.view;
   less : work_left (number_of (state_of l.fn.in_hand)) (table_of l.self.shape) (state_of l.state) ≤ work_left (number_of (state_of l.fn.in_hand)) (table_of l.self.shape) (state_of l.initial.state);
 }
 

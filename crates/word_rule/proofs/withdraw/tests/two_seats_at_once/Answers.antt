@@ -20,8 +20,8 @@ taken words seat is e ready = subst (λ (o : Option (Place WithdrawView)). IfSom
 
 pub join-first-requires-after_bounds : goal.join-first-requires-after_bounds
 join-first-requires-after_bounds g c κs =
-    let words = c.example-words.result.0 in
-    let both = All-pop (Ready words) c.example-words.result.1.items c.pop.new.self.items c.pop.result c.pop.ensures.items (all_ready words c.example-words.result.1.items c.example-words.ensures.whole) in
+    let words = c.two_seats-words.result.0 in
+    let both = All-pop (Ready words) c.two_seats-words.result.1.items c.pop.new.self.items c.pop.result c.pop.ensures.items (all_ready words c.two_seats-words.result.1.items c.two_seats-words.ensures.whole) in
     let one = All-pop (Ready words) c.pop.new.self.items c.pop-2.new.self.items c.pop-2.result c.pop-2.ensures.items both.0 in
     let second = taken words c.pop.result c.expect-second.result c.expect-second.ensures both.1 in
     let first = taken words c.pop-2.result c.expect-first.result c.expect-first.ensures one.1 in

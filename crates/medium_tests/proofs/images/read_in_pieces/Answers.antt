@@ -1,0 +1,32 @@
+use Rattle.std.proofs.Common.{◌≡◌, ◌++◌, List, ℕ, length, take, sym, ap, subst, ◌∙◌, refl, arith}
+use Rattle.std.proofs.lemmas.Grind.{common_steps}
+use Rattle.std.proofs.lemmas.List.{append-nil, length-append, take_all, take_at}
+use Rattle.std.proofs.lemmas.Result.{err_from_is_err_and}
+use Rattle.image_builder.proofs.FirstCells.{parted}
+use Rattle.medium_tests.proofs.images.read_in_pieces.Goals as goal
+use Rattle.image_builder.specs.Reading.{IsRefusedBank}
+use Rattle.store_spec.specs.Image.{IsImageOf}
+
+pub returns-in_err-reader-3-clause-refused : goal.returns-in_err-reader-3-clause-refused
+returns-in_err-reader-3-clause-refused c =
+    let e = c.args.election.now in
+    let l = c.loop-rest in
+    let fed = c.in_ok-reader-2.reader.fed in
+    let piece = c.split_at.result.0.now in
+    let behind = c.split_at.result.1.now in
+    let fault = c.in_err-reader-3.field-0.0 in
+    let all : (fed ++ piece) ++ behind ≡ c.args.bank.now =
+    parted fed l.rest.now piece behind c.min.result c.split_at.ensures.front c.split_at.ensures.back
+    ∙ ap (λ reader. reader.fed ++ l.rest.now) c.in_ok-reader-2.ensures.fed ∙ ap (λ fed. fed ++ l.rest.now) (append-nil l.reader.fed) ∙ l.invariant.joined in
+    let p = err_from_is_err_and c.from_residual-in_err-reader-3.result c.from_residual-in_err-reader-3.ensures.1 in
+    rw (p.1, p.2) (λ _. subst (λ (bank : List ℕ). IsRefusedBank e bank fault) all (c.in_err-reader-3.ensures.refused.each_bank behind))
+
+pub returns-clause-image : goal.returns-clause-image
+returns-clause-image c =
+    let l = c.loop-rest in
+    let bank = c.args.bank.now in
+    let none : length l.rest.now ≡ 0 = grind (arith, common_steps) in
+    let all : l.reader.fed ≡ bank =
+    sym (take_at l.reader.fed l.rest.now (length l.reader.fed) refl) ∙ ap (take (length l.reader.fed)) l.invariant.joined
+    ∙ take_all (length l.reader.fed) bank (omega (arith, none, ap length l.invariant.joined, length-append l.reader.fed l.rest.now)) in
+    subst (λ (fed : List ℕ). IsImageOf c.args.election.now fed c.in_ok-finish.field-0.ballots) all c.in_ok-finish.ensures.image

@@ -1,6 +1,0 @@
-use Rattle.std.proofs.Common.{◌≢◌}
-use Rattle.std.specs.List.{All}
-use Rattle.step_core.proofs.cast_core.tests.drawn_list.Given as goal
-
-abbrev pub invariant-loop-place : goal.invariant-loop-place
-invariant-loop-place l = All (λ x. x ≢ 0) l.list.items
