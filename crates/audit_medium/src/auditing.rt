@@ -10,7 +10,7 @@ ghost use Rattle.recovery.specs.ReadsOnly.{ReadsOnly, WritesNothing};
 ghost use Rattle.recovery.specs.Refused.{IsRefusedMedium};
 ghost use Rattle.recovery.specs.declared.fault.RecoverFault.TheVariants.{DiskFault};
 ghost use Rattle.store_spec.specs.Disk.{IsSettled};
-ghost use Rattle.store_spec.specs.Election.{IsElection, bank_size};
+ghost use Rattle.store_spec.specs.Election.{bank_size};
 ghost use Rattle.store_spec.specs.Fault.{CountsFault, CountsFaultIf};
 ghost use Rattle.store_spec.specs.Image.{image_of};
 ghost use Rattle.store_spec.specs.Medium.{IsOpen, other_bank};
@@ -50,7 +50,6 @@ pub fn audit<D: Disk>(
     Ok(compare(
         disk,
         &closed,
-        election,
         bank,
         open_too,
         &scratch.made,
@@ -63,25 +62,24 @@ pub fn audit<D: Disk>(
 fn compare<D: Disk>(
     disk: &mut D,
     closed: &Closed,
-    election: &Election,
     bank: Bank,
     open_too: bool,
     made: &[u8],
     found: &mut [u8],
 ) -> Result<Audit, Failed>
-    requires election { IsElection election.now }
-    requires image { made.now ≡ image_of election.now closed.now.ballots }
-    requires whole { length made.now ≡ bank_size election.now }
+    requires image { made.now ≡ image_of closed.now.election closed.now.ballots }
+    requires whole { length made.now ≡ bank_size closed.now.election }
     requires found_page { length found.old ≡ page_size }
     requires read { ForSome (D.seen disk.old)
-        (λ bytes. IsReadAs election.now bytes (bank_named bank) closed.now.ballots) }
+        (λ bytes. IsReadAs closed.now.election bytes (bank_named bank) closed.now.ballots) }
     requires gate { ForSome (D.seen disk.old)
-        (λ bytes. IsTrue open_too ↔ IsOpen election.now (other_bank (bank_named bank)) bytes) }
+        (λ bytes. IsTrue open_too ↔ IsOpen closed.now.election (other_bank (bank_named bank)) bytes) }
     ensures audited { IfOk result
-        (λ audit. IfSome (D.seen disk.old) (λ bytes. IsAudited election.now bytes audit)) }
+        (λ audit. IfSome (D.seen disk.old) (λ bytes. IsAudited closed.now.election bytes audit)) }
     ensures reads { WritesNothing D.seen D.calls D.may_leave disk.old disk.new }
     ensures fault { CountsFault result (D.faults disk.old) (D.faults disk.new) }
 {
+    let election = closed.election();
     let other = other_of(bank);
     let first = first_difference(disk, election, other, made, found)?;
     if let Some(at) = first {

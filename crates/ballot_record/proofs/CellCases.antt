@@ -4,8 +4,8 @@ use Rattle.std.proofs.lemmas.Bool.{cases_lt, cases_eq, false≢true}
 use Rattle.std.proofs.lemmas.Slice.Eq.{bytes_eq-Decides}
 use Rattle.std.specs.Bool.{Decides}
 use Rattle.std.specs.Str.{bytes_eq}
-use Rattle.ballot_record.proofs.CellReading.{cell_again}
-use Rattle.ballot_record.specs.CellReading.{ballot_at}
+use Rattle.ballot_record.proofs.FormatReading.{cell_again}
+use Rattle.ballot_record.specs.Format.{ballot_at}
 use Rattle.store_spec.specs.Ballot.{Ballot, HasMarks, IsValid}
 use Rattle.store_spec.specs.Election.{Election, IsElection, cell_size, choices_on}
 use Rattle.store_spec.specs.Image.{IsCellOf, IsEmptyCell, ballot_bytes}

@@ -1,11 +1,12 @@
 pub mod BallotNumbers
 pub mod BallotSets
 pub mod BuildLaws
-mod CellAnswers
-mod CellReading
 pub mod CellCases
-mod Cells
 mod Counts
+pub mod CellFormat
+mod FormatAnswers
+mod FormatReading
+mod FormatWriting
 mod Fronts
 mod Joining
 mod LineAnswers

@@ -8,6 +8,7 @@ use Rattle.store_spec.specs.Election.{Election, IsElection}
 
 abbrev pub election_of : Inside → Election
 election_of a = record {
+  version = a.version;
   contests = contests_of (take a.contest_count a.contests);
   styles = take a.style_count a.styles;
   limit = a.limit;
@@ -24,6 +25,7 @@ kept_of e = record {
   limit = e.limit;
   bits = e.bits;
   salt = e.salt;
+  version = e.version;
 }
 
 pub record IsKept (a : Inside) : Type 0 where

@@ -1,4 +1,4 @@
-pub mod CellReading
+pub mod Format
 pub mod Contest
 pub mod Kept
 pub mod Line

@@ -1,9 +1,10 @@
 ghost use Rattle.std.specs.Prelude.{◌≡◌, ◌-◌, ◌^◌, ◌<◌, ◌≤◌, ◌++◌, ◌↔◌, length, replicate, All, Some, IsTrue, IsSome, IfSome, slice_get};
-ghost use Rattle.store_spec.specs.Election.{IsContest, IsContestUpTo, IsStyle, IsElection, choices_of, choices_on, is_on_style, cell_count, cell_size, bank_size, medium_size, most_bank_size, most_cell_size, most_cells, most_choices, example};
+ghost use Rattle.store_spec.specs.Election.{IsContest, IsContestUpTo, IsStyle, IsElection, choices_of, choices_on, is_on_style, cell_count, most_cells, most_choices, example};
 ghost use Rattle.ballot_record.specs.Contest.{contest_of, contests_of, no_contest};
 ghost use Rattle.ballot_record.specs.Parts.{parts_of, AreContests, AreStyles};
 
 use crate::{Contest, MAX_CHOICES};
+use probe_order::Salted;
 use std::marker::Model;
 
 /// The most contests of an election.
@@ -17,6 +18,9 @@ pub const MAX_LIMIT: u32 = 32768;
 
 /// The most bits of a home.
 pub const MAX_BITS: u8 = 16;
+
+/// The version of every election.
+const VERSION: u16 = 1;
 
 const NO_CONTEST: Contest = Contest {
     choices: 0,
@@ -33,6 +37,7 @@ pub struct Election {
     limit: u32,
     bits: u8,
     salt: u64,
+    version: u16,
 }
 
 impl Model for Election {
@@ -96,8 +101,8 @@ fn styles_kept(styles: &[u32]) -> [u32; MAX_STYLES]
 }
 
 impl Election {
-    /// The election of these parts. Contests and styles come in the order of their numbers, from 1; in a style bit k - 1
-    /// stands for contest k. `None` where a rule on elections fails.
+    /// The election of these parts, in version 1. Contests and styles come in the order of their numbers, from 1; in a
+    /// style bit k - 1 stands for contest k. `None` where a rule on elections fails.
     pub fn from_parts(
         contests: &[Contest],
         styles: &[u32],
@@ -124,6 +129,7 @@ impl Election {
             limit,
             bits,
             salt,
+            version: VERSION,
         })
     }
 
@@ -145,6 +151,13 @@ impl Election {
             Some(election) => election,
             None => unreachable!(),
         }
+    }
+
+    /// Its version.
+    pub fn version(&self) -> u16
+        ensures { result ≡ self.now.version }
+    {
+        self.version
     }
 
     /// How many contests it has.
@@ -221,34 +234,23 @@ impl Election {
         self.salt
     }
 
+    /// Where the numbers of its ballots belong.
+    pub fn order(&self) -> Salted
+        ensures bits { result.bits ≡ self.now.bits }
+        ensures salt { result.salt ≡ self.now.salt }
+        ensures valid { IsElection self.now }
+    {
+        Salted {
+            bits: self.bits,
+            salt: self.salt,
+        }
+    }
+
     /// How many cells a bank has.
     pub fn cells(&self) -> usize
         ensures count { result ≡ cell_count self.now }
         ensures at_most { result ≤ most_cells }
     {
         (1 << self.bits) + self.limit as usize
-    }
-
-    /// How many bytes a cell has.
-    pub fn cell_bytes(&self) -> usize
-        ensures size { result ≡ cell_size self.now }
-        ensures at_most { result ≤ most_cell_size self.now }
-    {
-        9 + 4 * self.contests()
-    }
-
-    /// How many bytes a bank has.
-    pub fn bank_bytes(&self) -> usize
-        ensures size { result ≡ bank_size self.now }
-        ensures at_most { result ≤ most_bank_size self.now }
-    {
-        32 + self.cells() * self.cell_bytes()
-    }
-
-    /// How many bytes a medium has.
-    pub fn medium_bytes(&self) -> u64
-        ensures { result ≡ medium_size self.now }
-    {
-        2 * self.bank_bytes() as u64 + 2
     }
 }

@@ -1,19 +1,22 @@
 //! Elections, the ballots cast in them, and the cells and lines that hold a ballot.
 #![tactic(auto)]
 
-mod cell;
 mod contest;
 mod election;
 mod fault;
+mod format;
 pub mod laws;
 mod line;
 mod print;
 mod record;
 
-pub use cell::{CellKind, CellRead, take_cell, take_cell_into};
 pub use contest::{Contest, MAX_CHOICES};
 pub use election::{Election, MAX_BITS, MAX_CONTESTS, MAX_LIMIT, MAX_STYLES};
 pub use fault::{LineFault, LineWhy};
+pub use format::{
+    CellKind, CellRead, HEADER_BYTES, Header, MAX_BANK_BYTES, MAX_CELL_BYTES, take_cell,
+    take_cell_into,
+};
 pub use line::{read_line, read_line_into, take_number};
 pub use print::put_line;
 pub use record::{MAX_MARK_SETS, Record};

@@ -1,10 +1,8 @@
 ghost use Rattle.std.specs.Prelude.{◌≡◌, ℕ, ◌-◌, ◌^◌, ◌<◌, ◌≤◌, ◌↔◌, length, replicate, IsTrue, slice_index};
-ghost use Rattle.store_spec.specs.Election.{choices_on, cell_size};
+ghost use Rattle.store_spec.specs.Election.{choices_on};
 ghost use Rattle.store_spec.specs.Ballot.{IsValid, HasMarks};
-ghost use Rattle.store_spec.specs.Image.{ballot_bytes};
 
 use crate::Election;
-use byteorder::{BigEndian, ByteOrder};
 
 /// How many mark sets a record has room for, however many contests its election has.
 pub const MAX_MARK_SETS: usize = 16;
@@ -71,17 +69,5 @@ impl Record {
             }
         }
         true
-    }
-
-    /// Writes the bytes of its cell.
-    pub fn put_cell(&self, election: &Election, out: &mut [u8])
-        requires valid { IsValid election.now (ballot self.now) }
-        requires room { length out.old ≡ cell_size election.now }
-        ensures { out.new ≡ ballot_bytes election.now (ballot self.now) }
-    {
-        let contests = election.contests();
-        BigEndian::write_u64(out, self.number);
-        out[8] = self.style;
-        BigEndian::write_u32_into(&self.marks[..contests], &mut out[9..]);
     }
 }

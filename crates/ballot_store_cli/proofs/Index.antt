@@ -47,10 +47,6 @@ ballot_missing [] number is k d below = absurd (omega arith)
 ballot_missing (x ∷ xs) number is zero d below = (missing_front x xs number is).0
 ballot_missing (x ∷ xs) number is (suc k) d below = ballot_missing xs number (missing_front x xs number is).1 k d (omega arith)
 
-pub ballot_found : (records : List Record) (number : ℕ) (r : Record) → IsFound records number r → (d : Ballot) → Some r ≡ Some r → (k : ℕ) × (k < length (map ballot records)) × (get_or (map ballot records) k d ≡ ballot r)
-ballot_found records number r found d same =
-    (found.place, omega (arith, length-map records ballot, found.within), get_or-map ballot records found.place r d found.within ∙ ap ballot (found.is r))
-
 pub same_number : (a b : ℕ) → a ≡ b → is_eq (nat_cmp a b) ≡ true
 same_number a b same = ap is_eq (sym (nat_cmp_is a b Equal same))
 

@@ -29,35 +29,9 @@ alone_none word build init session audit replay Replay is = replay (ap (λ (w : 
 alone_none word build init session audit replay (Large o) is =
     none_given is.0 (sym (ap (λ (w : List (List ℕ)). drop 1 w) is.1)) (o.seed, o.count, o.tabs, is.2)
 
--- with words behind it, only `large` names a command, and they are its options
-pub large_alone : (word : List ℕ) (words : List (List ℕ)) (c : Command) → 1 ≤ length words → Names (word ∷ words) c → (word ≡ codes "large") × AreOptions words
-large_alone word words Build some is = absurd (let one : suc (length words) ≡ 1 = ap length is in omega (arith, one, some))
-large_alone word words Init some is = absurd (let one : suc (length words) ≡ 1 = ap length is in omega (arith, one, some))
-large_alone word words Session some is = absurd (let one : suc (length words) ≡ 1 = ap length is in omega (arith, one, some))
-large_alone word words Audit some is = absurd (let one : suc (length words) ≡ 1 = ap length is in omega (arith, one, some))
-large_alone word words Replay some is = absurd (let one : suc (length words) ≡ 1 = ap length is in omega (arith, one, some))
-large_alone word words (Large o) some is =
-    let same : words ≡ is.0 = ap (λ (w : List (List ℕ)). drop 1 w) is.1 in
-    (ap (λ (w : List (List ℕ)). get_or w 0 []) is.1, (o.seed, o.count, o.tabs, subst (λ (w : List (List ℕ)). IsOptions w o.seed o.count o.tabs) (sym same) is.2))
-
 -- options behind `large` name a large run
 pub names_large : (word : List ℕ) (words : List (List ℕ)) → word ≡ codes "large" → AreOptions words → (c : Command) × Names (word ∷ words) c
 names_large word words is o = (Large (record { seed = o.0; count = o.1; tabs = o.2 }), (words, ap (λ (w : List ℕ). w ∷ words) is, o.3))
-
--- no words name no command
-pub none_named : (c : Command) → Names [] c → ⊥
-none_named Build is = cc
-none_named Init is = cc
-none_named Session is = cc
-none_named Audit is = cc
-none_named Replay is = cc
-none_named (Large o) is = let clash = is.1 in cc
-
--- the first of some words, and those behind it
-pub split_first : {A B : Type 0} (f : A → B) (words : List A) (d : A) → 1 ≤ length words → map f words ≡ f (get_or words 0 d) ∷ map f (take (length words - 1) (drop 1 words))
-split_first f [] d some = absurd (omega (arith, some))
-split_first f (word ∷ words) d some =
-    ap (λ rest. f word ∷ map f rest) (sym (take_all (suc (length words) - 1) words (omega arith)))
 
 -- the same where there is no answer
 pub large_named_or : {T E : Type 0} (word : List ℕ) (words : List (List ℕ)) (r : Result T E) → word ≡ codes "large" → IfErr r (λ x. AreOptions words) → IfErr r (λ x. (c : Command) × Names (word ∷ words) c)
@@ -69,9 +43,6 @@ tab_of : (words : List (List ℕ)) (o : Options) → Forms words (Large o) → I
 tab_of [] o forms = absurd forms
 tab_of (m ∷ []) o forms = absurd forms
 tab_of (m ∷ e ∷ words) o forms = forms.2.2.is_tabs
-
-pub forms_tab : (words : List (List ℕ)) (c : Command) → Forms words c → (o : Options) → c ≡ Large o → IsTab o.tabs
-forms_tab words c forms o is = tab_of words o (subst (λ (d : Command). Forms words d) is forms)
 
 -- what holds of a value, if there is one, holds of this one
 pub some_at : {T : Type 0} (P : T → Type 0) (o : Option T) (x : T) → o ≡ Some x → IfSome o P → P x

@@ -82,6 +82,6 @@ pub fn build<S: Source, K: Sink>(
 {
     let records = read_ballots(alloc, election, script)?;
     let store = Closed::from_records(alloc, election, records)?;
-    let bytes = image(alloc, &store, election)?;
+    let bytes = image(alloc, &store)?;
     Ok(out.write_all(&bytes)?)
 }

@@ -2,7 +2,8 @@
 
 ghost use Rattle.std.specs.Prelude.{◌≡◌, ◌+◌, ◌*◌, ◌≤◌};
 ghost use Rattle.bank_medium.specs.Banks.{place_of, gate_of};
-ghost use Rattle.store_spec.specs.Election.{bank_size, most_bank_size};
+ghost use Rattle.ballot_record.specs.Format.{largest_bank};
+ghost use Rattle.store_spec.specs.Election.{bank_size};
 
 use ballot_record::Election;
 
@@ -16,7 +17,7 @@ pub enum Bank {
 /// The first byte of a bank.
 pub fn bank_place(election: &Election, bank: Bank) -> u64
     ensures place { result ≡ place_of election.now bank }
-    ensures at_most { result + bank_size election.now ≤ 2 * most_bank_size election.now }
+    ensures at_most { result + bank_size election.now ≤ 2 * largest_bank }
 {
     let size = election.bank_bytes() as u64;
     match bank {

@@ -1,4 +1,5 @@
 //! The calls on media in memory, by the record of what they asked of the disk.
+#![tactic(auto, unfolding(store_spec::specs::Election::cell_size))]
 
 ghost use Rattle.std.specs.Prelude.{◌≡◌, length, IfOk};
 ghost use Rattle.crash_disk.specs.Recorded.{recorded_sees, recorded_leaves, recorded_calls};

@@ -68,13 +68,6 @@ pub record MovedUpTo (old old_places cells : List ℕ) (was listed : List Number
   pub moved : (cell : ℕ) → cell < n → get_or old cell 0 ≢ 0 → get_or old cell 0 ≢ get_or cells cell 0
       → Lists listed (get_or old cell 0)
 
-pub moved_none : (old old_places cells : List ℕ) (was : List Numbered) → MovedUpTo old old_places cells was was 0
-moved_none old old_places cells was = record {
-  right = λ numbers lead right. right;
-  more = λ v c. c;
-  moved = λ cell lt. absurd (omega arith);
-}
-
 pub moved_more : (old old_places cells : List ℕ) (was listed : List Numbered) (n : ℕ) (one : Numbered)
     → MovedUpTo old old_places cells was listed n
     → one.number ≡ get_or old n 0 → one.place ≡ get_or old_places n 0 → get_or old n 0 ≢ 0
@@ -127,13 +120,6 @@ moved_on old old_places cells was listed n m h same = record {
 pub record LeftUpTo (old old_places cells places : List ℕ) (n : ℕ) : Type 0 where
   pub changed : (cell : ℕ) → cell < n → get_or old cell 0 ≢ get_or cells cell 0 → get_or places cell 0 ≡ no_place
   pub same : (cell : ℕ) → get_or old cell 0 ≡ get_or cells cell 0 → get_or places cell 0 ≡ get_or old_places cell 0
-
-pub left_none : (old old_places cells places : List ℕ) (n : ℕ) → places ≡ old_places
-    → ((k : ℕ) → 0 ≤ k → k < n → get_or old k 0 ≡ get_or cells k 0) → LeftUpTo old old_places cells places n
-left_none old old_places cells places n own same = record {
-  changed = λ cell lt changed. absurd (changed (same cell (omega arith) lt));
-  same = λ cell equal. ap (λ ps. get_or ps cell 0) own;
-}
 
 pub left_more : (old old_places cells places : List ℕ) (n m : ℕ) → LeftUpTo old old_places cells places n
     → n < length places → get_or old n 0 ≢ get_or cells n 0

@@ -20,7 +20,6 @@ ghost use Rattle.store_spec.specs.Layout.{IsLayout, numbers_in};
 
 use ballot_record::{Election, Record};
 use outside_io::Memory;
-use records::order_of;
 use std::alloc::Global;
 use std::marker::Model;
 
@@ -54,7 +53,7 @@ impl Closed {
     {
         let records = Vec::new(alloc);
         let cells = records::layout(alloc, election, &records)?;
-        let places = places::of_all(alloc, &order_of(election), &records, &cells)?;
+        let places = places::of_all(alloc, &election.order(), &records, &cells)?;
         kept(alloc, election, records, cells, places)
     }
 
@@ -72,7 +71,7 @@ impl Closed {
         ensures stored { IfOk result IsStored }
     {
         let cells = records::layout(alloc, election, &ballots)?;
-        let places = places::of_all(alloc, &order_of(election), &ballots, &cells)?;
+        let places = places::of_all(alloc, &election.order(), &ballots, &cells)?;
         kept(alloc, election, ballots, cells, places)
     }
 
@@ -184,7 +183,7 @@ impl Closed {
     {
         let places = places::renewed(
             alloc,
-            &order_of(&self.election),
+            &self.election.order(),
             &self.records,
             &ballots,
             &self.cells,
@@ -198,23 +197,17 @@ impl Closed {
     }
 
     /// The store without the ballots of these numbers. `cells` is the layout of the rest.
-    pub fn without(
-        &self,
-        alloc: Global,
-        election: &Election,
-        numbers: &[u64],
-        cells: Vec<u64>,
-    ) -> Result<Closed, Memory>
-        requires own { election.now ≡ self.now.election }
+    pub fn without(&self, alloc: Global, numbers: &[u64], cells: Vec<u64>) -> Result<Closed, Memory>
         requires layout { cells.items
-            ≡ cells_of election.now (ballots_without self.now.ballots numbers.now) }
+            ≡ cells_of self.now.election (ballots_without self.now.ballots numbers.now) }
         ensures { IfOk result
             (λ store. store ≡ record {
-              election = election.now;
+              election = self.now.election;
               ballots = ballots_without self.now.ballots numbers.now;
             }) }
     {
-        let order = order_of(election);
+        let election = self.election();
+        let order = election.order();
         let records = records::without(alloc, &order, &self.records, numbers, &cells)?;
         let places = places::of_all(alloc, &order, &records, &cells)?;
         kept(alloc, election, records, cells, places)

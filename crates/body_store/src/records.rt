@@ -18,18 +18,6 @@ use outside_io::Memory;
 use probe_order::Salted;
 use std::alloc::Global;
 
-/// Where the numbers of an election's ballots belong.
-pub fn order_of(election: &Election) -> Salted
-    ensures bits { result.bits ≡ election.now.bits }
-    ensures salt { result.salt ≡ election.now.salt }
-    ensures election { IsElection election.now }
-{
-    Salted {
-        bits: election.bits(),
-        salt: election.salt(),
-    }
-}
-
 /// The cells of a store that holds these ballots.
 pub fn layout(alloc: Global, election: &Election, records: &[Record]) -> Result<Vec<u64>, Memory>
     requires listing { IsListing election.now (ballots_of records.now) }
@@ -38,7 +26,7 @@ pub fn layout(alloc: Global, election: &Election, records: &[Record]) -> Result<
         (λ cells. cells.items ≡ cells_of election.now (ballots_of records.now)) }
     ensures election { IsElection election.now }
 {
-    let order = order_of(election);
+    let order = election.order();
     let numbers = numbers(alloc, records)?;
     Ok(build(alloc, &order, election.cells(), &numbers)?)
 }
@@ -85,7 +73,7 @@ pub fn with_number(
     if number == 0 {
         return None;
     }
-    let cell = place_of(&order_of(election), cells, number)?;
+    let cell = place_of(&election.order(), cells, number)?;
     in_cell(records, cells, places, cell).copied()
 }
 

@@ -104,9 +104,7 @@ fn one_less(rt: HostRuntime) {
     let two = blanks(rt.alloc(), &[1, 14]).expect(&rt, "memory");
     let cells = records::layout(rt.alloc(), &election, &two).expect(&rt, "memory");
     let store = Closed::from_records(rt.alloc(), &election, three).expect(&rt, "memory");
-    let rest = store
-        .without(rt.alloc(), &election, &[9], cells)
-        .expect(&rt, "memory");
+    let rest = store.without(rt.alloc(), &[9], cells).expect(&rt, "memory");
     assert_eq!(rt; rest.len(), 2);
     holds(&rt, rest.cells(), &[(4, 1), (5, 14)]);
     is_found(&rt, rt.alloc(), &rest, &[1, 14]);

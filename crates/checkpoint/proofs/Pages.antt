@@ -8,7 +8,7 @@ use Rattle.bank_medium.specs.Banks.{bank_named, place_of, HasOpen, LeavesUnread}
 use Rattle.bank_medium.specs.declared.place.Bank.{Bank}
 use Rattle.body_store.specs.Contents.{Contents, IsStored}
 use Rattle.crash_disk.proofs.Moments.{goes_on_same, goes_on_write, started, torn-after_same}
-use Rattle.crash_disk.proofs.TornBytes.{overwritten-next, overwritten-same, overwritten-nothing}
+use Rattle.crash_disk.proofs.TornBytes.{overwritten-next, overwritten-same}
 use Rattle.crash_disk.specs.SeenIsImage.{length-overwritten}
 use Rattle.checkpoint.proofs.Renewing.{torn_bank_gate}
 use Rattle.image_builder.proofs.Held.{image_fits}
@@ -53,11 +53,6 @@ page_same (Some bytes) page p n at k within size read =
     let there : page ≡ slice_range bytes (p + at) (p + at + k) = read ∙ sym (within_range p n at k bytes within) in
     ap Some (sym (overwritten-same (p + at) k page bytes size there))
 
--- no page yet
-pub page_first : (first : Option (List ℕ)) (image : List ℕ) (p : ℕ) → first ≡ option_map (overwritten p (take 0 image)) first
-page_first None image p = refl
-page_first (Some old) image p = ap Some (sym (overwritten-nothing p old))
-
 -- what was written is told where the first bytes are
 pub written_told : (now first : Option (List ℕ)) (f : List ℕ → List ℕ) → now ≡ option_map f first → is_some now ≡ is_some first
 written_told now None f written = ap is_some written
@@ -72,15 +67,6 @@ pages_begin now (Some x) xs p at long begins written y is =
     let bytes : y ≡ overwritten p xs x = cc in
     let size : length y ≡ max (length x) (p + length xs) = ap length bytes ∙ length-overwritten p xs x (begins x refl) in
     omega arith
-
--- the size stays
-pub pages_size : (now first : Option (List ℕ)) (xs : List ℕ) (p n m : ℕ) → p + n ≤ m → length xs ≤ n → ((x : List ℕ) → first ≡ Some x → length x ≡ m)
-    → now ≡ option_map (overwritten p xs) first → (y : List ℕ) → now ≡ Some y → length y ≡ m
-pages_size now None xs p n m within few long written y is = let none : Some y ≡ None = sym is ∙ written in absurd (let no : ⊥ = cc in no)
-pages_size now (Some x) xs p n m within few long written y is =
-    let same : Some y ≡ Some (overwritten p xs x) = sym is ∙ written in
-    let bytes : y ≡ overwritten p xs x = cc in
-    ap length bytes ∙ omega (arith, length-overwritten p xs x, long x refl)
 
 module _ {D : Type 0} (calls : D → ℕ) (may_leave : D → ℕ → List ℕ → Type 0) (seen : D → Option (List ℕ)) (e : Election) (bank : Bank) where
   -- while pages are written the gate stays closed

@@ -9,7 +9,7 @@ use Rattle.store_spec.specs.Ballot.{Ballot}
 use Rattle.store_spec.specs.Disk.{overwritten, IsTorn}
 use Rattle.store_spec.specs.Election.{Election, bank_size, medium_size}
 use Rattle.store_spec.specs.Image.{image_of}
-use Rattle.store_spec.specs.Medium.{Bank, HoldsAtMost, HoldsSet, IsChosen, IsOpen, IsUnread, IsUnused, bank_of, gate_place, medium_of, open_gate}
+use Rattle.store_spec.specs.Medium.{Bank, HoldsAtMost, HoldsSet, IsChosen, IsOpen, IsUnused, bank_of, gate_place, medium_of, open_gate}
 use Rattle.store_spec.specs.Medium.Bank.{A, B}
 
 -- while its banks are written it stays unused
@@ -25,11 +25,6 @@ unused_torn e at k old c within unused torn =
       λ opened. shut.2 (sym (torn-byte_behind at k (gate_place e B) old c (omega arith) torn) ∙ opened),
     ))
     unused
-
--- neither bank is read
-pub unused_unread : (e : Election) (bank : Bank) (c : List ℕ) → IsUnused e c → IsUnread e bank c
-unused_unread e A c unused = ⊎_elim inl (λ (shut : (length c ≡ medium_size e) × (¬ IsOpen e A c) × (¬ IsOpen e B c)). inr shut.1) unused
-unused_unread e B c unused = ⊎_elim inl (λ (shut : (length c ≡ medium_size e) × (¬ IsOpen e A c) × (¬ IsOpen e B c)). inr shut.2) unused
 
 -- it has no more bytes than a medium
 pub unused_small : (e : Election) (bytes : List ℕ) → IsUnused e bytes → length bytes ≤ medium_size e

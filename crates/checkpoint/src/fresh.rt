@@ -82,7 +82,7 @@ pub fn init<D: Disk>(
     settle(disk)?;
     look(disk, election)?;
     let closed = Closed::empty(alloc, election)?;
-    scratch.make(&closed, election);
+    scratch.make(&closed);
     write_banks(disk, election, &scratch.made)?;
     open_both_gates(disk, election)?;
     Ok(())

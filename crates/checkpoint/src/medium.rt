@@ -10,7 +10,6 @@ ghost use Rattle.store_spec.specs.Fault.{CountsFault};
 ghost use Rattle.store_spec.specs.Medium.{HoldsSet, IsMediumOf};
 
 use crate::renewal::renew_bank;
-use ballot_record::Election;
 use bank_medium::Bank;
 use body_store::Closed;
 use crash_disk::Disk;
@@ -23,25 +22,24 @@ use outside_io::Failed;
 pub fn checkpoint<D: Disk>(
     disk: &mut D,
     closed: &Closed,
-    election: &Election,
     scratch: &mut Scratch,
 ) -> Result<(), Failed>
-    requires own { election.now ≡ closed.now.election }
     requires settled { IsSettled D.seen D.calls D.may_leave disk.old }
     requires medium { ForSome (D.seen disk.old)
-        (λ bytes. (old : List Ballot) × IsMediumOf election.now bytes old) }
+        (λ bytes. (old : List Ballot) × IsMediumOf closed.now.election bytes old) }
     ensures stored { OnOk result (IsStored closed.now) }
     ensures medium { OnOk result (AsTold D.seen disk.old disk.new
-        (λ _ bytes. IsMediumOf election.now bytes closed.now.ballots)) }
+        (λ _ bytes. IsMediumOf closed.now.election bytes closed.now.ballots)) }
     ensures settled { OnOk result (IsSettled D.seen D.calls D.may_leave disk.new) }
     ensures any_moment { (bytes : List ℕ) (old : List Ballot) → D.seen disk.old ≡ Some bytes
-        → IsMediumOf election.now bytes old → LeavesOnly D.calls D.may_leave disk.old disk.new
-        (λ c. HoldsSet election.now c old ⊎ HoldsSet election.now c closed.now.ballots) }
+        → IsMediumOf closed.now.election bytes old → LeavesOnly D.calls D.may_leave disk.old disk.new
+        (λ c. HoldsSet closed.now.election c old ⊎ HoldsSet closed.now.election c closed.now.ballots) }
     ensures told { is_some (D.seen disk.new) ≡ is_some (D.seen disk.old) }
     ensures later { D.calls disk.old ≤ D.calls disk.new }
     ensures fault { CountsFault result (D.faults disk.old) (D.faults disk.new) }
 {
-    scratch.make(closed, election);
+    let election = closed.election();
+    scratch.make(closed);
     let made = scratch.made.as_slice();
     renew_bank(disk, election, Bank::B, made, &mut scratch.found)?;
     renew_bank(disk, election, Bank::A, made, &mut scratch.found)

@@ -63,11 +63,6 @@ map-one_more f room xs x =
     ∙ ap (λ ys. cond (nat_lt (length xs) room) ys (map f xs)) (map-append f xs (x ∷ []))
     ∙ ap (λ n. cond (nat_lt n room) (map f xs ++ f x ∷ []) (map f xs)) (sym (length-map xs f))
 
--- a record that gets one call more, while it has room, has as many as there are calls
-pub length-one_more : {X : Type 0} (calls room : ℕ) (xs : List X) (x : X) → room < 2 ^ 64 → length xs ≡ min calls room → length (with_one_more room xs x) ≡ min (next_count calls) room
-length-one_more calls room xs x small long =
-    grind (arith, nat_tests, length-append xs (x ∷ []))
-
 -- the events of one call more
 pub events-more : (room : ℕ) (written : List ℕ) (entries : List Entry) (entry : Entry) → events_of (made_calls_in written (with_one_more room entries entry)) ≡ with_one_more room (events_of (made_calls_in written entries)) (event_of (made_call written entry))
 events-more room written entries entry = ap events_of (map-one_more (made_call written) room entries entry) ∙ map-one_more event_of room (made_calls_in written entries) (made_call written entry)

@@ -37,6 +37,7 @@ same_contests d xs ys x y = both (get (codes "contests") d) _ _ x y (λ v a b. o
 
 -- what a value says of the parts of an election, whether that is valid or not
 pub record AreParts (d : Data) (e : Election) : Type 0 where
+  pub version : e.version ≡ 1
   pub contests : IsSomeAnd (get (codes "contests") d) (IsArrayOf (IsContestIn 32) e.contests)
   pub styles : IsSomeAnd (get (codes "styles") d) (IsArrayOf (IsStyleIn (length e.contests)) e.styles)
   pub limit : number_at (codes "limit") d ≡ Some e.limit
@@ -44,7 +45,7 @@ pub record AreParts (d : Data) (e : Election) : Type 0 where
   pub salt : IsSomeAnd (option_and_then as_str (get (codes "salt") d)) (λ text. IsSaltText text e.salt)
 
 pub parts_of : (d : Data) (e : Election) → IsElectionIn d e → AreParts d e
-parts_of d e is = record { contests = is.contests; styles = is.styles; limit = is.limit; bits = is.bits; salt = is.salt }
+parts_of d e is = record { version = is.valid.known_version; contests = is.contests; styles = is.styles; limit = is.limit; bits = is.bits; salt = is.salt }
 
 pub same_parts : (d : Data) (e f : Election) → AreParts d e → AreParts d f → e ≡ f
 same_parts d e f x y =
@@ -55,8 +56,9 @@ same_parts d e f x y =
     let bits : e.bits ≡ f.bits = same_number (number_at (codes "bits") d) e.bits f.bits x.bits y.bits in
     let salt : e.salt ≡ f.salt = both (option_and_then as_str (get (codes "salt") d)) _ _ x.salt y.salt (λ text a b. one_salt text _ _ a b) in
     let step_1 : ◌≡◌ {A = Election} e (record e { contests = f.contests; styles = f.styles }) = ap₂ (λ (c : List Contest) (s : List ℕ). let g : Election = record e { contests = c; styles = s } in g) contests styles in
-    let step_2 : ◌≡◌ {A = Election} (record e { contests = f.contests; styles = f.styles }) (record f { salt = e.salt }) = ap₂ (λ (l b : ℕ). let g : Election = record f { limit = l; bits = b; salt = e.salt } in g) limit bits in
-    step_1 ∙ step_2 ∙ ap (λ (s : ℕ). let g : Election = record f { salt = s } in g) salt
+    let step_2 : ◌≡◌ {A = Election} (record e { contests = f.contests; styles = f.styles }) (record f { version = e.version; salt = e.salt }) = ap₂ (λ (l b : ℕ). let g : Election = record f { version = e.version; limit = l; bits = b; salt = e.salt } in g) limit bits in
+    let step_3 : ◌≡◌ {A = Election} (record f { version = e.version; salt = e.salt }) (record f { salt = e.salt }) = ap (λ (n : ℕ). let g : Election = record f { version = n; salt = e.salt } in g) (x.version ∙ sym y.version) in
+    step_1 ∙ step_2 ∙ step_3 ∙ ap (λ (s : ℕ). let g : Election = record f { salt = s } in g) salt
 
 pub no_styles : (d : Data) (xs : List Contest) → IsSomeAnd (get (codes "contests") d) (IsArrayOf (IsContestIn 32) xs) → IsSomeAnd (get (codes "styles") d) (λ v. (ss : List ℕ) → IsArrayOf (IsStyleIn (length xs)) ss v → ⊥)
     → (e : Election) → IsElectionIn d e → ⊥

@@ -150,10 +150,6 @@ pub joined : (set bit : ℕ) (o : Option ℕ) → option_map (λ rest. set + bit
 joined set bit None = refl
 joined set bit (Some rest) = ap (λ n. Some n) (omega arith)
 
-pub nothing_yet : (o : Option ℕ) → option_map (λ rest. 0 + rest) o ≡ o
-nothing_yet None = refl
-nothing_yet (Some rest) = ap (λ n. Some n) (zero-add rest)
-
 doubled : (k : ℕ) → 1 ≤ k → 2 ^ k ≡ 2 * 2 ^ (k - 1)
 doubled k some = let same : k ≡ suc (k - 1) = omega arith in ap (λ n. 2 ^ n) same ∙ pow-suc 2 (k - 1) ∙ omega arith
 

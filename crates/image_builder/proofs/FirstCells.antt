@@ -18,10 +18,11 @@ use Rattle.image_builder.specs.declared.read.ImageFault.{ImageFault}
 use Rattle.image_builder.specs.declared.read.ImageFault.TheVariants.{OtherElection, Damaged, Memory}
 use Rattle.store_spec.specs.Ballot.{Ballot, IsValid}
 use Rattle.store_spec.specs.Damage.{BeginsAnImage, cell_at}
-use Rattle.store_spec.specs.Election.{Election, IsElection, bank_size, cell_count, cell_size}
+use Rattle.store_spec.specs.Election.{Election, IsElection, bank_size, cell_count, cell_size, header_size}
 use Rattle.store_spec.specs.Home.{home_in}
 use Rattle.store_spec.specs.Image.{IsEmptyCell, ballot_bytes, cell_bytes, header_of}
 use Rattle.store_spec.specs.Layout.{MayStand}
+use Rattle.ballot_record.proofs.CellFormat.{length-header_of, number_fits}
 
 -- ---- how many cells fit
 
@@ -33,14 +34,15 @@ fewer_cells n m size lt = ⊎_elim (λ (less : n < m). less) (λ (more : m ≤ n
 
 -- ---- the bytes up to the end of some cells
 
-pub length-front_of : (e : Election) (numbers : List ℕ) (ballots : List Ballot) → IsElection e → All (IsValid e) ballots → length (front_of e numbers ballots) ≡ 32 + length numbers * cell_size e
+pub length-front_of : (e : Election) (numbers : List ℕ) (ballots : List Ballot) → IsElection e → All (IsValid e) ballots → length (front_of e numbers ballots) ≡ header_size + length numbers * cell_size e
 length-front_of e numbers ballots election valid =
     length-append (header_of e) (bytes_in e numbers ballots)
-    ∙ ap (λ n. 32 + n) (length_pieces (cell_bytes e ballots) (cell_size e) numbers (λ x. length-cell_bytes e ballots x election valid))
+    ∙ ap (λ n. n + length (bytes_in e numbers ballots)) (length-header_of e)
+    ∙ ap (λ n. header_size + n) (length_pieces (cell_bytes e ballots) (cell_size e) numbers (λ x. length-cell_bytes e ballots x election valid))
 
-pub header_in_front : (e : Election) (numbers : List ℕ) (ballots : List Ballot) (rest : List ℕ) → take 32 (front_of e numbers ballots ++ rest) ≡ header_of e
+pub header_in_front : (e : Election) (numbers : List ℕ) (ballots : List Ballot) (rest : List ℕ) → take header_size (front_of e numbers ballots ++ rest) ≡ header_of e
 header_in_front e numbers ballots rest =
-    ap (take 32) (append_assoc (header_of e) (bytes_in e numbers ballots) rest) ∙ take_at (header_of e) (bytes_in e numbers ballots ++ rest) 32 refl
+    ap (take header_size) (append_assoc (header_of e) (bytes_in e numbers ballots) rest) ∙ take_at (header_of e) (bytes_in e numbers ballots ++ rest) header_size (length-header_of e)
 
 pub read_in_front : (e : Election) (numbers reaches : List ℕ) (ballots : List Ballot) (rest : List ℕ) → IsElection e → AreCells e numbers reaches ballots → AreRead e (front_of e numbers ballots ++ rest) (length numbers) numbers ballots
 read_in_front e numbers reaches ballots rest election cells =
@@ -52,14 +54,14 @@ read_in_front e numbers reaches ballots rest election cells =
       same = cells.same;
       valid = cells.valid;
       few = cells.few;
-      bytes = ap (λ bank. take size (drop 32 bank)) (append_assoc (header_of e) bytes rest)
-          ∙ ap (take size) (drop_at (header_of e) (bytes ++ rest) 32 refl)
+      bytes = ap (λ bank. take size (drop header_size bank)) (append_assoc (header_of e) bytes rest)
+          ∙ ap (take size) (drop_at (header_of e) (bytes ++ rest) header_size (length-header_of e))
           ∙ take_at bytes rest size (length_pieces (cell_bytes e ballots) (cell_size e) numbers (λ x. length-cell_bytes e ballots x election cells.valid));
     }
 
 next_cell : (e : Election) (numbers : List ℕ) (ballots : List Ballot) (bytes rest : List ℕ) → IsElection e → All (IsValid e) ballots → length bytes ≡ cell_size e → cell_at e (length numbers) (front_of e numbers ballots ++ (bytes ++ rest)) ≡ bytes
 next_cell e numbers ballots bytes rest election valid long =
-    ap (take (cell_size e)) (drop_at (front_of e numbers ballots) (bytes ++ rest) (32 + length numbers * cell_size e) (length-front_of e numbers ballots election valid))
+    ap (take (cell_size e)) (drop_at (front_of e numbers ballots) (bytes ++ rest) (header_size + length numbers * cell_size e) (length-front_of e numbers ballots election valid))
     ∙ take_at bytes rest (cell_size e) long
 
 -- ---- one cell more
@@ -197,6 +199,15 @@ refused_behind e told before whole after fault less same refused = record {
       subst (λ (bank : List ℕ). IsRefusedBank e bank fault) (sym (append_assoc told after rest) ∙ ap (λ bytes. bytes ++ rest) same) (refused.each_bank (after ++ rest));
 }
 
+-- where memory is wanting, the header was right
+pub refused_memory : (e : Election) (numbers : List ℕ) (ballots : List Ballot) (part bytes : List ℕ) → IsRefusedPiece e (front_of e numbers ballots ++ part) bytes Memory
+refused_memory e numbers ballots part bytes = record {
+  completes = tt;
+  each_bank = λ rest.
+      let front = front_of e numbers ballots in
+      ap (take header_size) (append_assoc (front ++ part) bytes rest ∙ append_assoc front part (bytes ++ rest)) ∙ header_in_front e numbers ballots (part ++ (bytes ++ rest));
+}
+
 -- a list that is parted in two
 pub parted : (front rest first last : List ℕ) (n : ℕ) → first ≡ take n rest → last ≡ drop n rest → (front ++ first) ++ last ≡ front ++ rest
 parted front rest first last n is_first is_last =
@@ -206,7 +217,7 @@ parted front rest first last n is_first is_last =
 pub room_next : (e : Election) (numbers : List ℕ) (ballots : List Ballot) (rest all : List ℕ) → IsElection e → All (IsValid e) ballots → front_of e numbers ballots ++ rest ≡ all → length all ≤ bank_size e → cell_size e ≤ length rest → length numbers < cell_count e
 room_next e numbers ballots rest all election valid same within long =
     let size = length-front_of e numbers ballots election valid in
-    let some : 0 < cell_size e = omega arith in
+    let some : 0 < cell_size e = omega (arith, number_fits e) in
     fewer_cells (length numbers) (cell_count e) (cell_size e) (omega (arith, size, ap length same, length-append (front_of e numbers ballots) rest))
 
 -- the same cells under other names

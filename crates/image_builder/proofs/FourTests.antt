@@ -30,10 +30,10 @@ cell_of_front e bank k count lt =
     let least : (k + 1) * size ≤ count * size = grind arith in
     let enough : k * size + more ≡ count * size = omega (arith, least) in
     let wide : size ≤ more = omega (arith, least) in
-    ap (λ n. take size (drop (k * size) (take n (drop 32 bank)))) (sym enough)
-    ∙ ap (take size) (drop-take (k * size) more (drop 32 bank))
-    ∙ take-take size more (drop (k * size) (drop 32 bank)) wide
-    ∙ ap (take size) (drop-drop (k * size) 32 bank)
+    ap (λ n. take size (drop (k * size) (take n (drop header_size bank)))) (sym enough)
+    ∙ ap (take size) (drop-take (k * size) more (drop header_size bank))
+    ∙ take-take size more (drop (k * size) (drop header_size bank)) wide
+    ∙ ap (take size) (drop-drop (k * size) header_size bank)
 
 number_read : (e : Election) (bank : List ℕ) (place : ℕ) (numbers : List ℕ) (ballots : List Ballot) → IsElection e → AreRead e bank place numbers ballots → (k : ℕ) → k < place → number_at (cell_at e k bank) ≡ get_or numbers k 0
 number_read e bank place numbers ballots election read k lt =

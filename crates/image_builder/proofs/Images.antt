@@ -1,11 +1,10 @@
 -- The bytes of an image, piece by piece.
-use Rattle.std.proofs.Common.{◌≡◌, ℕ, zero, suc, ◌+◌, ◌*◌, ◌<◌, ◌≤◌, ⊎_elim, List, [], ◌∷◌, ◌++◌, length, get_or, take, drop, replicate, Some, None, refl, sym, ap, subst, ◌∙◌, arith}
+use Rattle.std.proofs.Common.{◌≡◌, ℕ, zero, suc, ◌+◌, ◌*◌, ◌<◌, ◌≤◌, ⊎_elim, List, [], ◌∷◌, ◌++◌, length, get_or, take, drop, replicate, Some, None, sym, ap, subst, ◌∙◌, arith}
 use Rattle.std.proofs.Math.Seq.{take-add, drop-cons}
-use Rattle.std.proofs.lemmas.List.{length-append, length-take, length-drop, length-replicate, length-take-le, take_at, take-append-le, drop-append-le, drop_at, drop-drop}
+use Rattle.std.proofs.lemmas.List.{length-append, length-drop, length-replicate, length-take-le, take_at, take-append-le, drop-append-le, drop_at, drop-drop}
 use Rattle.std.proofs.lemmas.List.Concat.{flat_map-cons}
 use Rattle.std.proofs.lemmas.List.Elements.{All-contains}
 use Rattle.std.specs.List.{All, flat_map}
-use Rattle.std.specs.Int.{to_be_bytes, w32}
 use Rattle.std.specs.Option.{option_map_or}
 use Rattle.body_store.proofs.BallotSets.{MayHold, has_room, may_hold_set}
 use Rattle.body_store.specs.Contents.{Contents, IsStored}
@@ -13,8 +12,9 @@ use borrow.Rule.Slice.PartMut.{put_mid, post_of}
 use Rattle.layout_def.proofs.LaidOut.{layout_of_is}
 use Rattle.ballot_record.proofs.Lookups.{option_cases, found_in}
 use Rattle.store_spec.specs.Ballot.{Ballot, IsValid, ballot_of}
-use Rattle.store_spec.specs.Election.{Election, IsElection, bank_size, cell_count, cell_size}
+use Rattle.store_spec.specs.Election.{Election, IsElection, bank_size, cell_count, cell_size, header_size}
 use Rattle.store_spec.specs.Image.{ballot_bytes, cell_bytes, cells_of, header_of, image_of}
+use Rattle.ballot_record.proofs.CellFormat.{length-header_of, length-ballot_bytes}
 
 -- ---- lists of pieces
 
@@ -34,13 +34,6 @@ length_pieces f width [] each = let none : 0 ≡ 0 * width = omega arith in none
 length_pieces f width (x ∷ xs) each = omega (arith, ap length (flat_map-cons f x xs), length-append (f x) (flat_map f xs), each x, length_pieces f width xs each)
 
 -- ---- cells
-
-length-sets : (sets : List ℕ) → length (flat_map (to_be_bytes w32) sets) ≡ length sets * 4
-length-sets sets = length_pieces (to_be_bytes w32) 4 sets (λ x. refl)
-
-pub length-ballot_bytes : (e : Election) (b : Ballot) → IsElection e → IsValid e b → length (ballot_bytes e b) ≡ cell_size e
-length-ballot_bytes e b election valid =
-    omega (arith, length-sets (take (length e.contests) b.marks), length-take (length e.contests) b.marks, valid.every_set, election.few_contests)
 
 pub cell_of_found : (e : Election) (ballots : List Ballot) (number : ℕ) (b : Ballot) → ballot_of ballots number ≡ Some b → cell_bytes e ballots number ≡ ballot_bytes e b
 cell_of_found e ballots number b found = ap (λ o. option_map_or (ballot_bytes e) o (replicate (cell_size e) 0)) found
@@ -68,9 +61,6 @@ length-cell_bytes e ballots number election valid = ⊎_elim
 
 -- ---- the image
 
-pub length-header_of : (e : Election) → length (header_of e) ≡ 32
-length-header_of e = refl
-
 pub length-cells_of : (e : Election) (ballots : List Ballot) → IsElection e → MayHold e ballots → length (cells_of e ballots) ≡ cell_count e
 length-cells_of e ballots election held = let layout = layout_of_is _ _ _ _ (has_room e ballots election held) in layout.size
 
@@ -85,7 +75,8 @@ length-image_of e ballots election held =
     let cells = cells_of e ballots in
     let pieces = length_pieces (cell_bytes e ballots) (cell_size e) cells (λ x. length-cell_bytes e ballots x election held.listing.valid) in
     length-append (header_of e) (flat_map (cell_bytes e ballots) cells)
-    ∙ ap (λ n. 32 + n) (pieces ∙ ap (λ n. n * cell_size e) (length-cells_of e ballots election held))
+    ∙ ap (λ n. n + length (flat_map (cell_bytes e ballots) cells)) (length-header_of e)
+    ∙ ap (λ n. header_size + n) (pieces ∙ ap (λ n. n * cell_size e) (length-cells_of e ballots election held))
 
 -- what is written piece after piece
 pub written_more : (out new image : List ℕ) (from done more k : ℕ) → done ≤ length out → more ≤ length new → take done out ≡ take done (drop from image)
@@ -101,42 +92,42 @@ written_more out new image from done more k within few before here =
 
 -- from some byte of a cell on
 pub from_cell : (e : Election) (ballots : List Ballot) (place within : ℕ) → IsElection e → All (IsValid e) ballots → place < length (cells_of e ballots) → within ≤ cell_size e
-    → drop (32 + (place * cell_size e + within)) (image_of e ballots) ≡ drop within (cell_bytes e ballots (get_or (cells_of e ballots) place 0)) ++ flat_map (cell_bytes e ballots) (drop (suc place) (cells_of e ballots))
+    → drop (header_size + (place * cell_size e + within)) (image_of e ballots) ≡ drop within (cell_bytes e ballots (get_or (cells_of e ballots) place 0)) ++ flat_map (cell_bytes e ballots) (drop (suc place) (cells_of e ballots))
 from_cell e ballots place within election valid there short =
     let size = cell_size e in
     let cells = cells_of e ballots in
     let bytes = flat_map (cell_bytes e ballots) cells in
     let cell = cell_bytes e ballots (get_or cells place 0) in
     let each = λ (x : ℕ). length-cell_bytes e ballots x election valid in
-    sym (drop-drop (place * size + within) 32 (header_of e ++ bytes))
-    ∙ ap (drop (place * size + within)) (drop_at (header_of e) bytes 32 refl)
+    sym (drop-drop (place * size + within) header_size (header_of e ++ bytes))
+    ∙ ap (drop (place * size + within)) (drop_at (header_of e) bytes header_size (length-header_of e))
     ∙ sym (drop-drop within (place * size) bytes)
     ∙ ap (drop within) (drop_pieces (cell_bytes e ballots) size cells place each there)
     ∙ drop-append-le within cell _ (omega (arith, each (get_or cells place 0)))
 
 -- from the first byte of a cell on
 pub from_whole_cells : (e : Election) (ballots : List Ballot) (place : ℕ) → IsElection e → All (IsValid e) ballots → place < length (cells_of e ballots)
-    → drop (32 + place * cell_size e) (image_of e ballots) ≡ flat_map (cell_bytes e ballots) (drop place (cells_of e ballots))
+    → drop (header_size + place * cell_size e) (image_of e ballots) ≡ flat_map (cell_bytes e ballots) (drop place (cells_of e ballots))
 from_whole_cells e ballots place election valid there =
     let cells = cells_of e ballots in
     let f = cell_bytes e ballots in
-    ap (λ n. drop n (image_of e ballots)) (let n : 32 + place * cell_size e ≡ 32 + (place * cell_size e + 0) = omega arith in n)
+    ap (λ n. drop n (image_of e ballots)) (let n : header_size + place * cell_size e ≡ header_size + (place * cell_size e + 0) = omega arith in n)
     ∙ from_cell e ballots place 0 election valid there (omega arith)
     ∙ sym (flat_map-cons f (get_or cells place 0) (drop (suc place) cells))
     ∙ ap (flat_map f) (sym (drop-cons cells place 0 there))
 
 -- and so are the bytes up to its end
 pub part_of_cell : (e : Election) (ballots : List Ballot) (place within count : ℕ) → IsElection e → All (IsValid e) ballots → place < length (cells_of e ballots) → within + count ≤ cell_size e
-    → take count (drop (32 + (place * cell_size e + within)) (image_of e ballots)) ≡ take count (drop within (cell_bytes e ballots (get_or (cells_of e ballots) place 0)))
+    → take count (drop (header_size + (place * cell_size e + within)) (image_of e ballots)) ≡ take count (drop within (cell_bytes e ballots (get_or (cells_of e ballots) place 0)))
 part_of_cell e ballots place within count election valid there short =
     let cell = cell_bytes e ballots (get_or (cells_of e ballots) place 0) in
     let size = length-cell_bytes e ballots (get_or (cells_of e ballots) place 0) election valid in
     ap (take count) (from_cell e ballots place within election valid there (omega arith))
     ∙ take-append-le count (drop within cell) _ (omega (arith, length-drop within cell))
 
-pub part_of_header : (e : Election) (ballots : List Ballot) (within count : ℕ) → within + count ≤ 32 → take count (drop within (image_of e ballots)) ≡ take count (drop within (header_of e))
+pub part_of_header : (e : Election) (ballots : List Ballot) (within count : ℕ) → within + count ≤ header_size → take count (drop within (image_of e ballots)) ≡ take count (drop within (header_of e))
 part_of_header e ballots within count short =
     let bytes = flat_map (cell_bytes e ballots) (cells_of e ballots) in
-    let size : length (header_of e) ≡ 32 = refl in
+    let size = length-header_of e in
     ap (take count) (drop-append-le within (header_of e) bytes (omega arith))
     ∙ take-append-le count (drop within (header_of e)) bytes (omega (arith, length-drop within (header_of e)))

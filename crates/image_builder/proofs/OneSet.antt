@@ -1,10 +1,6 @@
 -- An image is that of one set of ballots alone.
-use Rattle.std.proofs.Common.{◌≡◌, ℕ, suc, ◌*◌, ◌-◌, ◌%◌, ◌^◌, ◌<◌, List, [], ◌∷◌, ◌++◌, length, get_or, take, drop, replicate, refl, sym, ap, subst, ◌∙◌, arith}
-use Rattle.std.proofs.Math.Nat.{mod-eq_of_lt}
-use Rattle.std.proofs.lemmas.List.{drop_at, take_at, length-take, get_or-take}
-use Rattle.std.proofs.lemmas.List.Concat.{flat_map-cons}
-use Rattle.std.proofs.lemmas.Nat.{from_be_bytes-to_be_bytes_4, from_be_bytes-to_be_bytes_8}
-use Rattle.std.specs.Int.{from_be_bytes, to_be_bytes, w8, w32, w64}
+use Rattle.std.proofs.Common.{◌≡◌, ℕ, suc, ◌*◌, ◌<◌, List, length, get_or, take, drop, refl, sym, ap, subst, ◌∙◌, arith}
+use Rattle.std.proofs.lemmas.List.{drop_at, take_at}
 use Rattle.std.proofs.lemmas.List.Elements.{All-contains}
 use Rattle.std.specs.List.{Contains, flat_map}
 use Rattle.body_store.proofs.BallotSets.{MayHold, may_hold_set}
@@ -12,48 +8,13 @@ use Rattle.image_builder.proofs.Images.{cell_of_found, drop_pieces, length-cell_
 use Rattle.ballot_record.proofs.BallotSets.{same_members}
 use Rattle.ballot_record.proofs.BallotNumbers.{ballot_with, contains_number}
 use Rattle.ballot_record.proofs.Lookups.{found_once}
-use Rattle.image_builder.proofs.Reading.{layout_read, number_in_cell, same_numbers, split_same}
+use Rattle.image_builder.proofs.Reading.{layout_read, number_in_cell, same_numbers}
 use Rattle.image_builder.proofs.Wrong.{known_cell}
-use Rattle.ballot_record.proofs.ValidMarks.{marks_kept, small_set}
 use Rattle.layout_def.proofs.OrderedCells.{place_from_contains, contains_from_place}
 use Rattle.store_spec.specs.Ballot.{Ballot, IsBallotSet, IsValid, IsWithinLimit, numbers_of}
-use Rattle.store_spec.specs.Election.{Election, IsElection, cell_size}
+use Rattle.store_spec.specs.Election.{Election, IsElection, cell_size, header_size}
 use Rattle.store_spec.specs.Image.{ballot_bytes, cell_bytes, cells_of, header_of, image_of}
-
--- ---- the ballots of one cell
-
-same_sets : (xs ys : List ℕ) → length xs ≡ length ys → ((i : ℕ) → i < length xs → get_or xs i 0 < 2 ^ 32) → ((i : ℕ) → i < length ys → get_or ys i 0 < 2 ^ 32) → flat_map (to_be_bytes w32) xs ≡ flat_map (to_be_bytes w32) ys → xs ≡ ys
-same_sets [] [] long small_x small_y same = refl
-same_sets [] (y ∷ ys) long small_x small_y same = absurd (omega arith)
-same_sets (x ∷ xs) [] long small_x small_y same = absurd (omega arith)
-same_sets (x ∷ xs) (y ∷ ys) long small_x small_y same =
-    let parts = split_same (to_be_bytes w32 x) (to_be_bytes w32 y) (flat_map (to_be_bytes w32) xs) (flat_map (to_be_bytes w32) ys) refl
-    (sym (flat_map-cons (to_be_bytes w32) x xs) ∙ same ∙ flat_map-cons (to_be_bytes w32) y ys) in
-    let first : x ≡ y = sym (from_be_bytes-to_be_bytes_4 x (small_x 0 (omega arith))) ∙ ap (from_be_bytes w32) parts.0 ∙ from_be_bytes-to_be_bytes_4 y (small_y 0 (omega arith)) in
-    let rest = same_sets xs ys (omega arith) (λ i lt. small_x (suc i) (omega arith)) (λ i lt. small_y (suc i) (omega arith)) parts.1 in
-    ap (λ n. n ∷ xs) first ∙ ap (λ ns. y ∷ ns) rest
-
-front_small : (e : Election) (b : Ballot) → IsElection e → IsValid e b → (i : ℕ) → i < length (take (length e.contests) b.marks) → get_or (take (length e.contests) b.marks) i 0 < 2 ^ 32
-front_small e b election valid i lt =
-    let within : i < length e.contests = omega (arith, length-take (length e.contests) b.marks) in
-    subst (λ (n : ℕ). n < 2 ^ 32) (sym (get_or-take (length e.contests) b.marks i 0 within)) (small_set e b election valid i (omega (arith, election.few_contests)))
-
-same_ballot : (e : Election) (a b : Ballot) → IsElection e → IsValid e a → IsValid e b → ballot_bytes e a ≡ ballot_bytes e b → a ≡ b
-same_ballot e a b election valid_a valid_b same =
-    let n = length e.contests in
-    let sets_a = take n a.marks in
-    let sets_b = take n b.marks in
-    let parts = split_same (to_be_bytes w64 a.number ++ to_be_bytes w8 a.style) (to_be_bytes w64 b.number ++ to_be_bytes w8 b.style) (flat_map (to_be_bytes w32) sets_a) (flat_map (to_be_bytes w32) sets_b) refl same in
-    let front = split_same (to_be_bytes w64 a.number) (to_be_bytes w64 b.number) (to_be_bytes w8 a.style) (to_be_bytes w8 b.style) refl parts.0 in
-    let number : a.number ≡ b.number = sym (from_be_bytes-to_be_bytes_8 a.number valid_a.short_number) ∙ ap (from_be_bytes w64) front.0 ∙ from_be_bytes-to_be_bytes_8 b.number valid_b.short_number in
-    let byte : a.style % 256 ≡ b.style % 256 = ap (λ bytes. get_or bytes 0 0) front.1 in
-    let style : a.style ≡ b.style =
-    sym (mod-eq_of_lt (omega (arith, valid_a.known_style, election.few_styles))) ∙ byte ∙ mod-eq_of_lt (omega (arith, valid_b.known_style, election.few_styles)) in
-    let long : length sets_a ≡ length sets_b = omega (arith, length-take n a.marks, length-take n b.marks, valid_a.every_set, valid_b.every_set) in
-    let sets : sets_a ≡ sets_b = same_sets sets_a sets_b long (front_small e a election valid_a) (front_small e b election valid_b) parts.1 in
-    let marks : a.marks ≡ b.marks = marks_kept e a election valid_a ∙ ap (λ sets. sets ++ replicate (16 - n) 0) sets ∙ sym (marks_kept e b election valid_b) in
-    let made : ℕ → ℕ → List ℕ → Ballot = λ number style marks. record { number = number; style = style; marks = marks } in
-    ap (λ k. made k a.style a.marks) number ∙ ap (λ k. made b.number k a.marks) style ∙ ap (made b.number b.style) marks
+use Rattle.ballot_record.proofs.CellFormat.{length-header_of, same_ballot}
 
 -- ---- the sets of one image
 
@@ -104,5 +65,5 @@ one_set e xs ys election set_x few_x set_y few_y same =
     let held_y = may_hold_set e ys set_y few_y in
     let bytes_x = flat_map (cell_bytes e xs) (cells_of e xs) in
     let bytes_y = flat_map (cell_bytes e ys) (cells_of e ys) in
-    let cells : bytes_x ≡ bytes_y = sym (drop_at (header_of e) bytes_x 32 refl) ∙ ap (drop 32) same ∙ drop_at (header_of e) bytes_y 32 refl in
+    let cells : bytes_x ≡ bytes_y = sym (drop_at (header_of e) bytes_x header_size (length-header_of e)) ∙ ap (drop header_size) same ∙ drop_at (header_of e) bytes_y header_size (length-header_of e) in
     same_members xs ys set_x.ascending set_y.ascending (in_other e xs ys election held_x held_y cells) (in_other e ys xs election held_y held_x (sym cells))

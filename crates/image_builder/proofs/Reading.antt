@@ -1,13 +1,11 @@
 -- The first cells of a bank, as they are read in order.
-use Rattle.std.proofs.Common.{◌≡◌, ◌≢◌, ℕ, zero, suc, ◌+◌, ◌*◌, ◌^◌, ◌<◌, ◌≤◌, ⊎_elim, List, [], ◌∷◌, ◌++◌, length, get_or, take, drop, replicate, None, refl, sym, ap, subst, ◌∙◌, arith}
+use Rattle.std.proofs.Common.{◌≡◌, ◌≢◌, ℕ, zero, suc, ◌+◌, ◌*◌, ◌^◌, ◌<◌, ◌≤◌, ⊎_elim, List, [], ◌∷◌, ◌++◌, length, get_or, take, drop, None, refl, sym, ap, subst, ◌∙◌, arith}
 use Rattle.std.proofs.lemmas.Bool.{cases_eq}
 use Rattle.std.proofs.Math.Seq.{take-add}
-use Rattle.std.proofs.lemmas.List.{append-nil, append_assoc, take_at, drop_at, drop-drop, take-take, take-replicate}
+use Rattle.std.proofs.lemmas.List.{append-nil, take_at, drop_at, drop-drop, take-take}
 use Rattle.std.proofs.lemmas.List.Concat.{flat_map-cons, flat_map-append}
 use Rattle.std.proofs.lemmas.List.Elements.{All-contains}
-use Rattle.std.proofs.lemmas.Nat.{from_be_bytes-to_be_bytes_8}
 use Rattle.std.specs.List.{All, AllPairs, Contains, flat_map}
-use Rattle.std.specs.Int.{to_be_bytes, from_be_bytes, w8, w32, w64}
 use Rattle.body_store.proofs.BallotSets.{MayHold, has_room, limit-IsPermutation}
 use Rattle.ballot_record.proofs.BallotSets.{in_order, in_order-IsPermutation, set_of_listing}
 use Rattle.image_builder.proofs.Listings.{image_of-IsPermutation}
@@ -18,10 +16,11 @@ use Rattle.layout_def.proofs.Fronts.{distinct_in, front_is_layout}
 use Rattle.layout_def.proofs.LaidOut.{layout_of_is}
 use Rattle.store_spec.specs.Ballot.{Ballot, IsValid, ballot_of, numbers_of}
 use Rattle.store_spec.specs.Damage.{BeginsAnImage, cell_at, first_cells, number_at}
-use Rattle.store_spec.specs.Election.{Election, IsElection, cell_count, cell_size}
+use Rattle.store_spec.specs.Election.{Election, IsElection, cell_count, cell_size, header_size}
 use Rattle.store_spec.specs.Home.{home_in}
-use Rattle.store_spec.specs.Image.{ballot_bytes, cell_bytes, cells_of, header_of, image_of}
+use Rattle.store_spec.specs.Image.{cell_bytes, cells_of, header_of, image_of}
 use Rattle.store_spec.specs.Layout.{HasRoom, IsLayout, IsOrdered, layout_of, numbers_in}
+use Rattle.ballot_record.proofs.CellFormat.{length-header_of, number_of_bytes, number_of_zeros}
 
 -- ---- lists of pieces
 
@@ -53,18 +52,6 @@ same_pieces f g (x ∷ xs) same =
     ∙ ap (λ bytes. g x ++ bytes) (same_pieces f g xs (λ i lt. same (suc i) (omega arith))) ∙ sym (flat_map-cons g x xs)
 
 -- ---- the number at the front of a cell
-
-pub number_of_bytes : (e : Election) (b : Ballot) → b.number < 2 ^ 64 → number_at (ballot_bytes e b) ≡ b.number
-number_of_bytes e b short =
-    let number = to_be_bytes w64 b.number in
-    let style = to_be_bytes w8 b.style in
-    let sets = flat_map (to_be_bytes w32) (take (length e.contests) b.marks) in
-    ap (λ bytes. from_be_bytes w64 (take 8 bytes)) (append_assoc number style sets)
-    ∙ ap (from_be_bytes w64) (take_at number (style ++ sets) 8 refl)
-    ∙ from_be_bytes-to_be_bytes_8 b.number short
-
-number_of_zeros : (e : Election) → number_at (replicate (cell_size e) 0) ≡ 0
-number_of_zeros e = ap (from_be_bytes w64) (take-replicate 8 (cell_size e) 0 (omega arith))
 
 abbrev pub IsKnown : List Ballot → ℕ → Type 0
 IsKnown ballots v = v ≢ 0 → Contains (numbers_of ballots) v
@@ -100,13 +87,13 @@ same_numbers f g (x ∷ xs) (y ∷ ys) long wide first second same =
 pub one_cell_more : (e : Election) (place : ℕ) (bank : List ℕ) → first_cells e (place + 1) bank ≡ first_cells e place bank ++ cell_at e place bank
 one_cell_more e place bank =
     let size = cell_size e in
-    ap (λ k. take k (drop 32 bank)) (let same : (place + 1) * size ≡ place * size + size = omega arith in same)
-    ∙ take-add (place * size) size (drop 32 bank)
-    ∙ ap (λ bytes. first_cells e place bank ++ take size bytes) (drop-drop (place * size) 32 bank)
+    ap (λ k. take k (drop header_size bank)) (let same : (place + 1) * size ≡ place * size + size = omega arith in same)
+    ∙ take-add (place * size) size (drop header_size bank)
+    ∙ ap (λ bytes. first_cells e place bank ++ take size bytes) (drop-drop (place * size) header_size bank)
 
 pub front_of_image : (e : Election) (ballots : List Ballot) (n : ℕ) → IsElection e → All (IsValid e) ballots → n ≤ length (cells_of e ballots) → first_cells e n (image_of e ballots) ≡ flat_map (cell_bytes e ballots) (take n (cells_of e ballots))
 front_of_image e ballots n election valid le =
-    ap (take (n * cell_size e)) (drop_at (header_of e) (flat_map (cell_bytes e ballots) (cells_of e ballots)) 32 refl)
+    ap (take (n * cell_size e)) (drop_at (header_of e) (flat_map (cell_bytes e ballots) (cells_of e ballots)) header_size (length-header_of e))
     ∙ take_pieces (cell_bytes e ballots) (cell_size e) (cells_of e ballots) n (λ x. length-cell_bytes e ballots x election valid) le
 
 -- fewer cells begin an image too
@@ -118,7 +105,7 @@ begins_fewer e n m bank le begins =
       begins.0,
       begins.1,
       begins.2,
-      sym (take-take (n * size) (m * size) (drop 32 bank) less) ∙ ap (take (n * size)) begins.3 ∙ take-take (n * size) (m * size) (drop 32 image) less,
+      sym (take-take (n * size) (m * size) (drop header_size bank) less) ∙ ap (take (n * size)) begins.3 ∙ take-take (n * size) (m * size) (drop header_size image) less,
     )
 
 -- ---- what was read so far

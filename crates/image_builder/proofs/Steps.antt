@@ -15,7 +15,7 @@ use Rattle.layout_def.proofs.Fronts.{holds_own}
 use Rattle.layout_def.proofs.OrderedCells.{place_from_contains, contains_from_place, place_within}
 use Rattle.store_spec.specs.Ballot.{Ballot, IsValid, ballot_of, numbers_of}
 use Rattle.store_spec.specs.Damage.{cell_at}
-use Rattle.store_spec.specs.Election.{Election, cell_size}
+use Rattle.store_spec.specs.Election.{Election, cell_size, header_size}
 use Rattle.store_spec.specs.Image.{ballot_bytes, cell_bytes}
 use Rattle.store_spec.specs.Layout.{IsOrdered, MayStand, numbers_in}
 
@@ -96,7 +96,7 @@ nothing_read e bank = record {
   same = refl;
   valid = λ k d lt. absurd (omega arith);
   few = omega arith;
-  bytes = ap (λ k. take k (drop 32 bank)) (let none : 0 * cell_size e ≡ 0 = omega arith in none);
+  bytes = ap (λ k. take k (drop header_size bank)) (let none : 0 * cell_size e ≡ 0 = omega arith in none);
 }
 
 zero_cell : (e : Election) (ballots : List Ballot) → All (IsValid e) ballots → cell_bytes e ballots 0 ≡ replicate (cell_size e) 0

@@ -7,7 +7,7 @@ use Rattle.std.specs.List.{flat_map}
 use Rattle.body_store.proofs.BallotSets.{MayHold, has_room, may_hold_set}
 use Rattle.image_builder.proofs.Images.{length_pieces, length-cell_bytes, cell_of_found, cell_of_none}
 use Rattle.ballot_record.proofs.Lookups.{option_cases, found_in}
-use Rattle.image_builder.proofs.Reading.{AreRead, IsKnown, begins_fewer, begins_read, front_of_image, front_read, layout_read, number_in_cell, number_of_bytes, one_cell_more, piece_more, same_numbers, listing_read, split_same}
+use Rattle.image_builder.proofs.Reading.{AreRead, IsKnown, begins_fewer, begins_read, front_of_image, front_read, layout_read, number_in_cell, one_cell_more, piece_more, same_numbers, listing_read, split_same}
 use Rattle.store_spec.specs.Home.{home_in}
 use Rattle.image_builder.proofs.Steps.{known_read}
 use Rattle.layout_def.proofs.Ascending.{length-ascending}
@@ -17,9 +17,10 @@ use Rattle.layout_def.proofs.OrderedCells.{contains_from_place, place_within}
 use Rattle.layout_def.proofs.Placing.{filled}
 use Rattle.store_spec.specs.Ballot.{Ballot, IsValid, ballot_of, numbers_of}
 use Rattle.store_spec.specs.Damage.{BeginsAnImage, IsFirstWrong, cell_at, number_at}
-use Rattle.store_spec.specs.Election.{Election, IsElection, cell_count, cell_size}
+use Rattle.store_spec.specs.Election.{Election, IsElection, cell_count, cell_size, header_size}
 use Rattle.store_spec.specs.Image.{ballot_bytes, cell_bytes, cells_of, header_of, image_of}
 use Rattle.store_spec.specs.Layout.{IsLayout, MayStand, numbers_in}
+use Rattle.ballot_record.proofs.CellFormat.{number_of_bytes}
 
 -- the bank begins the image of this set, which goes on with one cell more
 record GoesOn (e : Election) (bank : List ℕ) (place : ℕ) (numbers : List ℕ) (ballots : List Ballot) : Type 0 where
@@ -151,15 +152,15 @@ too_many e bank place numbers ballots b election lt read valid is full begins =
 
 -- ---- a bank that is read whole
 
-pub whole_bank : (e : Election) (bank numbers : List ℕ) (ballots : List Ballot) → IsElection e → length bank ≡ 32 + cell_count e * cell_size e → take 32 bank ≡ header_of e → AreRead e bank (cell_count e) numbers ballots → bank ≡ image_of e ballots
+pub whole_bank : (e : Election) (bank numbers : List ℕ) (ballots : List Ballot) → IsElection e → length bank ≡ header_size + cell_count e * cell_size e → take header_size bank ≡ header_of e → AreRead e bank (cell_count e) numbers ballots → bank ≡ image_of e ballots
 whole_bank e bank numbers ballots election long header read =
     let layout = layout_read e ballots election (listing_read e bank (cell_count e) numbers ballots read) in
     let cells : numbers ≡ cells_of e ballots =
     sym (front_read e bank (cell_count e) numbers ballots election (omega arith) read) ∙ take_all (cell_count e) (cells_of e ballots) (omega (arith, layout.size)) in
-    sym (take-append-drop 32 bank)
-    ∙ ap (λ bytes. bytes ++ drop 32 bank) header
+    sym (take-append-drop header_size bank)
+    ∙ ap (λ bytes. bytes ++ drop header_size bank) header
     ∙ ap (λ bytes. header_of e ++ bytes)
-    (sym (take_all (cell_count e * cell_size e) (drop 32 bank) (omega (arith, length-drop 32 bank))) ∙ read.bytes ∙ ap (flat_map (cell_bytes e ballots)) cells)
+    (sym (take_all (cell_count e * cell_size e) (drop header_size bank) (omega (arith, length-drop header_size bank))) ∙ read.bytes ∙ ap (flat_map (cell_bytes e ballots)) cells)
 
 -- the first cell that is wrong for one of these reasons
 pub first_wrong : (e : Election) (bank : List ℕ) (place : ℕ) (numbers : List ℕ) (ballots : List Ballot) → IsElection e → place < cell_count e → AreRead e bank place numbers ballots → ¬ BeginsAnImage e (place + 1) bank → IsFirstWrong e bank place

@@ -12,7 +12,7 @@ ghost use Rattle.store_spec.specs.Layout.{MayStand};
 use crate::read::ImageFault;
 use crate::zeros::is_empty;
 use ballot_record::{CellKind, Election, Record, take_cell_into};
-use probe_order::{Order, Salted};
+use probe_order::Order;
 use std::alloc::{AllocError, Global};
 
 /// How many empty cells are passed at once.
@@ -142,6 +142,7 @@ fn pass_empty<'a>(cells: &mut CellsRead, bytes: &'a [u8], election: &Election) -
 }
 
 /// Reads one cell more. Most cells are empty, and judged with no call.
+#[tactic(auto, using(ballot_record::proofs::CellFormat::number_fits))]
 #[inline(always)]
 fn read_cell(cells: &mut CellsRead, bytes: &[u8], election: &Election) -> Result<(), ImageFault>
     requires election { IsElection election.now }
@@ -236,11 +237,7 @@ fn reach_of(election: &Election, cells: &[u64], reaches: &[u32], number: u64) ->
         ↔ MayStand (home_in election.now) cells.now number (length cells.now) }
     ensures reach { IfSome result (IsReach cells.now number (length cells.now)) }
 {
-    let order = Salted {
-        bits: election.bits(),
-        salt: election.salt(),
-    };
-    let home = order.home(number);
+    let home = election.order().home(number);
     if cells.len() < home {
         return None;
     }

@@ -4,8 +4,7 @@ ghost use Rattle.std.specs.Prelude.{◌≡◌, ◌≢◌, ℕ, ◌+◌, ◌<◌,
 ghost use Rattle.store_spec.specs.Election.{IsElection, header_size};
 ghost use Rattle.store_spec.specs.Image.{header_of};
 
-use crate::write::{HEADER_BYTES, header};
-use ballot_record::Election;
+use ballot_record::{Election, HEADER_BYTES, Header};
 use outside_io::Memory;
 use std::alloc::{AllocError, AllocFailed};
 use std::marker::Model;
@@ -63,12 +62,12 @@ pub fn check_header(bytes: &[u8], election: &Election) -> Result<(), ImageFault>
         (λ fault. fault ≡ ImageFault.OtherElection (take header_size bytes.now)) }
     ensures valid { IsElection election.now }
 {
-    let mut found = [0; HEADER_BYTES];
-    found.copy_from_slice(&bytes[..HEADER_BYTES]);
-    if found == header(election) {
+    let mut header = [0; HEADER_BYTES];
+    header.copy_from_slice(&bytes[..HEADER_BYTES]);
+    if header == Header::of(election).bytes {
         Ok(())
     } else {
-        Err(ImageFault::OtherElection { header: found })
+        Err(ImageFault::OtherElection { header })
     }
 }
 
@@ -84,7 +83,7 @@ impl Model for HeaderPart {
 
     ghost view = { λ a. take a.count a.bytes };
 
-    ghost invariant = { λ a. a.count ≤ 32 };
+    ghost invariant = { λ a. a.count ≤ header_size };
 }
 
 impl HeaderPart {

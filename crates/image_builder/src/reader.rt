@@ -10,8 +10,7 @@ ghost use Rattle.store_spec.specs.Image.{IsImageOf, header_of};
 
 use crate::cells::{CellsRead, no_cells, read_cells};
 use crate::read::{HeaderPart, ImageFault, check_header};
-use crate::write::HEADER_BYTES;
-use ballot_record::{Election, MAX_CONTESTS};
+use ballot_record::{Election, HEADER_BYTES, MAX_CONTESTS};
 use body_store::Closed;
 use outside_io::Memory;
 use std::alloc::Global;
@@ -42,6 +41,7 @@ impl Model for ImageReader {
 
 impl ImageReader {
     /// A reader for a bank of this election, which was fed nothing.
+    #[tactic(auto, using(ballot_record::proofs::CellFormat::number_fits))]
     pub fn new(alloc: Global, election: &Election) -> Result<ImageReader, Memory>
         ensures { IfOk result (λ reader. reader ≡ record { election = election.now; fed = [] }) }
     {

@@ -1,22 +1,20 @@
 //! The page through which banks are read and compared, and the bank from which they are written.
 
+ghost use Rattle.ballot_record.specs.Format.{largest_bank};
 ghost use Rattle.body_store.specs.Contents.{IsStored};
-ghost use Rattle.image_builder.specs.Page.{bank_room, page_size};
+ghost use Rattle.image_builder.specs.Page.{page_size};
 ghost use Rattle.std.specs.Prelude.{◌≡◌, ◌≤◌, IfOk, length, vec_capacity};
 ghost use Rattle.store_spec.specs.Election.{bank_size};
 ghost use Rattle.store_spec.specs.Image.{image_of};
 
-use crate::write::{HEADER_BYTES, MAX_CELL_BYTES, image_part, lengthen};
-use ballot_record::Election;
+use crate::write::{image_part, lengthen};
+use ballot_record::{Election, MAX_BANK_BYTES};
 use body_store::Closed;
 use outside_io::Memory;
 use std::alloc::Global;
 
 /// How many bytes a page of a bank has. The last page of a bank may have fewer.
 pub const PAGE_BYTES: usize = 4096;
-
-/// How many cells a bank has at most, whatever the election.
-const MOST_CELLS: usize = 98_304;
 
 /// A page for what a bank holds, and a whole bank for what it is to hold.
 #[derive(Drop)]
@@ -26,7 +24,7 @@ pub struct Scratch {
     /// The bytes of a bank. There is room for one of any election, so that none has to be asked for later.
     pub made: Vec<u8>,
     pub ghost found_page: { length found.items ≡ page_size },
-    pub ghost made_room: { bank_room ≤ vec_capacity made },
+    pub ghost made_room: { largest_bank ≤ vec_capacity made },
 }
 
 impl Scratch {
@@ -36,7 +34,7 @@ impl Scratch {
         ensures made { IfOk result (λ scratch. length scratch.made.items ≡ bank_size election.now) }
     {
         let found = vec![in alloc; 0; PAGE_BYTES]?;
-        let mut made = Vec::with_capacity(alloc, HEADER_BYTES + MOST_CELLS * MAX_CELL_BYTES)?;
+        let mut made = Vec::with_capacity(alloc, MAX_BANK_BYTES)?;
         lengthen(&mut made, election.bank_bytes());
         Ok(Scratch { found, made })
     }
@@ -49,13 +47,12 @@ impl Scratch {
     }
 
     /// Makes the image of a store.
-    pub fn make(&mut self, closed: &Closed, election: &Election)
-        requires { election.now ≡ closed.now.election }
-        ensures image { self.new.made.items ≡ image_of election.now closed.now.ballots }
-        ensures whole { length self.new.made.items ≡ bank_size election.now }
+    pub fn make(&mut self, closed: &Closed)
+        ensures image { self.new.made.items ≡ image_of closed.now.election closed.now.ballots }
+        ensures whole { length self.new.made.items ≡ bank_size closed.now.election }
         ensures stored { IsStored closed.now }
     {
-        self.fit(election);
-        image_part(closed, election, 0, &mut self.made);
+        self.fit(closed.election());
+        image_part(closed, 0, &mut self.made);
     }
 }

@@ -1,45 +1,34 @@
 //! The image of a store, as a whole or a part of it.
 
 ghost use Rattle.std.specs.Prelude.{◌≡◌, ℕ, ◌+◌, ◌-◌, ◌*◌, ◌≤◌, ◌<◌, ◌++◌, List, take, drop, length, flat_map, replicate, slice_index, IfOk, IfSome, IsPermutation, IsTrue, vec_capacity};
+ghost use Rattle.ballot_record.specs.Format.{largest_cell, number_size};
 ghost use Rattle.body_store.specs.Contents.{IsStored};
 ghost use Rattle.store_spec.specs.Ballot.{Ballot};
-ghost use Rattle.store_spec.specs.Election.{IsElection, bank_size, cell_count, cell_size};
-ghost use Rattle.store_spec.specs.Image.{cell_bytes, cells_of, header_of, image_of};
+ghost use Rattle.store_spec.specs.Election.{bank_size, cell_count, cell_size};
+ghost use Rattle.store_spec.specs.Image.{cell_bytes, cells_of, image_of};
 
-use ballot_record::Election;
+use ballot_record::{HEADER_BYTES, Header, MAX_CELL_BYTES};
 use body_store::Closed;
-use byteorder::{BigEndian, ByteOrder};
 use outside_io::Memory;
 use std::alloc::Global;
-
-/// How many bytes a header has.
-pub const HEADER_BYTES: usize = 32;
-
-/// The most bytes of a cell: a number, a style and the mark sets of sixteen contests.
-pub const MAX_CELL_BYTES: usize = 73;
 
 /// How many bytes are cleared at once, so that they are still near when the ballots are written over them.
 const BLOCK_BYTES: usize = 2000;
 
 const BLOCK: [u8; BLOCK_BYTES] = [0; BLOCK_BYTES];
 
-const MARK: [u8; 8] = *b"HIBSTORE";
-
-const VERSION: u16 = 1;
-
 /// The image of a store.
-pub fn image(alloc: Global, closed: &Closed, election: &Election) -> Result<Vec<u8>, Memory>
-    requires { election.now ≡ closed.now.election }
-    ensures image { IfOk result (λ bank. bank.items ≡ image_of election.now closed.now.ballots) }
+pub fn image(alloc: Global, closed: &Closed) -> Result<Vec<u8>, Memory>
+    ensures image { IfOk result (λ bank. bank.items ≡ image_of closed.now.election closed.now.ballots) }
 
     // The order in which the ballots are listed does not matter.
     ensures any_order { (ballots : List Ballot) → IsPermutation ballots closed.now.ballots
-        → IfOk result (λ bank. bank.items ≡ image_of election.now ballots) }
+        → IfOk result (λ bank. bank.items ≡ image_of closed.now.election ballots) }
 {
-    let end = election.bank_bytes();
+    let end = closed.election().bank_bytes();
     let mut bank = Vec::with_capacity(alloc, end)?;
     lengthen(&mut bank, end);
-    image_part(closed, election, 0, &mut bank);
+    image_part(closed, 0, &mut bank);
     Ok(bank)
 }
 
@@ -58,79 +47,83 @@ pub fn lengthen(bytes: &mut Vec<u8>, end: usize)
 }
 
 /// Writes the part of the image of a store that begins at a byte and is as long as `out`.
-pub fn image_part(closed: &Closed, election: &Election, from: usize, out: &mut [u8])
-    requires own { election.now ≡ closed.now.election }
-    requires within { from + length out.old ≤ bank_size election.now }
+pub fn image_part(closed: &Closed, from: usize, out: &mut [u8])
+    requires within { from + length out.old ≤ bank_size closed.now.election }
     ensures part { out.new
-        ≡ take (length out.old) (drop from (image_of election.now closed.now.ballots)) }
-    ensures whole { length (image_of election.now closed.now.ballots) ≡ bank_size election.now }
+        ≡ take (length out.old) (drop from (image_of closed.now.election closed.now.ballots)) }
+    ensures whole { length (image_of closed.now.election closed.now.ballots) ≡ bank_size closed.now.election }
     ensures stored { IsStored closed.now }
 {
-    prove!(closed.len() <= election.limit() as usize);
-    prove!(out.len() <= election.bank_bytes() - from);
+    prove!(out.len() <= closed.election().bank_bytes() - from);
     let mut done = 0;
     while done < out.len() {
-        done += put_piece(closed, election, from + done, &mut out[done..]);
+        done += put_piece(closed, from + done, &mut out[done..]);
     }
 }
 
+/// How many bytes a cell of a store has.
+fn size_of_cell(closed: &Closed) -> usize
+    ensures size { result ≡ cell_size closed.now.election }
+    ensures number { number_size ≤ result }
+    ensures at_most { result ≤ largest_cell }
+{
+    closed.election().cell_bytes()
+}
+
 /// Writes what stands in the header, or in a cell, from a byte of the image on. It answers how many bytes it wrote.
-fn put_piece(closed: &Closed, election: &Election, at: usize, out: &mut [u8]) -> usize
-    requires own { election.now ≡ closed.now.election }
+fn put_piece(closed: &Closed, at: usize, out: &mut [u8]) -> usize
     requires stored { IsStored closed.now }
-    requires within { at < bank_size election.now }
+    requires within { at < bank_size closed.now.election }
     requires some_room { 0 < length out.old }
     ensures progress { 0 < result }
     ensures within_room { result ≤ length out.old }
     ensures bytes { take result out.new
-        ≡ take result (drop at (image_of election.now closed.now.ballots)) }
+        ≡ take result (drop at (image_of closed.now.election closed.now.ballots)) }
 {
     if at < HEADER_BYTES {
-        return put_from(&header(election), at, out);
+        return put_from(&Header::of(closed.election()).bytes, at, out);
     }
-    let size = election.cell_bytes();
+    let size = size_of_cell(closed);
     let (cell, within) = ((at - HEADER_BYTES) / size, (at - HEADER_BYTES) % size);
     if within == 0 && size <= out.len() {
-        return put_cells(closed, election, cell, out);
+        return put_cells(closed, cell, out);
     }
-    put_cell_from(closed, election, cell, within, out)
+    put_cell_from(closed, cell, within, out)
 }
 
 /// Writes some cells from one on, as many as a block has and there is room for. It answers how many bytes they have.
-fn put_cells(closed: &Closed, election: &Election, first: usize, out: &mut [u8]) -> usize
-    requires own { election.now ≡ closed.now.election }
+fn put_cells(closed: &Closed, first: usize, out: &mut [u8]) -> usize
     requires stored { IsStored closed.now }
-    requires there { first < cell_count election.now }
-    requires some_room { cell_size election.now ≤ length out.old }
+    requires there { first < cell_count closed.now.election }
+    requires some_room { cell_size closed.now.election ≤ length out.old }
     ensures progress { 0 < result }
     ensures within_room { result ≤ length out.old }
     ensures bytes { take result out.new
-        ≡ take result (flat_map (cell_bytes election.now closed.now.ballots)
-        (drop first (cells_of election.now closed.now.ballots))) }
+        ≡ take result (flat_map (cell_bytes closed.now.election closed.now.ballots)
+        (drop first (cells_of closed.now.election closed.now.ballots))) }
 {
-    let size = election.cell_bytes();
-    let count = (election.cells() - first).min(out.len().min(BLOCK_BYTES) / size);
-    put_block(closed, election, first, count, &mut out[..count * size]);
+    let size = size_of_cell(closed);
+    let count = (closed.election().cells() - first).min(out.len().min(BLOCK_BYTES) / size);
+    put_block(closed, first, count, &mut out[..count * size]);
     count * size
 }
 
 /// Writes so many cells of a store from one on. All are empty at first, and those with a number are then written over.
-fn put_block(closed: &Closed, election: &Election, first: usize, count: usize, out: &mut [u8])
-    requires own { election.now ≡ closed.now.election }
+fn put_block(closed: &Closed, first: usize, count: usize, out: &mut [u8])
     requires stored { IsStored closed.now }
-    requires there { first + count ≤ cell_count election.now }
-    requires room { length out.old ≡ count * cell_size election.now }
-    ensures { out.new ≡ flat_map (cell_bytes election.now closed.now.ballots)
-        (take count (drop first (cells_of election.now closed.now.ballots))) }
+    requires there { first + count ≤ cell_count closed.now.election }
+    requires room { length out.old ≡ count * cell_size closed.now.election }
+    ensures { out.new ≡ flat_map (cell_bytes closed.now.election closed.now.ballots)
+        (take count (drop first (cells_of closed.now.election closed.now.ballots))) }
 {
-    let size = election.cell_bytes();
+    let size = size_of_cell(closed);
     let numbers = &closed.cells()[first..first + count];
     out.fill(0);
     let mut rest = past_empty(numbers);
     while let [_, behind @ ..] = rest {
         let place = count - rest.len();
         let at = place * size;
-        put_cell(closed, election, first + place, &mut out[at..at + size]);
+        put_cell(closed, first + place, &mut out[at..at + size]);
         rest = past_empty(behind);
     }
 }
@@ -180,42 +173,34 @@ fn past_one(numbers: &[u64]) -> Option<&[u64]>
 }
 
 /// Writes a cell of a store from one of its bytes on. It answers how many bytes it wrote.
-fn put_cell_from(
-    closed: &Closed,
-    election: &Election,
-    cell: usize,
-    from: usize,
-    out: &mut [u8],
-) -> usize
-    requires own { election.now ≡ closed.now.election }
+fn put_cell_from(closed: &Closed, cell: usize, from: usize, out: &mut [u8]) -> usize
     requires stored { IsStored closed.now }
-    requires there { cell < cell_count election.now }
-    requires within { from < cell_size election.now }
+    requires there { cell < cell_count closed.now.election }
+    requires within { from < cell_size closed.now.election }
     requires some_room { 0 < length out.old }
     ensures progress { 0 < result }
     ensures within_room { result ≤ length out.old }
-    ensures within_cell { from + result ≤ cell_size election.now }
+    ensures within_cell { from + result ≤ cell_size closed.now.election }
     ensures bytes { take result out.new
-        ≡ take result (drop from (cell_bytes election.now closed.now.ballots
-        (slice_index (cells_of election.now closed.now.ballots) cell))) }
+        ≡ take result (drop from (cell_bytes closed.now.election closed.now.ballots
+        (slice_index (cells_of closed.now.election closed.now.ballots) cell))) }
 {
-    let size = election.cell_bytes();
+    let size = size_of_cell(closed);
     let mut bytes = [0; MAX_CELL_BYTES];
-    put_cell(closed, election, cell, &mut bytes[..size]);
+    put_cell(closed, cell, &mut bytes[..size]);
     put_from(&bytes[..size], from, out)
 }
 
 /// Writes a cell of a store over the zeros of an empty one.
-fn put_cell(closed: &Closed, election: &Election, cell: usize, out: &mut [u8])
-    requires own { election.now ≡ closed.now.election }
+fn put_cell(closed: &Closed, cell: usize, out: &mut [u8])
     requires stored { IsStored closed.now }
-    requires there { cell < cell_count election.now }
-    requires blank { out.old ≡ replicate (cell_size election.now) 0 }
-    ensures { out.new ≡ cell_bytes election.now closed.now.ballots
-        (slice_index (cells_of election.now closed.now.ballots) cell) }
+    requires there { cell < cell_count closed.now.election }
+    requires blank { out.old ≡ replicate (cell_size closed.now.election) 0 }
+    ensures { out.new ≡ cell_bytes closed.now.election closed.now.ballots
+        (slice_index (cells_of closed.now.election closed.now.ballots) cell) }
 {
     if let Some(record) = closed.record_in(cell) {
-        record.put_cell(election, out);
+        record.put_cell(closed.election(), out);
     }
 }
 
@@ -231,19 +216,4 @@ fn put_from(bytes: &[u8], from: usize, out: &mut [u8]) -> usize
     let count = out.len().min(bytes.len() - from);
     out[..count].copy_from_slice(&bytes[from..from + count]);
     count
-}
-
-/// The header of the images of an election.
-pub fn header(election: &Election) -> [u8; HEADER_BYTES]
-    ensures header { result ≡ header_of election.now }
-    ensures valid { IsElection election.now }
-{
-    let mut header = [0; HEADER_BYTES];
-    header[..8].copy_from_slice(&MARK);
-    BigEndian::write_u16(&mut header[8..], VERSION);
-    header[10] = election.bits();
-    header[11] = election.contests() as u8;
-    BigEndian::write_u32(&mut header[12..], election.limit());
-    BigEndian::write_u64(&mut header[16..], election.salt());
-    header
 }

@@ -1,4 +1,5 @@
 //! Media in memory, and the calls that make them.
+#![tactic(auto, unfolding(store_spec::specs::Election::cell_size))]
 
 ghost use Rattle.std.specs.Prelude.{◌≡◌, ◌<◌, length, IfOk};
 
@@ -112,9 +113,9 @@ fn checkpointed_twice(rt: &impl Abort, alloc: Global) -> Result<MemoryDisk, Fail
     let mut scratch = Scratch::new(alloc, &election)?;
     init(alloc, &mut disk, &election, &mut scratch)?;
     let closed = read_image(alloc, &three_ballots(), &election)?;
-    checkpoint(&mut disk, &closed, &election, &mut scratch)?;
+    checkpoint(&mut disk, &closed, &mut scratch)?;
     assert_three(rt, &disk, 21);
-    checkpoint(&mut disk, &closed, &election, &mut scratch)?;
+    checkpoint(&mut disk, &closed, &mut scratch)?;
     assert_three(rt, &disk, 33);
     Ok(disk)
 }
@@ -195,7 +196,7 @@ fn one_ballot(rt: &impl Abort, alloc: Global, election: &Election) -> Result<Clo
     ensures { IfOk result (λ store. store.election ≡ election.now) }
 {
     let empty = Closed::empty(alloc, election)?;
-    let mut bank = image(alloc, &empty, election)?;
+    let mut bank = image(alloc, &empty)?;
     assert!(rt; bank.len() == 1_671_200);
     assert!(rt; bank.len() == election.bank_bytes());
     bank[688_590] = 1;
@@ -225,7 +226,7 @@ fn two_pages_of_a_large_store(rt: HostRuntime) -> Result<(), Fail> {
     assert_eq!(rt; disk.calls(), 823);
     assert_eq!(rt; disk.bytes().len(), 3_342_402);
     let closed = one_ballot(&rt, alloc, &election)?;
-    checkpoint(&mut disk, &closed, &election, &mut scratch)?;
+    checkpoint(&mut disk, &closed, &mut scratch)?;
     let writes = page_writes(alloc, &disk, 823)?;
     assert_eq!(rt;
         writes.as_slice(),
@@ -234,7 +235,7 @@ fn two_pages_of_a_large_store(rt: HostRuntime) -> Result<(), Fail> {
     let calls = disk.calls();
     assert_eq!(rt; calls, 823 + 830);
     // What stands is not written again.
-    checkpoint(&mut disk, &closed, &election, &mut scratch)?;
+    checkpoint(&mut disk, &closed, &mut scratch)?;
     assert_eq!(rt; page_writes(alloc, &disk, calls)?.as_slice(), [].as_slice());
     assert_eq!(rt; disk.calls(), calls + 828);
     Ok(())

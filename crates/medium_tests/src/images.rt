@@ -1,4 +1,5 @@
 //! Banks of the example election and of one with a single home.
+#![tactic(auto, unfolding(store_spec::specs::Election::cell_size))]
 
 ghost use Rattle.image_builder.specs.Reading.{IsRefusedBank};
 ghost use Rattle.std.specs.Prelude.{◌≡◌, ◌≢◌, ◌<◌, IfErr, IfOk, length};
@@ -51,10 +52,10 @@ fn three_ballots(rt: HostRuntime) {
         let record = read_line(line.as_bytes(), &election).ok();
         assert_eq!(rt; store.record_of(number), record, "{number}");
     }
-    let made = image(rt.alloc(), &store, &election).expect(&rt, "memory");
+    let made = image(rt.alloc(), &store).expect(&rt, "memory");
     assert_eq!(rt; made.as_slice(), bytes.as_slice());
     let mut part = [0; 50];
-    image_part(&store, &election, 20, &mut part);
+    image_part(&store, 20, &mut part);
     assert_eq!(rt; part.as_slice(), &bytes[20..70]);
 }
 
@@ -64,7 +65,7 @@ fn no_ballots(rt: HostRuntime) {
     let mut bytes = [0; 304];
     bytes[..32].copy_from_slice(&HEADER);
     let store = Closed::empty(rt.alloc(), &election).expect(&rt, "memory");
-    let made = image(rt.alloc(), &store, &election).expect(&rt, "memory");
+    let made = image(rt.alloc(), &store).expect(&rt, "memory");
     assert_eq!(rt; made.as_slice(), bytes.as_slice());
     let read = read_image(rt.alloc(), &bytes, &election)
         .ok()

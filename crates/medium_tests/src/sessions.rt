@@ -31,7 +31,7 @@ fn handle<R: Threads + Sync, D: Disk, K: Sink>(
     let mut scratch = Scratch::new(alloc, &election)?;
     init(alloc, disk, &election, &mut scratch)?;
     let closed = Closed::empty(alloc, &election)?;
-    let mut session = Session::telling(alloc, closed, election, telling);
+    let mut session = Session::telling(alloc, closed, telling);
     'lines: for (at, line) in lines.iter().enumerate() {
         let number = at as u64 + 1;
         let bytes = line.as_bytes();
@@ -69,7 +69,7 @@ fn a_session_begins_closed(rt: HostRuntime) -> Result<(), Fail> {
     let alloc = rt.alloc();
     let election = Election::example();
     let closed = Closed::empty(alloc, &election)?;
-    let session = Session::new(alloc, closed, election);
+    let session = Session::new(alloc, closed);
     assert_eq!(rt; session.phase(), Phase::Closed);
     Ok(())
 }

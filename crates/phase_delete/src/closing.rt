@@ -10,10 +10,8 @@ ghost use Rattle.store_spec.specs.WithdrawStep.{fresh_view};
 ghost use Rattle.word_rule.specs.Stores.{AreWordsOf};
 
 use crate::{Withdrawal, Withdrawer};
-use ballot_record::Election;
 use body_store::Closed;
 use outside_io::Memory;
-use probe_order::Salted;
 use std::alloc::Global;
 use step_core::{Shape, WithdrawReply};
 use word_rule::{WithdrawSeat, WithdrawWords};
@@ -22,11 +20,9 @@ use word_rule::{WithdrawSeat, WithdrawWords};
 pub fn opened(
     alloc: Global,
     closed: &Closed,
-    election: &Election,
     plan: &[u32],
 ) -> Result<(Shape, WithdrawWords, Vec<Withdrawer>), Memory>
-    requires own { election.now ≡ closed.now.election }
-    requires some_withdrawer { 1 ≤ length plan.now }
+    requires { 1 ≤ length plan.now }
     ensures shape { IfOk result (λ made. made.0 ≡ made.1.shape) }
     ensures words { IfOk result (λ made. AreWordsOf closed.now.election closed.now.ballots made.1) }
     ensures seats { IfOk result (λ made. made.1.seats ≡ length plan.now) }
@@ -34,11 +30,9 @@ pub fn opened(
         (λ made. made.2.items
         ≡ map (new_withdrawer (record { base = closed.now; words = made.1 })) plan.now) }
 {
+    let election = closed.election();
     let shape = Shape {
-        order: Salted {
-            bits: election.bits(),
-            salt: election.salt(),
-        },
+        order: election.order(),
         cells: election.cells(),
         claims: 0,
     };
@@ -72,6 +66,7 @@ pub fn after_phase(
     words: WithdrawWords,
     tabs: Vec<Withdrawer>,
 ) -> Result<(Closed, Vec<Vec<WithdrawReply>>), Memory>
+    requires stored { IsStored closed.now }
     requires all { AreAll (record { base = closed.now; words = words }) tabs.items }
     requires words { AreWordsOf closed.now.election closed.now.ballots words }
     ensures election { IfOk result (λ ended. ended.0.election ≡ closed.now.election) }
@@ -83,7 +78,7 @@ pub fn after_phase(
     let (seats, trays) = taken_apart(alloc, tabs)?;
     let withdrawn = withdrawn(alloc, &trays)?;
     let cells = words.close(alloc, seats)?;
-    let after = closed.without(alloc, closed.election(), &withdrawn, cells)?;
+    let after = closed.without(alloc, &withdrawn, cells)?;
     let replies = all_replies(alloc, &trays)?;
     Ok((after, replies))
 }

@@ -14,7 +14,6 @@ ghost use Rattle.word_rule.specs.Stores.{AreWordsOf};
 use crate::Withdrawer;
 use crate::closing::{after_phase, opened};
 use crate::removing::remove;
-use ballot_record::Election;
 use body_store::Closed;
 use layout_def::place_of;
 use outside_io::Memory;
@@ -50,10 +49,8 @@ impl WithdrawPhase {
     pub fn begin(
         alloc: Global,
         closed: Closed,
-        election: &Election,
         plan: &[u32],
     ) -> Result<(WithdrawPhase, Vec<Withdrawer>), (Closed, Memory)>
-        requires own { election.now ≡ closed.election }
         requires some_withdrawer { 1 ≤ length plan.now }
         requires few_withdrawers { length plan.now ≤ 64 }
         ensures base { IfOk result (λ begun. begun.0.base ≡ closed) }
@@ -63,7 +60,7 @@ impl WithdrawPhase {
             (λ begun. begun.1.items ≡ map (new_withdrawer begun.0) plan.now) }
         ensures given_back { IfErr result (λ refused. refused.0 ≡ closed) }
     {
-        match opened(alloc, &closed, election, plan) {
+        match opened(alloc, &closed, plan) {
             Ok((shape, words, withdrawers)) => Ok((
                 WithdrawPhase {
                     closed,

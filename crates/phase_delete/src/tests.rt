@@ -107,7 +107,7 @@ fn run<R: Threads + Abort + Sync, T: Turns>(
 {
     let election = *closed.election();
     let plan = lengths(rt, alloc, work)?;
-    match WithdrawPhase::begin(alloc, closed, &election, &plan) {
+    match WithdrawPhase::begin(alloc, closed, &plan) {
         Ok((phase, tabs)) => {
             let mut tabs = tabs;
             run_withdraw(rt, &phase, &mut tabs, work, turns);
@@ -172,7 +172,7 @@ fn lists_of_numbers(rt: HostRuntime) -> Result<(), Fail> {
 fn one_number(rt: HostRuntime) -> Result<(), Fail> {
     let two = store(&rt, rt.alloc(), &Election::example(), &[9, 22])?;
     let election = *two.election();
-    let (phase, mut tabs) = WithdrawPhase::begin(rt.alloc(), two, &election, &[1]).map_err(
+    let (phase, mut tabs) = WithdrawPhase::begin(rt.alloc(), two, &[1]).map_err(
         |refused| refused.1,
     )?;
     let mut tab = tabs.pop().ok_or("no withdrawer")?;

@@ -13,17 +13,6 @@ use std::thread::{Threads, for_each_mut};
 /// No two threads write within so many bytes of each other.
 const APART: usize = 64;
 
-/// Where the numbers of a store belong.
-fn order_of(closed: &Closed) -> Salted
-    ensures { (result.bits ≡ closed.now.election.bits) × (result.salt ≡ closed.now.election.salt) }
-{
-    let election = closed.election();
-    Salted {
-        bits: election.bits(),
-        salt: election.salt(),
-    }
-}
-
 /// The word in the home cell of a number.
 fn peek(order: &Salted, cells: &[u64], number: u64) -> u64 {
     cells.get(order.home(number)).copied().unwrap_or(0)
@@ -61,7 +50,7 @@ fn look_up<T: Turns>(closed: &Closed, tab: usize, list: &[u64], found: &mut [boo
     requires { length found.old ≡ length list.now }
     ensures { found.new ≡ map (is_present closed.now.ballots) list.now }
 {
-    let order = order_of(closed);
+    let order = closed.election().order();
     for (index, answer) in found.iter_mut().enumerate() {
         let number = list[index];
         turns.turn(tab, index, peek(&order, closed.cells(), number));

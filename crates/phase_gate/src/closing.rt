@@ -9,7 +9,7 @@ ghost use Rattle.store_spec.specs.Session.{ClosesCasting, ClosesFinding, ClosesW
 
 use crate::telling::Telling;
 use crate::text::tell_closing;
-use ballot_record::{Election, Record};
+use ballot_record::Record;
 use body_store::Closed;
 use outside_io::{Memory, Turns};
 use phase_play::{play_casting, play_finding, play_withdrawing};
@@ -21,22 +21,20 @@ pub fn close_casting<R: Threads + Sync, T: Turns>(
     rt: &R,
     alloc: Global,
     closed: Closed,
-    election: &Election,
     lists: Vec<Vec<Record>>,
     turns: &T,
     telling: Telling,
     reply: &mut String,
 ) -> Result<Closed, Memory>
-    requires own { election.now ≡ closed.election }
     requires lists { AreLists lists.items }
-    requires valid { All (λ list. All (IsValid election.now) (ballots_of list.items)) lists.items }
+    requires valid { All (λ list. All (IsValid closed.election) (ballots_of list.items)) lists.items }
     requires nothing { string_bytes reply.old ≡ [] }
-    ensures election { IfOk result (λ store. store.election ≡ election.now) }
-    ensures closes { IfOk result (λ store. Tells telling (ClosesCasting election.now closed.ballots
+    ensures election { IfOk result (λ store. store.election ≡ closed.election) }
+    ensures closes { IfOk result (λ store. Tells telling (ClosesCasting closed.election closed.ballots
         (map (λ list. ballots_of list.items) lists.items))
         (replies (string_bytes reply.new) (begun store.ballots))) }
 {
-    let (after, finals) = play_casting(rt, alloc, closed, election, lists, turns)?;
+    let (after, finals) = play_casting(rt, alloc, closed, lists, turns)?;
     tell_closing(reply, telling, &finals, after.len())?;
     Ok(after)
 }
@@ -46,21 +44,19 @@ pub fn close_withdrawing<R: Threads + Sync, T: Turns>(
     rt: &R,
     alloc: Global,
     closed: Closed,
-    election: &Election,
     lists: &[Vec<u64>],
     turns: &T,
     telling: Telling,
     reply: &mut String,
 ) -> Result<Closed, Memory>
-    requires own { election.now ≡ closed.election }
     requires lists { AreLists lists.now }
     requires nothing { string_bytes reply.old ≡ [] }
-    ensures election { IfOk result (λ store. store.election ≡ election.now) }
+    ensures election { IfOk result (λ store. store.election ≡ closed.election) }
     ensures closes { IfOk result (λ store. Tells telling (ClosesWithdrawing closed.ballots
         (map (λ list. list.items) lists.now))
         (replies (string_bytes reply.new) (begun store.ballots))) }
 {
-    let (after, answers) = play_withdrawing(rt, alloc, closed, election, lists, turns)?;
+    let (after, answers) = play_withdrawing(rt, alloc, closed, lists, turns)?;
     tell_closing(reply, telling, &answers, after.len())?;
     Ok(after)
 }

@@ -261,13 +261,12 @@ impl Gate {
         ensures election { IfOk result (λ answer. answer.gate.closed.election ≡ self.closed.election) }
     {
         let Gate { closed, work } = self;
-        let election = *closed.election();
         let closed = match work {
             Work::Casting(lists) => {
-                close_casting(rt, alloc, closed, &election, lists, turns, telling, reply)?
+                close_casting(rt, alloc, closed, lists, turns, telling, reply)?
             }
             Work::Withdrawing(lists) => {
-                close_withdrawing(rt, alloc, closed, &election, &lists, turns, telling, reply)?
+                close_withdrawing(rt, alloc, closed, &lists, turns, telling, reply)?
             }
             Work::Finding(lists) => {
                 close_finding(rt, alloc, &closed, &lists, turns, telling, reply)?;

@@ -17,7 +17,6 @@ use crate::report::Report;
 use crate::telling::Telling;
 use crate::work::Work;
 use crate::writing::{tell, tell_task};
-use ballot_record::Election;
 use body_store::Closed;
 use checkpoint::checkpoint;
 use crash_disk::Disk;
@@ -47,23 +46,20 @@ impl Model for Session {
 
 impl Session {
     /// It begins closed, with the store that is held. It tells all of its replies.
-    pub fn new(alloc: Global, closed: Closed, election: Election) -> Session
-        requires own { election ≡ closed.election }
-        ensures election { result.election ≡ election }
+    pub fn new(alloc: Global, closed: Closed) -> Session
+        ensures election { result.election ≡ closed.election }
         ensures begun { result.state ≡ begun closed.ballots }
         ensures telling { result.telling ≡ Telling.All }
     {
-        Session::telling(alloc, closed, election, Telling::All)
+        Session::telling(alloc, closed, Telling::All)
     }
 
     /// The same, and this is what it tells of its replies.
-    pub fn telling(alloc: Global, closed: Closed, election: Election, telling: Telling) -> Session
-        requires own { election ≡ closed.election }
-        ensures election { result.election ≡ election }
+    pub fn telling(alloc: Global, closed: Closed, telling: Telling) -> Session
+        ensures election { result.election ≡ closed.election }
         ensures begun { result.state ≡ begun closed.ballots }
         ensures telling { result.telling ≡ telling }
     {
-        let _ = election;
         Session {
             gate: Gate {
                 closed,
@@ -199,7 +195,7 @@ fn acknowledge<D: Disk>(
     if report.marks.reserve(1).is_err() {
         return Err(SessionFault::Memory);
     }
-    if checkpoint(disk, &gate.closed, gate.closed.election(), scratch).is_err() {
+    if checkpoint(disk, &gate.closed, scratch).is_err() {
         return Err(SessionFault::DiskFault);
     }
     report.marks.push_reserved(disk.calls());

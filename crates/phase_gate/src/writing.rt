@@ -48,7 +48,7 @@ pub fn tell_task<R: Threads + Sync, K: Sink>(
     match task {
         Task::Nothing | Task::Acknowledge => tell(text, out),
         Task::Tally => tell_tally(rt, alloc, gate, out),
-        Task::Export => export(alloc, &gate.closed, gate.closed.election(), out),
+        Task::Export => export(alloc, &gate.closed, out),
     }
 }
 
@@ -68,7 +68,6 @@ fn tell_tally<R: Threads + Sync, K: Sink>(
     ensures fault { CountsFaultIf (result ≡ Err PutFault.WriteFault)
         (K.faults out.old) (K.faults out.new) }
 {
-    let election = gate.closed.election();
-    let counts = tally_threads(rt, &gate.closed, election, PARTS);
-    write_tally(alloc, &counts, &gate.closed, election, out)
+    let counts = tally_threads(rt, &gate.closed, PARTS);
+    write_tally(alloc, &counts, &gate.closed, out)
 }

@@ -11,10 +11,9 @@ ghost use Rattle.std.specs.Prelude.{◌≡◌, ◌≤◌, ◌++◌, [], All, IfO
 ghost use Rattle.store_spec.specs.CastStep.{fresh_view};
 
 use crate::{Cast, CastReply, Final, Tabulator};
-use ballot_record::{Election, Record};
+use ballot_record::Record;
 use body_store::Closed;
 use outside_io::Memory;
-use probe_order::Salted;
 use std::alloc::Global;
 use step_core::Shape;
 use word_rule::{CastSeat, CastWords};
@@ -23,11 +22,9 @@ use word_rule::{CastSeat, CastWords};
 pub fn opened(
     alloc: Global,
     closed: &Closed,
-    election: &Election,
     plan: &[u32],
 ) -> Result<(Shape, CastWords, Vec<Tabulator>), Memory>
-    requires own { election.now ≡ closed.now.election }
-    requires some_tabulator { 1 ≤ length plan.now }
+    requires { 1 ≤ length plan.now }
     ensures shape { IfOk result (λ made. made.0 ≡ made.1.shape) }
     ensures words { IfOk result (λ made. AreCastWordsOf closed.now made.1) }
     ensures seats { IfOk result (λ made. made.1.seats ≡ length plan.now) }
@@ -35,11 +32,9 @@ pub fn opened(
         (λ made. made.2.items
         ≡ map (new_tabulator (record { base = closed.now; words = made.1 })) plan.now) }
 {
+    let election = closed.election();
     let shape = Shape {
-        order: Salted {
-            bits: election.bits(),
-            salt: election.salt(),
-        },
+        order: election.order(),
         cells: election.cells(),
         claims: election.limit() as usize - closed.len(),
     };

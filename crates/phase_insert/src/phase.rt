@@ -13,7 +13,7 @@ ghost use Rattle.store_spec.specs.CastStep.CastState.{Rest};
 use crate::claiming::claim;
 use crate::closing::{after_phase, opened};
 use crate::{CastReply, Final, Tabulator};
-use ballot_record::{Election, Record};
+use ballot_record::Record;
 use body_store::Closed;
 use outside_io::Memory;
 use probe_order::Order;
@@ -48,10 +48,8 @@ impl CastPhase {
     pub fn begin(
         alloc: Global,
         closed: Closed,
-        election: &Election,
         plan: &[u32],
     ) -> Result<(CastPhase, Vec<Tabulator>), (Closed, Memory)>
-        requires own { election.now ≡ closed.election }
         requires some_tabulator { 1 ≤ length plan.now }
         requires few_tabulators { length plan.now ≤ 64 }
         ensures base { IfOk result (λ begun. begun.0.base ≡ closed) }
@@ -61,7 +59,7 @@ impl CastPhase {
             (λ begun. begun.1.items ≡ map (new_tabulator begun.0) plan.now) }
         ensures given_back { IfErr result (λ refused. refused.0 ≡ closed) }
     {
-        match opened(alloc, &closed, election, plan) {
+        match opened(alloc, &closed, plan) {
             Ok((shape, words, tabulators)) => Ok((
                 CastPhase {
                     closed,

@@ -4,6 +4,7 @@
 ghost use Rattle.body_store.specs.Contents.{ballots_of};
 ghost use Rattle.std.specs.Prelude.{◌≡◌, ◌≤◌, All, IfOk, length, map};
 ghost use Rattle.store_spec.specs.Ballot.{IsValid};
+ghost use Rattle.store_spec.specs.Election.{example};
 
 use crate::{Cast, CastPhase, CastReply, Final, Tabulator, run_cast};
 use Final::{Accepted, Conflict, Duplicate, Full};
@@ -152,7 +153,7 @@ fn run<R: Threads + Abort + Sync, T: Turns>(
     let election = *closed.election();
     all_valid(rt, &election, work);
     let plan = lengths(rt, alloc, work)?;
-    match CastPhase::begin(alloc, closed, &election, &plan) {
+    match CastPhase::begin(alloc, closed, &plan) {
         Ok((phase, tabs)) => {
             let mut tabs = tabs;
             run_cast(rt, &phase, &mut tabs, work, turns);
@@ -201,13 +202,13 @@ fn lists_of_ballots(rt: HostRuntime) -> Result<(), Fail> {
 }
 
 /// A tabulator casts one ballot.
-fn casts_nine(rt: &impl Abort, phase: &CastPhase, election: &Election, tab: &mut Tabulator)
+fn casts_nine(rt: &impl Abort, phase: &CastPhase, tab: &mut Tabulator)
     requires belongs { tab.old.phase ≡ phase.now }
-    requires own { election.now ≡ phase.now.base.election }
+    requires example { phase.now.base.election ≡ example }
 {
     let nine = ballot(9, 1);
     assert_eq!(rt; tab.room(), 1);
-    assert!(rt; nine.valid(election));
+    assert!(rt; nine.valid(&Election::example()));
     let reply = tab.cast(phase, nine);
     assert_eq!(rt; reply, CastReply::Accepted);
     let told = Cast {
@@ -222,11 +223,11 @@ fn casts_nine(rt: &impl Abort, phase: &CastPhase, election: &Election, tab: &mut
 fn casts_alone(rt: &impl Abort, alloc: Global) -> Result<(), Memory> {
     let election = Election::example();
     let empty = Closed::empty(alloc, &election)?;
-    match CastPhase::begin(alloc, empty, &election, &[1]) {
+    match CastPhase::begin(alloc, empty, &[1]) {
         Ok((phase, tabs)) => {
             let mut tabs = tabs;
             let mut tab = tabs.pop().expect(rt, "a tabulator");
-            casts_nine(rt, &phase, &election, &mut tab);
+            casts_nine(rt, &phase, &mut tab);
             Ok(())
         }
         Err((_, memory)) => Err(memory),

@@ -6,7 +6,7 @@ ghost use Rattle.std.specs.Prelude.{◌≡◌, ◌≤◌, All, IfOk, length, map
 ghost use Rattle.store_spec.specs.Ballot.{IsValid};
 
 use crate::plan_of;
-use ballot_record::{Election, Record};
+use ballot_record::Record;
 use body_store::Closed;
 use outside_io::{Memory, Turns};
 use phase_insert::{CastPhase, Final, run_cast};
@@ -20,23 +20,21 @@ pub fn play_casting<R: Threads + Sync, T: Turns>(
     rt: &R,
     alloc: Global,
     closed: Closed,
-    election: &Election,
     work: Vec<Vec<Record>>,
     turns: &T,
 ) -> Result<(Closed, Vec<Vec<Final>>), Memory>
-    requires own { election.now ≡ closed.election }
     requires some_list { 1 ≤ length work.items }
     requires few_lists { length work.items ≤ 64 }
-    requires valid { All (λ list. All (IsValid election.now) (ballots_of list.items)) work.items }
-    ensures election { IfOk result (λ played. played.0.election ≡ election.now) }
+    requires valid { All (λ list. All (IsValid closed.election) (ballots_of list.items)) work.items }
+    ensures election { IfOk result (λ played. played.0.election ≡ closed.election) }
     ensures stored { IfOk result (λ played. IsStored played.0) }
-    ensures plays { IfOk result (λ played. PlaysCasting election.now closed.ballots
+    ensures plays { IfOk result (λ played. PlaysCasting closed.election closed.ballots
         (map (λ list. ballots_of list.items) work.items)
         (map (λ list. map reply_of list.items) played.1.items) played.0.ballots) }
 {
     let lists = work.as_slice();
     let plan = plan_of(alloc, lists)?;
-    let (phase, mut tabs) = match CastPhase::begin(alloc, closed, election, &plan) {
+    let (phase, mut tabs) = match CastPhase::begin(alloc, closed, &plan) {
         Ok(begun) => begun,
         Err((_, memory)) => return Err(memory),
     };

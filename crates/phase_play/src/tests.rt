@@ -61,7 +61,7 @@ fn one_phase_after_another(rt: HostRuntime) -> Result<(), Fail> {
         cast(alloc, &election, &[ballot(9, 1), ballot(1, 0)])?,
         cast(alloc, &election, &[ballot(14, 2)])?,
     ]?;
-    let (three, finals) = play_casting(&rt, alloc, empty, &election, work, &NoTurns)?;
+    let (three, finals) = play_casting(&rt, alloc, empty, work, &NoTurns)?;
     holds(&rt, &three, &[(4, 9), (5, 14), (6, 1)]);
     same(
         &rt,
@@ -76,7 +76,7 @@ fn one_phase_after_another(rt: HostRuntime) -> Result<(), Fail> {
             &[ballot(22, 0), ballot(9, 1), ballot(14, 1), ballot(22, 1)],
         )?,
     ]?;
-    let (four, finals) = play_casting(&rt, alloc, three, &election, more, &NoTurns)?;
+    let (four, finals) = play_casting(&rt, alloc, three, more, &NoTurns)?;
     holds(&rt, &four, &[(4, 22), (5, 14), (6, 9), (7, 1)]);
     same(
         &rt,
@@ -100,7 +100,7 @@ fn one_phase_after_another(rt: HostRuntime) -> Result<(), Fail> {
         Vec::from_slice(alloc, &[22, 5])?,
         Vec::from_slice(alloc, &[9, 9])?,
     ];
-    let (two, replies) = play_withdrawing(&rt, alloc, four, &election, &gone, &NoTurns)?;
+    let (two, replies) = play_withdrawing(&rt, alloc, four, &gone, &NoTurns)?;
     holds(&rt, &two, &[(4, 1), (5, 14)]);
     same(
         &rt,
@@ -123,7 +123,7 @@ fn a_ninth_ballot(rt: HostRuntime) -> Result<(), Fail> {
         record.number = place as u64 + 1;
     }
     let work = vec![in alloc; cast(alloc, &election, &ballots)?]?;
-    let (full, finals) = play_casting(&rt, alloc, empty, &election, work, &NoTurns)?;
+    let (full, finals) = play_casting(&rt, alloc, empty, work, &NoTurns)?;
     assert_eq!(rt; full.len(), 8);
     let mut wanted = [Final::Accepted; 9];
     wanted[8] = Final::Full;

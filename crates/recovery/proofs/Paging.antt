@@ -91,11 +91,6 @@ same_more xs ys at k before here = sym (pages_more xs (take at xs) (slice_range 
 pub same_all : (xs ys : List ℕ) (at : ℕ) → length xs ≤ at → length ys ≤ at → take at xs ≡ take at ys → xs ≡ ys
 same_all xs ys at far near same = sym (take_all at xs far) ∙ same ∙ take_all at ys near
 
--- the image of a store is as long as a bank
-pub stored_image : (e : Election) (store : Contents) → e ≡ store.election → IsStored store → length (image_of e store.ballots) ≡ bank_size e
-stored_image e store own stored =
-    subst (λ (x : Election). length (image_of x store.ballots) ≡ bank_size x) (sym own) (image_fits store.election store.ballots stored.election stored.set stored.within_limit)
-
 pub stored_election : (e : Election) (store : Contents) → e ≡ store.election → IsStored store → IsElection e
 stored_election e store own stored = subst IsElection (sym own) stored.election
 

@@ -25,9 +25,6 @@ next_reply list words at word within is =
     ap (reply_lines list (at + 1)) (drop-cons words at word within ∙ ap (λ w. w ∷ drop (suc at) words) is)
     ∙ ap (λ i. reply_line list (at + 1) word ++ reply_lines list (at + 1 + 1) (drop i words)) (sym (add-one at))
 
-pub no_reply : (list : ℕ) (words : List (List ℕ)) (at : ℕ) → length words ≡ at → reply_lines list (at + 1) (drop at words) ≡ []
-no_reply list words at all = ap (λ i. reply_lines list (at + 1) (drop i words)) (sym all) ∙ ap (reply_lines list (at + 1)) (drop-length words)
-
 pub next_list : (lists : List (List (List ℕ))) (list : ℕ) → list < length lists → all_reply_lines (list + 1) (drop list lists) ≡ reply_lines (list + 1) 1 (get_or lists list []) ++ all_reply_lines (list + 1 + 1) (drop (list + 1) lists)
 next_list lists list within =
     ap (all_reply_lines (list + 1)) (drop-cons lists list [] within)
@@ -35,9 +32,6 @@ next_list lists list within =
 
 pub stands : (lists : List (List (List ℕ))) (list : ℕ) → list < length lists → slice_get lists list ≡ Some (get_or lists list [])
 stands lists list within = slice_get-get_or lists list [] within
-
-pub no_list : (lists : List (List (List ℕ))) (list : ℕ) → length lists ≡ list → all_reply_lines (list + 1) (drop list lists) ≡ []
-no_list lists list all = ap (λ i. all_reply_lines (list + 1) (drop i lists)) (sym all) ∙ ap (all_reply_lines (list + 1)) (drop-length lists)
 
 -- ---- lines that are gathered in a block
 

@@ -55,14 +55,6 @@ takes_behind bytes (Some x) is =
 pub takes_first : (bytes rest : List ℕ) (o : Option (ℕ × List ℕ)) → bytes ≡ 32 ∷ rest → o ≡ digits_at most 0 rest → TakesNumber o bytes
 takes_first bytes rest o front is = subst (TakesNumber o) (sym front) (takes_behind rest o is)
 
--- no space stands first
-pub takes_nothing : (bytes : List ℕ) → ((rest : List ℕ) → bytes ≢ 32 ∷ rest) → TakesNumber None bytes
-takes_nothing [] none = λ ns some h. omega arith
-takes_nothing (byte ∷ bytes) none = λ ns some h. nothing byte bytes none ns h where
-  nothing : (byte : ℕ) (bytes : List ℕ) → ((rest : List ℕ) → byte ∷ bytes ≢ 32 ∷ rest) → (ns : List ℕ) → ¬ AreNumbers (byte ∷ bytes) ns
-  nothing byte bytes none [] h = let e : byte ∷ bytes ≡ [] = h.spelled in cc
-  nothing byte bytes none (n ∷ ns) h = none (decimal n ++ flat_map number_text ns) h.spelled
-
 -- ---- one after another
 
 -- These numbers were read, and this is left. Whatever numbers the bytes are, these are the first of them.

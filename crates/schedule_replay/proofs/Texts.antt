@@ -7,6 +7,3 @@ pub next_cell : (cells : List ℕ) (place number : ℕ) → place < length cells
 next_cell cells place number within is =
     ap (cell_lines place) (drop-cons cells place 0 within ∙ ap (λ n. n ∷ drop (suc place) cells) is)
     ∙ ap (λ i. cell_lines_at place number ++ cell_lines (place + 1) (drop i cells)) (sym (add-one place))
-
-pub no_cell : (cells : List ℕ) (place : ℕ) → length cells ≡ place → cell_lines place (drop place cells) ≡ []
-no_cell cells place all = ap (λ i. cell_lines place (drop i cells)) (sym all) ∙ ap (cell_lines place) (drop-length cells)

@@ -11,19 +11,8 @@ use crate::run::replay_text;
 use crate::script::Script;
 use ballot_record::Election;
 use outside_io::{Memory, Sink, Source};
-use probe_order::Salted;
 use std::alloc::Global;
 use step_core::{CastCore, WithdrawCore};
-
-fn salted(election: &Election) -> Salted
-    ensures bits { result.bits ≡ election.now.bits }
-    ensures salt { result.salt ≡ election.now.salt }
-{
-    Salted {
-        bits: election.bits(),
-        salt: election.salt(),
-    }
-}
 
 /// The text of the replay of an input.
 fn text_of(alloc: Global, election: &Election, script: Script) -> Result<String, Memory>
@@ -40,7 +29,7 @@ fn text_of(alloc: Global, election: &Election, script: Script) -> Result<String,
         ..
     } = script;
     let tabs = lists.len();
-    let order = salted(election);
+    let order = election.order();
     let limit = election.limit();
     match kind {
         Kind::Cast => {

@@ -43,7 +43,7 @@ pub fn run_session<R: Threads + Sync, S: Source, K: Sink, D: Disk, T: Turns>(
     let mut lines = Lines::new(alloc)?;
     let closed = recover(alloc, disk, election, &mut scratch)?;
     report.held = closed.len() as u32;
-    let mut session = Session::telling(alloc, closed, *election, telling);
+    let mut session = Session::telling(alloc, closed, telling);
     let mut index = 0;
     'lines: loop {
         let line: &[u8] = match lines.next_line(script)? {

@@ -20,9 +20,6 @@ hit_no x word n = ap (λ b. cond b 1 0) (ne_eqb word x n)
 pub copies_more : (cells : List ℕ) (x n : ℕ) → n < length cells → copies cells x (n + 1) ≡ copies cells x n + hit x (get_or cells n 0)
 copies_more cells x n lt = sum_by_more (hit x) cells n 0 lt
 
-pub copies_past : (cells : List ℕ) (x n : ℕ) → length cells ≤ n → copies cells x n ≡ copies cells x (length cells)
-copies_past cells x n past = ap (λ l. times l x) (take_all n cells past ∙ sym (take_all (length cells) cells (omega arith)))
-
 -- more cells, more copies
 pub copies_rise : (cells : List ℕ) (x m n : ℕ) → m ≤ n → copies cells x m ≤ copies cells x n
 copies_rise cells x m n le = omega (arith, sum_by-take-le (hit x) (take n cells) m, ap (λ l. times l x) (take-take m n cells le))

@@ -40,11 +40,6 @@ answered_is state numbers replies now met some is =
 
 -- ---- a number that needs no step
 
-by_held : (base : List ℕ) (claims x : ℕ) (xs : List ℕ) (answers : List Answer) → Contains base x → FirstIs base claims x xs answers → answers ≡ record { number = x; met = Held } ∷ answers_at_once base claims xs
-by_held base claims x xs answers h (first_held is) = refl
-by_held base claims x xs answers h (first_full is e) = absurd (is h)
-by_held base claims x xs answers h (first_steps is d) = absurd (is h)
-
 by_full : (base : List ℕ) (claims x : ℕ) (xs : List ℕ) (answers : List Answer) → ¬ Contains base x → claims ≡ 0 → FirstIs base claims x xs answers → answers ≡ record { number = x; met = Full } ∷ answers_at_once base claims xs
 by_full base claims x xs answers h none (first_held is) = absurd (h is)
 by_full base claims x xs answers h none (first_full is e) = refl
@@ -54,9 +49,6 @@ by_step : (base : List ℕ) (claims x : ℕ) (xs : List ℕ) (answers : List Ans
 by_step base claims x xs answers h some (first_held is) = absurd (h is)
 by_step base claims x xs answers h some (first_full is e) = absurd (some e)
 by_step base claims x xs answers h some (first_steps is d) = refl
-
-pub at_once_held : (base : List ℕ) (claims x : ℕ) → Contains base x → AnswersAtOnce base claims x Held
-at_once_held base claims x h xs = by_held base claims x xs (answers_at_once base claims (x ∷ xs)) h (first_is base claims x xs)
 
 pub at_once_full : (base : List ℕ) (claims x : ℕ) → ¬ Contains base x → claims ≡ 0 → AnswersAtOnce base claims x Full
 at_once_full base claims x h none xs = by_full base claims x xs (answers_at_once base claims (x ∷ xs)) h none (first_is base claims x xs)

@@ -104,14 +104,6 @@ later_number (Owing x bound) left moves = refl
 later_number (Up x bound place) left moves = refl
 later_number (Down x bound place c source) left moves = refl
 
--- an act away from rest is on a cell
-pub act_within : (from : WithdrawState) (cells : ℕ) → from ≢ Rest → FitsIn cells from → word_of (withdraw_act from) < cells
-act_within Rest cells moves fits = absurd (moves refl)
-act_within (Chosen x place) cells moves fits = fits.1
-act_within (Owing x bound) cells moves fits = fits.1
-act_within (Up x bound place) cells moves fits = fits.2
-act_within (Down x bound place c source) cells moves fits = let lt = fits.2 in omega (arith, down_word x bound place c source)
-
 -- a state of the code that is not rest is seen as none
 pub moves_on : (s : states.WithdrawState) → s ≢ variants.Rest → state_of s ≢ Rest
 moves_on variants.Rest n = λ e. n refl

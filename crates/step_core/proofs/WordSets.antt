@@ -24,10 +24,6 @@ two_within f (x ∷ xs) (suc i) (suc k) d hi hk n =
     let rest = two_within f xs i k d (omega arith) (omega arith) (λ e. n (ap suc e)) in
     omega (arith, sum_by-cons f x xs)
 
--- where no term changes, the sum stays
-pub sum_stays : {X : Type 0} (f : X → ℕ) (xs : List X) (i : ℕ) (y d : X) → i < length xs → f y ≡ f (get_or xs i d) → sum_by f (set xs i y) ≡ sum_by f xs
-sum_stays f xs i y d lt e = omega (arith, sum_by-set f xs i y d lt)
-
 -- terms that are at most as large have a sum at most as large
 pub sum_below : {X : Type 0} (f g : X → ℕ) (xs : List X) → ((x : X) → f x ≤ g x) → sum_by f xs ≤ sum_by g xs
 sum_below f g [] h = omega arith

@@ -1,5 +1,9 @@
 -- An election as its store sees it: contests, styles, and how the store is laid out.
-use Rattle.std.specs.Prelude.{ℕ, ◌+◌, ◌-◌, ◌*◌, ◌^◌, ◌<◌, ◌≤◌, Bool, false, if◌then◌else◌, ◌==◌, List, [], ◌∷◌, length, All, slice_get, slice_index}
+--
+-- On the version of an election depend the most contests and the most choices (`most_contests`, `most_choices`), and so
+-- which elections and record lines there are; the width of a mark set in a cell (`set_width`), and so the sizes of a
+-- cell, a bank and a medium; and the two bytes of the version in the header. Nothing else does. There is one version.
+use Rattle.std.specs.Prelude.{◌≡◌, ℕ, ◌+◌, ◌-◌, ◌*◌, ◌^◌, ◌<◌, ◌≤◌, Bool, false, if◌then◌else◌, ◌==◌, List, [], ◌∷◌, length, All, slice_get, slice_index}
 use Rattle.std.specs.Int.{bit_at}
 use Rattle.std.specs.Option.{option_map_or}
 
@@ -11,16 +15,14 @@ pub record Contest : Type 0 where
 -- Contests and styles are numbered from 1. A style is a set of contests: bit k - 1 stands for contest k.
 -- The store holds up to `limit` ballots, and has 2 ^ bits homes, which the salt spreads.
 pub record Election : Type 0 where
+  pub version : ℕ
   pub contests : List Contest
   pub styles : List ℕ
   pub limit : ℕ
   pub bits : ℕ
   pub salt : ℕ
 
--- ---- the version of its form, and what goes with it
-
-abbrev pub version : Election → ℕ
-version e = 1
+-- ---- what goes with its version
 
 abbrev pub most_contests : Election → ℕ
 most_contests e = 16
@@ -61,6 +63,7 @@ pub record IsStyle (contests style : ℕ) : Type 0 where
   pub of_these : style < 2 ^ contests
 
 pub record IsElection (e : Election) : Type 0 where
+  pub known_version : e.version ≡ 1
   pub some_contest : 1 ≤ length e.contests
   pub few_contests : length e.contests ≤ most_contests e
   pub each_contest : All (IsContest e) e.contests
@@ -96,9 +99,13 @@ choices_on e s k = if is_on_style e s k then choices_of e k else 0
 abbrev pub cell_count : Election → ℕ
 cell_count e = 2 ^ e.bits + e.limit
 
+-- a number of eight bytes and a style of one, which stand in front
+abbrev pub front_size : ℕ
+front_size = 9
+
 -- a number, a style, and a mark set for each contest
-abbrev pub cell_size : Election → ℕ
-cell_size e = 9 + set_width e * length e.contests
+unfoldable pub cell_size : Election → ℕ
+cell_size e = front_size + set_width e * length e.contests
 
 abbrev pub header_size : ℕ
 header_size = 32
@@ -107,15 +114,9 @@ header_size = 32
 abbrev pub bank_size : Election → ℕ
 bank_size e = header_size + cell_count e * cell_size e
 
--- the most cells, and the most bytes of a cell and of a bank
+-- the most cells
 abbrev pub most_cells : ℕ
 most_cells = 2 ^ most_bits + most_ballots
-
-abbrev pub most_cell_size : Election → ℕ
-most_cell_size e = 9 + set_width e * most_contests e
-
-abbrev pub most_bank_size : Election → ℕ
-most_bank_size e = header_size + most_cells * most_cell_size e
 
 -- two banks, and a gate byte for each
 abbrev pub medium_size : Election → ℕ
@@ -125,6 +126,7 @@ medium_size e = 2 * bank_size e + 2
 
 abbrev pub example : Election
 example = record {
+  version = 1;
   contests = record { choices = 4; allowed = 1 } ∷ record { choices = 3; allowed = 2 } ∷ [];
   styles = 3 ∷ [];
   limit = 8;

@@ -3,14 +3,14 @@ use Rattle.std.specs.Prelude.{◌≡◌, ℕ, List, ◌++◌, length, take, repl
 use Rattle.std.specs.Int.{to_be_bytes, bytes_high_first, w8, w16, w32, w64}
 use Rattle.std.specs.Option.{option_map_or}
 use Rattle.store_spec.specs.Ballot.{Ballot, IsBallotSet, IsValid, IsWithinLimit, ballot_of, numbers_of}
-use Rattle.store_spec.specs.Election.{Election, cell_count, cell_size, set_width, version}
+use Rattle.store_spec.specs.Election.{Election, cell_count, cell_size, set_width}
 use Rattle.store_spec.specs.Home.{home_in}
 use Rattle.store_spec.specs.Layout.{layout_of}
 
 -- the mark, the version, and what of the election lays out the store
-abbrev pub header_of : Election → List ℕ
+unfoldable pub header_of : Election → List ℕ
 header_of e =
-    codes "HIBSTORE" ++ to_be_bytes w16 (version e) ++ to_be_bytes w8 e.bits
+    codes "HIBSTORE" ++ to_be_bytes w16 e.version ++ to_be_bytes w8 e.bits
     ++ to_be_bytes w8 (length e.contests) ++ to_be_bytes w32 e.limit ++ to_be_bytes w64 e.salt
     ++ replicate 8 0
 
@@ -18,7 +18,7 @@ abbrev pub set_bytes : Election → ℕ → List ℕ
 set_bytes e set = bytes_high_first (set_width e) set
 
 -- a ballot in a cell: its number, its style, and the mark set of each contest
-abbrev pub ballot_bytes : Election → Ballot → List ℕ
+unfoldable pub ballot_bytes : Election → Ballot → List ℕ
 ballot_bytes e b =
     to_be_bytes w64 b.number ++ to_be_bytes w8 b.style
     ++ flat_map (set_bytes e) (take (length e.contests) b.marks)

@@ -17,11 +17,13 @@ pub fn example_homes()
 {}
 
 /// The sizes of the example election's store.
+#[tactic(auto, unfolding(crate::specs::Election::cell_size))]
 pub fn example_sizes()
     ensures { ExampleSizes }
 {}
 
 /// Where the parts of the example election's medium stand.
+#[tactic(auto, unfolding(crate::specs::Election::cell_size))]
 pub fn example_places()
     ensures { ExamplePlaces }
 {}
@@ -32,6 +34,7 @@ pub fn example_layout()
 {}
 
 /// The image of three ballots under the example election.
+#[tactic(auto, unfolding(crate::specs::Election::cell_size, crate::specs::Image::header_of, crate::specs::Image::ballot_bytes))]
 pub fn example_image()
     ensures { ExampleImage }
 {}

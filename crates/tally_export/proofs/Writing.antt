@@ -62,10 +62,6 @@ none_taken : (a : Option (List ℕ)) → TakesAll a [] a
 none_taken None = refl
 none_taken (Some front) = ap Some (sym (append-nil front))
 
-pub nothing_written : (a : Option (List ℕ)) (gathered left whole : List ℕ) → gathered ++ left ≡ whole
-    → IsWritten a a gathered left whole
-nothing_written a gathered left whole is = record { front = []; taken = none_taken a; rest = is }
-
 -- the next line was gathered
 line_gathered : (before now : Option (List ℕ)) (gathered more line left whole : List ℕ)
     → IsWritten before now gathered (line ++ left) whole → more ≡ gathered ++ line

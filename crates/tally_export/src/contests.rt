@@ -54,9 +54,8 @@ pub fn tally_of(records: &[Record], election: &Election) -> Tally
 }
 
 /// The tally of a store's ballots.
-pub fn tally(closed: &Closed, election: &Election) -> Tally
-    requires { closed.now.election ≡ election.now }
-    ensures { IsTallyOf election.now closed.now.ballots result }
+pub fn tally(closed: &Closed) -> Tally
+    ensures { IsTallyOf closed.now.election closed.now.ballots result }
 {
-    tally_of(closed.records(), election)
+    tally_of(closed.records(), closed.election())
 }

@@ -37,20 +37,15 @@ fn put_ballot(ballot: &Record, election: &Election, text: &mut Vec<u8>) -> Resul
 
 /// Writes how many ballots a store holds, and then the line of each, in ascending order of their numbers. Lines are
 /// gathered, and written once they have more than 64 KiB.
-pub fn export<K: Sink>(
-    alloc: Global,
-    closed: &Closed,
-    election: &Election,
-    out: &mut K,
-) -> Result<(), PutFault>
-    requires { closed.now.election ≡ election.now }
+pub fn export<K: Sink>(alloc: Global, closed: &Closed, out: &mut K) -> Result<(), PutFault>
     ensures all { OnOk result (TakesAll (K.taken out.old)
-        (export_text election.now closed.now.ballots) (K.taken out.new)) }
+        (export_text closed.now.election closed.now.ballots) (K.taken out.new)) }
     ensures some { OnErr result (TakesSome (K.taken out.old)
-        (export_text election.now closed.now.ballots) (K.taken out.new)) }
+        (export_text closed.now.election closed.now.ballots) (K.taken out.new)) }
     ensures fault { CountsFaultIf (result ≡ Err PutFault.WriteFault)
         (K.faults out.old) (K.faults out.new) }
 {
+    let election = closed.election();
     let listed = closed.in_order(alloc)?;
     let mut text = first_line(alloc, listed.len())?;
     'records: for record in &listed {

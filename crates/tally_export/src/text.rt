@@ -62,18 +62,15 @@ fn push_contests(text: &mut String, tally: &Tally, election: &Election) -> Resul
     Ok(())
 }
 
-/// The text of a tally of so many ballots.
-fn text_of(
-    alloc: Global,
-    tally: &Tally,
-    ballots: usize,
-    election: &Election,
-) -> Result<String, Memory>
-    ensures { (set : List Ballot) → IsTallyOf election.now set tally.now → length set ≡ ballots
-        → IfOk result (λ text. string_bytes text ≡ tally_text election.now set) }
+/// The text of the tally of a store.
+fn text_of(alloc: Global, tally: &Tally, closed: &Closed) -> Result<String, Memory>
+    requires { IsTallyOf closed.now.election closed.now.ballots tally.now }
+    ensures { IfOk result
+        (λ text. string_bytes text ≡ tally_text closed.now.election closed.now.ballots) }
 {
+    let ballots = closed.len();
     let mut text = format!(in alloc; "tally {ballots}\n")?;
-    push_contests(&mut text, tally, election)?;
+    push_contests(&mut text, tally, closed.election())?;
     Ok(text)
 }
 
@@ -82,19 +79,17 @@ pub fn write_tally<K: Sink>(
     alloc: Global,
     tally: &Tally,
     closed: &Closed,
-    election: &Election,
     out: &mut K,
 ) -> Result<(), PutFault>
-    requires own { closed.now.election ≡ election.now }
-    requires tally { IsTallyOf election.now closed.now.ballots tally.now }
+    requires { IsTallyOf closed.now.election closed.now.ballots tally.now }
     ensures all { OnOk result (TakesAll (K.taken out.old)
-        (tally_text election.now closed.now.ballots) (K.taken out.new)) }
+        (tally_text closed.now.election closed.now.ballots) (K.taken out.new)) }
     ensures some { OnErr result (TakesSome (K.taken out.old)
-        (tally_text election.now closed.now.ballots) (K.taken out.new)) }
+        (tally_text closed.now.election closed.now.ballots) (K.taken out.new)) }
     ensures fault { CountsFaultIf (result ≡ Err PutFault.WriteFault)
         (K.faults out.old) (K.faults out.new) }
 {
-    let text = text_of(alloc, tally, closed.len(), election)?;
+    let text = text_of(alloc, tally, closed)?;
     out.write_all(text.as_str().as_bytes())?;
     Ok(())
 }

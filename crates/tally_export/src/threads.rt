@@ -86,15 +86,9 @@ fn tally_both<R: Threads + Sync>(
 
 /// The tally of a store's ballots, counted in so many parts at once, or in as many as there are ballots where these are
 /// fewer. With one part no thread is started.
-pub fn tally_threads<R: Threads + Sync>(
-    rt: &R,
-    closed: &Closed,
-    election: &Election,
-    parts: usize,
-) -> Tally
-    requires own { closed.now.election ≡ election.now }
-    requires some_part { 1 ≤ parts }
-    ensures { IsTallyOf election.now closed.now.ballots result }
+pub fn tally_threads<R: Threads + Sync>(rt: &R, closed: &Closed, parts: usize) -> Tally
+    requires { 1 ≤ parts }
+    ensures { IsTallyOf closed.now.election closed.now.ballots result }
 {
-    tally_parts(rt, closed.records(), election, parts)
+    tally_parts(rt, closed.records(), closed.election(), parts)
 }

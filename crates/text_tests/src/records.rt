@@ -1,3 +1,5 @@
+#![tactic(auto, unfolding(store_spec::specs::Election::cell_size))]
+
 use ballot_record::{CellRead, Election, LineFault, LineWhy, Record, take_cell};
 use std::test::Fail;
 

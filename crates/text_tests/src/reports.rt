@@ -50,23 +50,16 @@ fn a_tally_by_parts(rt: HostRuntime) {
     let ballots = five_ballots(rt.alloc(), &rt, &election).expect(&rt, "memory");
     let five = Closed::from_records(rt.alloc(), &election, ballots).expect(&rt, "memory");
     let empty = Closed::empty(rt.alloc(), &election).expect(&rt, "memory");
-    let whole = tally(&five, &election);
+    let whole = tally(&five);
     assert_eq!(rt; &whole.choices[0][..5], [1, 1, 0, 1, 0].as_slice());
     assert_eq!(rt; &whole.choices[1][..4], [2, 1, 2, 0].as_slice());
     assert_eq!(rt; &whole.under[..3], [1, 3, 0].as_slice());
     assert_eq!(rt; &whole.over[..3], [1, 1, 0].as_slice());
     for parts in [1, 2, 3, 4, 7, 64] {
         assert!(rt; parts >= 1);
-        assert_eq!(rt;
-            tally_threads(&rt, &five, &election, parts),
-            whole,
-            "{parts}"
-        );
+        assert_eq!(rt; tally_threads(&rt, &five, parts), whole, "{parts}");
     }
-    assert_eq!(rt;
-        tally_threads(&rt, &empty, &election, 4),
-        tally(&empty, &election)
-    );
+    assert_eq!(rt; tally_threads(&rt, &empty, 4), tally(&empty));
 }
 
 #[test]

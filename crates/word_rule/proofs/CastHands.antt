@@ -1,7 +1,6 @@
 -- What a step from a hand leads to, and what is left of the steps until it is empty.
 use Rattle.std.proofs.Common.{◌≡◌, ◌≢◌, ℕ, suc, ◌+◌, ◌-◌, ◌*◌, ◌<◌, ◌≤◌, inl, inr, [], ◌∷◌, refl, sym, ap, ◌∙◌, subst, arith}
 use Rattle.std.proofs.Math.Nat.{mul-le-mul_right}
-use Rattle.step_core.specs.CastTables.{BeginsAt}
 use Rattle.store_spec.specs.CastStep.{CastNote, CastRow, CastState, CastView, Table, cast_measure, number_of, view_after}
 use Rattle.store_spec.specs.CastStep.CastNote.{Quiet, Claimed, Taken, Full, Placed}
 use Rattle.store_spec.specs.CastStep.CastRow.{claim_won, claim_met, claim_passed, claims_full, look_passes, look_ready, takes_empty, displaces, lost_passes, lost_ready}
@@ -112,9 +111,3 @@ has_moved t top first old now from new note moving h lists rows row state falls 
 -- a number in hand, to begin with
 pub held_first : (number place : ℕ) (state : CastState) → state ≡ Carrying number place → IsHeld (number_of state) state
 held_first number place state is = subst (λ (s : CastState). IsHeld (number_of s) s) (sym is) (omega arith)
-
-pub begins_in_hand : (t : Table) (top : ℕ) (state : CastState) → IsHeld top state → BeginsAt t state 0
-begins_in_hand t top Rest h = tt
-begins_in_hand t top (Probing x k) h = absurd h
-begins_in_hand t top (Carrying v i) h = tt
-begins_in_hand t top (Ready v i s) h = tt

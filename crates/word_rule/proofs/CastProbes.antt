@@ -1,5 +1,5 @@
 -- Probes for a number, of which those before the last one told nothing.
-use Rattle.std.proofs.Common.{◌≡◌, ◌≢◌, ℕ, ◌+◌, ◌-◌, ◌<◌, refl, sym, ap, ◌∙◌, subst, arith}
+use Rattle.std.proofs.Common.{◌≡◌, ◌≢◌, ℕ, ◌+◌, ◌-◌, ◌<◌, refl, sym, ap, ◌∙◌, subst}
 use Rattle.store_spec.specs.CastStep.{CastNote, CastRow, CastState, CastView, Table, number_of, view_after}
 use Rattle.store_spec.specs.CastStep.CastNote.{Quiet, Claimed, Taken, Full, Placed}
 use Rattle.store_spec.specs.CastStep.CastRow.{claim_won, claim_met, claim_passed, claims_full, look_passes, look_ready, takes_empty, displaces, lost_passes, lost_ready}
@@ -100,20 +100,6 @@ tries_left t Rest = 0
 tries_left t (Probing x k) = t.claims - k
 tries_left t (Carrying v i) = 0
 tries_left t (Ready v i s) = 0
-
-left_after : (t : Table) (x k : ℕ) (new : CastState) (note : CastNote) → k < t.claims → IsProbeAfter t x k new note → tries_left t new < t.claims - k
-left_after t x k new Quiet left h = subst (λ (s : CastState). tries_left t s < t.claims - k) (sym h.0) (omega arith)
-left_after t x k new Claimed left h = subst (λ (s : CastState). tries_left t s < t.claims - k) (sym h) (omega arith)
-left_after t x k new Taken left h = subst (λ (s : CastState). tries_left t s < t.claims - k) (sym h) (omega arith)
-left_after t x k new Full left h = subst (λ (s : CastState). tries_left t s < t.claims - k) (sym h) (omega arith)
-left_after t x k new Placed left h = absurd h
-
-pub tries_fall : (t : Table) (number : ℕ) (old mid now : CastView) (note : CastNote) → Probes t number old Quiet mid → MakesRow t mid.state mid note now → tries_left t now.state < tries_left t mid.state
-tries_fall t number old mid now note p row =
-    let after = probe_after t number old mid Quiet p in
-    let from = subst (λ (s : CastState). MakesRow t s mid note now) after.0 row in
-    subst (λ (s : CastState). tries_left t now.state < tries_left t s) (sym after.0)
-    (left_after t number (p.tries + 1) now.state note after.1 (row_after t (Probing number (p.tries + 1)) _ from.found _ now.state note from.leads))
 
 -- ---- what is told in the end
 

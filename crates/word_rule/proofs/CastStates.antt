@@ -3,7 +3,7 @@ use Rattle.std.proofs.Common.{◌≢◌, ℕ, refl}
 use Rattle.step_core.specs.CastTables.{state_of}
 use Rattle.step_core.specs.declared.cast.CastState.{CastState}
 use Rattle.step_core.specs.declared.cast.CastState.TheVariants as states
-use Rattle.store_spec.specs.CastStep.CastState.{Probing, Carrying, Ready}
+use Rattle.store_spec.specs.CastStep.CastState.{Probing, Carrying}
 
 pub not_probing : (state : CastState) → ((x k : ℕ) → state ≢ states.Probing x k) → (x k : ℕ) → state_of state ≢ Probing x k
 not_probing states.Rest other x k same = absurd cc
@@ -16,9 +16,3 @@ not_carrying states.Rest other v i same = absurd cc
 not_carrying (states.Probing x k) other v i same = absurd cc
 not_carrying (states.Carrying w j) other v i same = absurd (other w j refl)
 not_carrying (states.Ready w j s) other v i same = absurd cc
-
-pub not_ready : (state : CastState) → ((v i s : ℕ) → state ≢ states.Ready v i s) → (v i s : ℕ) → state_of state ≢ Ready v i s
-not_ready states.Rest other v i s same = absurd cc
-not_ready (states.Probing x k) other v i s same = absurd cc
-not_ready (states.Carrying w j) other v i s same = absurd cc
-not_ready (states.Ready w j r) other v i s same = absurd (other w j r refl)

@@ -67,23 +67,25 @@ follows_by home _ _ _ _ _ _ emptied = tt
 follows_by home _ _ _ _ _ _ (refilled some) = tt
 follows_by home _ _ _ _ _ _ (lost other) = tt
 
--- what a step keeps, and what is left after it
-pub record HasMoved (home : ℕ → ℕ) (top cells : ℕ) (first : WithdrawView) (from new : WithdrawState) (now : WithdrawView) : Type 0 where
+-- a removal under way, by rows, in a state whose numbers are bounded
+pub record IsUnderWay (home : ℕ → ℕ) (top cells : ℕ) (first : WithdrawView) (state : WithdrawState) (now : WithdrawView) : Type 0 where
   pub removing : IsRemoving top first now
   pub rows : Rows (MakesRow home) first now
-  pub bounded : IsBounded top cells new
+  pub bounded : IsBounded top cells state
+
+-- what a step keeps, and what is left after it
+pub record HasMoved (home : ℕ → ℕ) (top cells : ℕ) (first : WithdrawView) (from new : WithdrawState) (now : WithdrawView) : Type 0 where
+  pub way : IsUnderWay home top cells first new now
   pub falls : work_left top cells new < work_left top cells from
   pub follows : Follows from new
 
-pub has_moved : (home : ℕ → ℕ) (top cells : ℕ) (first old now : WithdrawView) (from new : WithdrawState) (note : WithdrawNote) → IsRemoving top first old → Rows (MakesRow home) first old → IsBounded top cells from → old.state ≡ from → now.state ≡ new → MakesRow home old note now → Falls (withdraw_measure cells new) (withdraw_measure cells from) → HasMoved home top cells first from new now
-has_moved home top cells first old now from new note removing rows bounded old_is now_is row falls =
+pub has_moved : (home : ℕ → ℕ) (top cells : ℕ) (first old now : WithdrawView) (from new : WithdrawState) (note : WithdrawNote) → IsUnderWay home top cells first from old → old.state ≡ from → now.state ≡ new → MakesRow home old note now → Falls (withdraw_measure cells new) (withdraw_measure cells from) → HasMoved home top cells first from new now
+has_moved home top cells first old now from new note way old_is now_is row falls =
     let leads = subst (λ (s : WithdrawState). LeadsTo home from row.found s note) now_is
     (subst (λ (s : WithdrawState). LeadsTo home s row.found now.state note) old_is row.leads) in
-    let still = stays_bounded home top cells from row.found new note leads falls bounded in
+    let still = stays_bounded home top cells from row.found new note leads falls way.bounded in
     record {
-      removing = goes_on home top first old note now removing row;
-      rows = one_more old now note rows row;
-      bounded = still;
+      way = record { removing = goes_on home top first old note now way.removing row; rows = one_more old now note way.rows row; bounded = still };
       falls = work_falls top cells new from still falls;
       follows = follows_by home from (word_of (withdraw_act from)) row.found (left_by (withdraw_act from) row.found) new note leads;
     }

@@ -7,8 +7,7 @@ use Rattle.std.specs.List.{All}
 use Rattle.step_core.specs.WithdrawTables.{LeadsTo}
 use Rattle.store_spec.specs.Act.{left_by, word_of}
 use Rattle.store_spec.specs.Measure.{Falls}
-use Rattle.store_spec.specs.WithdrawStep.{FirstRow, Fits, WithdrawNote, WithdrawRow, WithdrawState, withdraw_act, withdraw_measure}
-use Rattle.store_spec.specs.WithdrawStep.FirstRow.{chose, found_gone}
+use Rattle.store_spec.specs.WithdrawStep.{Fits, WithdrawNote, WithdrawRow, WithdrawState, withdraw_act, withdraw_measure}
 use Rattle.store_spec.specs.WithdrawStep.WithdrawRow.{walked_on, began, found_owed, looked_lower, looked_higher, found_candidate, found_lower_candidate, kept_candidate, emptied, refilled, lost}
 use Rattle.store_spec.specs.WithdrawStep.WithdrawState.{Rest, Chosen, Owing, Up, Down}
 
@@ -86,11 +85,6 @@ module _ (home : ℕ → ℕ) (top cells : ℕ) where
   -- a step keeps the bounds
   pub stays_bounded : (from : WithdrawState) (found : ℕ) (new : WithdrawState) (note : WithdrawNote) → LeadsTo home from found new note → Falls (withdraw_measure cells new) (withdraw_measure cells from) → IsBounded top cells from → IsBounded top cells new
   stays_bounded from found new note leads = bounded_by from (word_of (withdraw_act from)) found (left_by (withdraw_act from) found) new note leads
-
--- and the first step for a number begins within them
-pub begins_bounded : (home : ℕ → ℕ) (cells x found : ℕ) (new : WithdrawState) (note : WithdrawNote) → FirstRow home x found new note → IsBounded x cells new
-begins_bounded home cells x _ _ _ found_gone = tt
-begins_bounded home cells x _ _ _ chose = omega arith
 
 -- ---- the measure
 

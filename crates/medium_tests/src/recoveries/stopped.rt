@@ -1,4 +1,5 @@
 //! Media that were stopped.
+#![tactic(auto, unfolding(store_spec::specs::Election::cell_size))]
 
 ghost use Rattle.std.specs.Prelude.{◌≡◌, ◌<◌, ◌≤◌};
 ghost use Rattle.crash_disk.specs.Recorded.{recorded_calls};
@@ -23,7 +24,7 @@ fn checkpointed(alloc: Global) -> Result<(MemoryDisk, u64), Fail> {
     recover(alloc, &mut disk, &election, &mut scratch)?;
     let before = disk.calls();
     let closed = read_image(alloc, &three_ballots(), &election)?;
-    checkpoint(&mut disk, &closed, &election, &mut scratch)?;
+    checkpoint(&mut disk, &closed, &mut scratch)?;
     Ok((disk, before))
 }
 

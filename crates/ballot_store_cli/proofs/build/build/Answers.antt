@@ -10,6 +10,7 @@ use Rattle.ballot_store_cli.specs.declared.build.script.ScriptFault.TheVariants.
 use Rattle.outside_io.specs.Stream.{TakesAll, TakesSome}
 use Rattle.store_spec.specs.Ballot.{IsBallotSet, IsWithinLimit}
 use Rattle.store_spec.specs.Election.{Election}
+use Rattle.store_spec.specs.Image.{image_of}
 use Rattle.ballot_store_cli.proofs.build.build.Goals as goal
 
 pub returns-in_err-records : goal.returns-in_err-records
@@ -48,7 +49,7 @@ returns-in_err-write_all g c =
     let e = c.args.election.now in
     let set = c.in_ok-store.store.ballots in
     let s = subst (λ (other : Election). IsBallotSet other set × IsWithinLimit other set) c.in_ok-store.ensures.election (c.in_ok-store.ensures.stored.set, c.in_ok-store.ensures.stored.within_limit) in
-    let bytes = c.deref.ensures.value ∙ c.in_ok-bytes.ensures.image in
+    let bytes = c.deref.ensures.value ∙ c.in_ok-bytes.ensures.image ∙ ap (λ e. image_of e set) c.in_ok-store.ensures.election in
     ended_with build_fault_status c.from_residual-in_err-write_all.result WriteFault (λ status. BuildEnds e status before after) c.from_residual-in_err-write_all.ensures.1 (
       writes_image e (ballots_of c.in_ok-records.records.items) set before after (λ image. TakesSome before.sink.taken image after.sink.taken) c.in_ok-records.ensures.reads c.in_ok-store.ensures.same s.0 s.1
           (subst (λ (image : List ℕ). TakesSome before.sink.taken image after.sink.taken) bytes c.in_err-write_all.ensures.some),
@@ -62,7 +63,7 @@ returns g c =
     let e = c.args.election.now in
     let set = c.in_ok-store.store.ballots in
     let s = subst (λ (other : Election). IsBallotSet other set × IsWithinLimit other set) c.in_ok-store.ensures.election (c.in_ok-store.ensures.stored.set, c.in_ok-store.ensures.stored.within_limit) in
-    let bytes = c.deref.ensures.value ∙ c.in_ok-bytes.ensures.image in (
+    let bytes = c.deref.ensures.value ∙ c.in_ok-bytes.ensures.image ∙ ap (λ e. image_of e set) c.in_ok-store.ensures.election in (
       writes_image e (ballots_of c.in_ok-records.records.items) set before after (λ image. TakesAll before.sink.taken image after.sink.taken) c.in_ok-records.ensures.reads c.in_ok-store.ensures.same s.0 s.1
           (subst (λ (image : List ℕ). TakesAll before.sink.taken image after.sink.taken) bytes c.in_ok-write_all.ensures.all),
       record { script = c.in_ok-records.ensures.fault.steady (λ failed. cc); sink = c.in_ok-write_all.ensures.fault.steady },

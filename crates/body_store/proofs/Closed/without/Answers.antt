@@ -22,7 +22,7 @@ own_election e a store view own = ap (λ (store : Contents). store.election) vie
 
 leaving : (e : Election) (a : Inside) (store : Contents) (numbers : List ℕ) (first rest : List Record)
     (cells : List ℕ) → contents_of a ≡ store → e ≡ store.election → IsKept a
-    → first ≡ a.records.items → ballots_of rest ≡ ballots_without (ballots_of first) numbers → cells ≡ cells_of e
+    → first ≡ a.records.items → ballots_of rest ≡ ballots_without (ballots_of first) numbers → cells ≡ cells_of store.election
     (ballots_without store.ballots numbers)
     → IsRest e a.records.items numbers rest cells
 leaving e a store numbers first rest cells view own kept same left laid =
@@ -30,7 +30,8 @@ leaving e a store numbers first rest cells view own kept same left laid =
     (subst (λ (e : Election). MayHold e (ballots_of a.records.items)) (own_election e a store view own)
     (kept_records a kept))
     (left ∙ ap (λ rs. ballots_without (ballots_of rs) numbers) same)
-    (laid ∙ ap (λ (store : Contents). cells_of e (ballots_without store.ballots numbers)) (sym view))
+    (laid ∙ ap (λ e. cells_of e (ballots_without store.ballots numbers)) (sym own)
+    ∙ ap (λ (store : Contents). cells_of e (ballots_without store.ballots numbers)) (sym view))
 
 pub without-requires-clause-some : goal.without-requires-clause-some
 without-requires-clause-some c =
@@ -44,16 +45,16 @@ without-requires-clause-gone c =
     let numbers = c.args.numbers.now in
     let stored = subst (λ (s : Contents). IsStored s) c.self.view_is c.self.invariant.stored in
     none_stands store numbers c.deref-2.result.now stored
-    (c.deref-2.ensures.value ∙ c.requires.layout ∙ ap (λ e. cells_of e (ballots_without store.ballots numbers)) c.requires.own)
+    (c.deref-2.ensures.value ∙ c.requires.layout)
 
 pub of_all-requires : goal.of_all-requires
 of_all-requires c =
-    let e = c.args.election.now in
+    let e = c.election-election.result.now in
     let is = leaving e c.self.inside c.args.self.now c.args.numbers.now c.deref.result.now
-    c.in_ok-records.records.items c.args.cells.items c.self.view_is c.requires.own c.self.invariant
+    c.in_ok-records.records.items c.args.cells.items c.self.view_is c.election-election.ensures.election c.self.invariant
     c.deref.ensures.value c.in_ok-records.ensures c.requires.layout in
     let election : IsElection e = subst (λ (e : Election). IsElection e)
-    (own_election e c.self.inside c.args.self.now c.self.view_is c.requires.own) c.self.invariant.stored.election in (
+    (own_election e c.self.inside c.args.self.now c.self.view_is c.election-election.ensures.election) c.self.invariant.stored.election in (
       subst (λ (rs : List Record). length (numbers_of (ballots_of rs)) ≤ 32768) (sym c.deref-3.ensures.value)
           (few_numbers e c.in_ok-records.records.items election is.held),
       (
@@ -66,28 +67,28 @@ of_all-requires c =
 
 pub kept-requires-clause-listing : goal.kept-requires-clause-listing
 kept-requires-clause-listing c =
-    (leaving c.args.election.now c.self.inside c.args.self.now c.args.numbers.now c.deref.result.now
-    c.in_ok-records.records.items c.args.cells.items c.self.view_is c.requires.own c.self.invariant
+    (leaving c.election-election.result.now c.self.inside c.args.self.now c.args.numbers.now c.deref.result.now
+    c.in_ok-records.records.items c.args.cells.items c.self.view_is c.election-election.ensures.election c.self.invariant
     c.deref.ensures.value c.in_ok-records.ensures c.requires.layout).held.listing
 
 pub kept-requires-clause-within_limit : goal.kept-requires-clause-within_limit
 kept-requires-clause-within_limit c =
-    (leaving c.args.election.now c.self.inside c.args.self.now c.args.numbers.now c.deref.result.now
-    c.in_ok-records.records.items c.args.cells.items c.self.view_is c.requires.own c.self.invariant
+    (leaving c.election-election.result.now c.self.inside c.args.self.now c.args.numbers.now c.deref.result.now
+    c.in_ok-records.records.items c.args.cells.items c.self.view_is c.election-election.ensures.election c.self.invariant
     c.deref.ensures.value c.in_ok-records.ensures c.requires.layout).held.within_limit
 
 pub kept-requires-clause-layout : goal.kept-requires-clause-layout
 kept-requires-clause-layout c =
-    (leaving c.args.election.now c.self.inside c.args.self.now c.args.numbers.now c.deref.result.now
-    c.in_ok-records.records.items c.args.cells.items c.self.view_is c.requires.own c.self.invariant
+    (leaving c.election-election.result.now c.self.inside c.args.self.now c.args.numbers.now c.deref.result.now
+    c.in_ok-records.records.items c.args.cells.items c.self.view_is c.election-election.ensures.election c.self.invariant
     c.deref.ensures.value c.in_ok-records.ensures c.requires.layout).laid
 
 pub returns : goal.returns
 returns c =
-    let e = c.args.election.now in
+    let e = c.election-election.result.now in
     let numbers = c.args.numbers.now in
     let is = leaving e c.self.inside c.args.self.now numbers c.deref.result.now c.in_ok-records.records.items
-    c.args.cells.items c.self.view_is c.requires.own c.self.invariant c.deref.ensures.value c.in_ok-records.ensures
+    c.args.cells.items c.self.view_is c.election-election.ensures.election c.self.invariant c.deref.ensures.value c.in_ok-records.ensures
     c.requires.layout in
     let set = is.set ∙ ap (λ (store : Contents). ballots_without store.ballots numbers) c.self.view_is in
-    IfOk-weaker c.kept.result _ _ (λ store same. same ∙ ap (λ bs. contents e bs) set) c.kept.ensures.contents
+    IfOk-weaker c.kept.result _ _ (λ store same. same ∙ ap (λ bs. contents e bs) set ∙ ap (λ e. contents e (ballots_without c.args.self.now.ballots numbers)) c.election-election.ensures.election) c.kept.ensures.contents

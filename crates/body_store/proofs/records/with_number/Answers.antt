@@ -23,20 +23,20 @@ returns-then-number-eq0 c =
 pub place_of-requires-clause-ordered : goal.place_of-requires-clause-ordered
 place_of-requires-clause-ordered c =
     let e = c.args.election.now in
-    let laid = held_layout e (ballots_of c.args.records.now) c.order_of.ensures.election
+    let laid = held_layout e (ballots_of c.args.records.now) c.order.ensures.valid
     (record { listing = c.requires.listing; within_limit = c.requires.within_limit }) in
-    subst (λ (cells : List ℕ). IsOrdered (home_of c.order_of.result.bits c.order_of.result.salt) cells)
+    subst (λ (cells : List ℕ). IsOrdered (home_of c.order.result.bits c.order.result.salt) cells)
     (sym c.requires.layout)
-    (subst (λ (b : ℕ). IsOrdered (home_of b c.order_of.result.salt) (cells_of e (ballots_of c.args.records.now)))
-    (sym c.order_of.ensures.bits)
+    (subst (λ (b : ℕ). IsOrdered (home_of b c.order.result.salt) (cells_of e (ballots_of c.args.records.now)))
+    (sym c.order.ensures.bits)
     (subst (λ (s : ℕ). IsOrdered (home_of e.bits s) (cells_of e (ballots_of c.args.records.now)))
-    (sym c.order_of.ensures.salt) laid.ordered))
+    (sym c.order.ensures.salt) laid.ordered))
 
 pub returns-in_err-cell : goal.returns-in_err-cell
 returns-in_err-cell c =
     let e = c.args.election.now in
     let ballots = ballots_of c.args.records.now in
-    let laid = held_layout e ballots c.order_of.ensures.election
+    let laid = held_layout e ballots c.order.ensures.valid
     (record { listing = c.requires.listing; within_limit = c.requires.within_limit }) in
     ap (option_map ballot) c.from_residual.ensures
     ∙ none_found ballots c.args.number

@@ -7,8 +7,8 @@ use Rattle.store_spec.specs.Ballot.{Ballot}
 use Rattle.store_spec.specs.Image.{cells_of}
 
 -- the store holds the three ballots in their order, so the rest are the two
-pub without-requires-clause-layout : goal.without-requires-clause-layout
-without-requires-clause-layout g c =
+pub without-requires : goal.without-requires
+without-requires g c =
     let e = c.example-election.result in
     let store = c.expect-store.result in
     let were : ballots_of c.expect-three.result.items ≡ map blank (1 ∷ 9 ∷ 14 ∷ []) = search rules in
@@ -17,4 +17,8 @@ without-requires-clause-layout g c =
     let held = blanks_stored store.election (1 ∷ 9 ∷ 14 ∷ []) store.ballots (search rules) stored.set (subst (λ (bs : List Ballot). IsPermutation bs store.ballots) were moved) in
     let laid : c.expect-cells.result.items ≡ cells_of e (ballots_of c.expect-two.result.items) = search rules in
     let two : ballots_of c.expect-two.result.items ≡ map blank (1 ∷ 14 ∷ []) = search rules in
-    laid ∙ ap (cells_of e) two ∙ ap (λ bs. cells_of e (ballots_without bs (9 ∷ []))) (sym held)
+    let own : store.election ≡ e = search rules in
+    record {
+      layout = laid ∙ ap (cells_of e) two ∙ ap (λ bs. cells_of e (ballots_without bs (9 ∷ []))) (sym held)
+          ∙ ap (λ e. cells_of e (ballots_without store.ballots (9 ∷ []))) (sym own);
+    }

@@ -1,4 +1,4 @@
-use Rattle.std.proofs.Common.{◌≡◌, ℕ, List, length, rules, Err, Option, Some, IsSome, sym, ap, ◌∙◌, subst, subst₂, arith, is_ok, true≢false}
+use Rattle.std.proofs.Common.{refl, ◌≡◌, ℕ, List, length, rules, Err, Option, Some, IsSome, sym, ap, ◌∙◌, subst, subst₂, arith, is_ok, true≢false}
 use Rattle.std.specs.Prelude.{IsSomeAnd, codes, option_and_then}
 use Rattle.serde_json.specs.View.{view}
 use Rattle.serde_json.specs.Find.{as_str, get}
@@ -37,6 +37,7 @@ returns-clause-refused c = λ none e is.
     let at : Some (view c.in_ok-styles_value.styles_value.now) ≡ get (codes "styles") d = search rules in
     let count : c.len-2.result ≡ length (contests_of contests) = omega (arith, contest_count contests, c.len-2.ensures) in
     let parts : AreParts (view c.args.value.now) (parts_of contests styles c.in_ok-limit.limit c.in_ok-bits.bits c.in_ok-salt.salt) = record {
+      version = refl;
       contests = search rules;
       styles = are_styles d (view c.in_ok-styles_value.styles_value.now) c.len-2.result (length (contests_of contests)) styles at count c.in_ok-styles.ensures.styles;
       limit = search rules;

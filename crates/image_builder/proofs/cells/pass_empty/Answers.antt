@@ -6,7 +6,8 @@ use Rattle.image_builder.proofs.FirstCells.{empties_put, fewer_cells, length-fro
 use Rattle.image_builder.proofs.cells.pass_empty.Goals as goal
 use Rattle.image_builder.specs.Cells.{AreKept, kept_front, numbers_read}
 use Rattle.image_builder.specs.declared.cells.CellsRead.{CellsRead}
-use Rattle.store_spec.specs.Election.{Election, IsElection, bank_size, cell_count, cell_size}
+use Rattle.store_spec.specs.Election.{Election, IsElection, bank_size, cell_count, cell_size, header_size}
+use Rattle.ballot_record.proofs.CellFormat.{number_fits}
 
 -- there are so many cells more
 few_more : (e : Election) (cells : CellsRead) (rest all : List ℕ) (size : ℕ) → IsElection e → AreKept e cells → kept_front e cells ++ rest ≡ all → length all ≤ bank_size e → size ≡ cell_size e → 16 * size ≤ length rest
@@ -14,9 +15,9 @@ few_more : (e : Election) (cells : CellsRead) (rest all : List ℕ) (size : ℕ)
 few_more e cells rest all size election kept same within width long =
     let numbers = numbers_read cells in
     let own = cell_size e in
-    let front : length (kept_front e cells) ≡ 32 + length numbers * own = length-front_of e numbers (ballots_of cells.records.items) election kept.valid in
+    let front : length (kept_front e cells) ≡ header_size + length numbers * own = length-front_of e numbers (ballots_of cells.records.items) election kept.valid in
     let many : 16 * own ≤ length rest = subst (λ (w : ℕ). 16 * w ≤ length rest) width long in
-    let some : 0 < own = omega arith in
+    let some : 0 < own = omega (arith, number_fits e) in
     let less : length numbers + 16 < cell_count e + 1 = fewer_cells (length numbers + 16) (cell_count e + 1) own (omega (arith, within, ap length same, length-append (kept_front e cells) rest, front, many)) in
     omega (arith, less)
 

@@ -2,7 +2,7 @@ use Rattle.std.proofs.Common.{◌≡◌, [], ◌++◌, length, sym, ap, ◌∙�
 use Rattle.std.proofs.lemmas.List.{append-nil, length-append}
 use Rattle.std.proofs.lemmas.Result.{err_from_is_err_and}
 use Rattle.body_store.specs.Contents.{ballots_of}
-use Rattle.image_builder.proofs.FirstCells.{refused_behind, refused_within, room_next}
+use Rattle.image_builder.proofs.FirstCells.{refused_behind, refused_memory, refused_within, room_next}
 use Rattle.image_builder.proofs.cells.read_cells.Goals as goal
 use Rattle.image_builder.specs.Cells.{kept_front, numbers_read}
 
@@ -16,6 +16,12 @@ read_cell-requires-clause-room c =
     let same : front ++ (part ++ rest) ≡ front ++ c.args.part.now.items ++ c.args.bytes.now = ap (λ bytes. front ++ bytes) c.in_ok-rest.ensures.joined ∙ sym (append_assoc front c.args.part.now.items c.args.bytes.now) in
     room_next e (numbers_read cells) (ballots_of cells.records.items) (part ++ rest) (front ++ c.args.part.now.items ++ c.args.bytes.now) c.requires.election c.requires.kept.valid same c.requires.within
     (omega (arith, length-append part rest, c.if-len-size.false, c.len.ensures, c.cell_bytes-size.ensures.size))
+
+pub returns-in_err-rest-clause-refused : goal.returns-in_err-rest-clause-refused
+returns-in_err-rest-clause-refused c =
+    let cells = c.args.cells.now in
+    let p = err_from_is_err_and c.from_residual.result c.from_residual.ensures.1 in
+    rw (p.1, p.2) (refused_memory c.args.election.now (numbers_read cells) (ballots_of cells.records.items) c.args.part.now.items c.args.bytes.now)
 
 pub returns-in_err-read_cell-clause-refused : goal.returns-in_err-read_cell-clause-refused
 returns-in_err-read_cell-clause-refused c =

@@ -1,10 +1,14 @@
 use Rattle.std.proofs.Common.{◌≡◌, ◌++◌, [], List, ℕ, sym, ap, subst, ◌∙◌}
 use Rattle.std.proofs.lemmas.List.{append-nil}
 use Rattle.std.proofs.lemmas.Result.{err_from_is_err_and}
-use Rattle.image_builder.proofs.Fed.{only_memory}
+use Rattle.image_builder.proofs.Fed.{header_of_image, only_memory}
 use Rattle.image_builder.proofs.OneSet.{one_set}
 use Rattle.image_builder.proofs.reader.read_image.Goals as goal
 use Rattle.image_builder.specs.Reading.{IsRefusedBank}
+
+pub returns-in_err-check_header-clause-back : goal.returns-in_err-check_header-clause-back
+returns-in_err-check_header-clause-back c ballots is =
+    absurd (c.in_err-check_header.ensures.other (header_of_image c.args.election.now c.args.bytes.now ballots is))
 
 pub returns-in_err-reader-2-clause-refused : goal.returns-in_err-reader-2-clause-refused
 returns-in_err-reader-2-clause-refused c =

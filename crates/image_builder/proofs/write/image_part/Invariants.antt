@@ -6,7 +6,7 @@ use Rattle.store_spec.specs.Image.{image_of}
 abbrev pub invariant-loop-done : goal.invariant-loop-done
 invariant-loop-done l = record {
   within : l.done ≤ length l.out;
-  written : take l.done l.out ≡ take l.done (drop l.from (image_of l.election l.closed.ballots));
+  written : take l.done l.out ≡ take l.done (drop l.from (image_of l.closed.election l.closed.ballots));
 }
 
 abbrev pub decreases-loop-done : goal.decreases-loop-done

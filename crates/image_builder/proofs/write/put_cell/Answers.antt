@@ -14,5 +14,5 @@ put_cell-requires-clause-valid c =
     let number : ℕ = slice_index (cells_of store.election store.ballots) c.args.cell in
     let found : ballot_of store.ballots number ≡ Some held = sym c.record_in.ensures ∙ ap (option_map (λ held. ballot held.now)) c.in-Some.is in
     let there = found_in store.ballots number held found in
-    subst (λ (e : Election). IsValid e held) (sym c.requires.own)
+    subst (λ (e : Election). IsValid e held) (sym c.election.ensures.election)
     (All-contains (IsValid store.election) store.ballots held c.requires.stored.set.valid there.0)

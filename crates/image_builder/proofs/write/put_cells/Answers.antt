@@ -7,16 +7,16 @@ use Rattle.store_spec.specs.Image.{cell_bytes, cells_of}
 
 pub returns-clause-bytes : goal.returns-clause-bytes
 returns-clause-bytes c =
-    let f = cell_bytes c.args.election.now c.args.closed.now.ballots in
-    let cells = drop c.args.first (cells_of c.args.election.now c.args.closed.now.ballots) in
+    let f = cell_bytes c.args.closed.now.election c.args.closed.now.ballots in
+    let cells = drop c.args.first (cells_of c.args.closed.now.election c.args.closed.now.ballots) in
     let out = c.args.out.now in
     let count = c.min-count.result in
-    let n = count * c.cell_bytes-size.result in
+    let n = count * c.size_of_cell-size.result in
     let new = c.put_block.new.out in
     let front = flat_map f (take count cells) in
     let behind = flat_map f (drop count cells) in
-    let some : 0 < c.cell_bytes-size.result = omega arith in
-    let counted : count ≤ c.min.result / c.cell_bytes-size.result = omega arith in
+    let some : 0 < c.size_of_cell-size.result = omega arith in
+    let counted : count ≤ c.min.result / c.size_of_cell-size.result = omega arith in
     let fits : n ≤ c.min.result = (le-div_iff_mul-le some).0 counted in
     let long : length new ≡ n = c.put_block.auto.out ∙ length-take-le n out (omega (arith, fits)) in
     let whole : front ++ behind ≡ flat_map f cells =

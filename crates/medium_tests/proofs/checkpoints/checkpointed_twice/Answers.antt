@@ -1,8 +1,12 @@
-use Rattle.std.proofs.Common.{[], refl}
+use Rattle.std.proofs.Common.{List, [], refl, sym, subst}
+use Rattle.store_spec.specs.Election.{Election}
+use Rattle.store_spec.specs.Ballot.{Ballot}
+use Rattle.store_spec.specs.Medium.{IsMediumOf}
 use Rattle.medium_tests.proofs.checkpoints.checkpointed_twice.Goals as goal
 
 pub checkpoint-requires-clause-medium : goal.checkpoint-requires-clause-medium
 checkpoint-requires-clause-medium g c bytes is =
+    subst (λ (e : Election). (old : List Ballot) × IsMediumOf e bytes old) (sym c.in_ok-closed.ensures.election)
     ([], c.in_ok-init.ensures.medium.related c.in_ok-disk.disk.recording.bytes.items bytes refl is)
 
 pub checkpoint-requires-2-clause-medium : goal.checkpoint-requires-2-clause-medium

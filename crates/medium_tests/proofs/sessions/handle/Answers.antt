@@ -1,4 +1,4 @@
-use Rattle.std.proofs.Common.{◌+◌, [], subst, sym}
+use Rattle.std.proofs.Common.{◌+◌, ◌∙◌, [], ap, subst, sym}
 use Rattle.outside_io.specs.Outside.{output}
 use Rattle.phase_gate.proofs.Acknowledging.{medium_now}
 use Rattle.phase_gate.proofs.Kept.{IsSomeMedium, medium_after}
@@ -6,11 +6,12 @@ use Rattle.medium_tests.proofs.sessions.handle.Goals as goal
 use Rattle.phase_gate.specs.Around.{around}
 use Rattle.phase_gate.specs.Telling.{told_by}
 use Rattle.store_spec.specs.Disk.{disk_model}
+use Rattle.body_store.specs.Contents.{Contents}
 
 pub lines-init : goal.lines-init
 lines-init g c =
     let model = disk_model g.D.Disk.seen g.D.Disk.calls g.D.Disk.may_leave g.D.Disk.faults in
-    subst (λ e. IsSomeMedium model e c.init.new.disk) (sym c.telling-session.ensures.election) (
+    subst (λ e. IsSomeMedium model e c.init.new.disk) (sym (c.telling-session.ensures.election ∙ ap (λ (s : Contents). s.election) c.in_ok-closed.ensures)) (
       [],
       medium_now model c.example-election.result [] c.args.disk.now c.init.new.disk c.in_ok-init.ensures.settled
           c.in_ok-init.ensures.medium,

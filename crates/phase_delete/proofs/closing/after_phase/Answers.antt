@@ -1,11 +1,10 @@
-use Rattle.std.proofs.Common.{◌≡◌, ap, map, ◌∙◌, subst, sym}
+use Rattle.std.proofs.Common.{◌≡◌, refl, ap, map, ◌∙◌, subst, sym}
 use Rattle.std.proofs.lemmas.Simd.{map-map}
 use Rattle.body_store.proofs.BallotSets.{stored_without}
-use Rattle.body_store.specs.Contents.{Contents, IsStored, ballots_without}
+use Rattle.body_store.specs.Contents.{Contents, IsStored}
 use Rattle.phase_delete.proofs.Whole.{closes_as, layout, replies_in, trays_of, whole}
 use Rattle.phase_delete.proofs.closing.after_phase.Goals as goal
 use Rattle.phase_delete.specs.Ends.{all_withdrawn}
-use Rattle.store_spec.specs.Election.{Election}
 use Rattle.word_rule.specs.Places.{AreWhole}
 use Rattle.word_rule.specs.WithdrawSeats.{IsAtRest}
 use Rattle.word_rule.specs.WithdrawWords.{AgreeOn, cells_after}
@@ -15,21 +14,22 @@ close-requires c =
     let parts = c.in_ok-seats.ensures in
     subst (AreWhole IsAtRest c.args.words) (sym parts.seats) (whole c.args.closed.now c.args.words c.args.tabs.items c.requires.all parts.told)
 
-pub without-requires-clause-layout : goal.without-requires-clause-layout
-without-requires-clause-layout c =
+pub without-requires : goal.without-requires
+without-requires c =
     let parts = c.in_ok-seats.ensures in
     let words = c.args.words in
     let gone : c.deref-2.result.now ≡ all_withdrawn (trays_of c.args.tabs.items) =
     c.deref-2.ensures.value ∙ c.in_ok-withdrawn.ensures ∙ ap (λ trays. all_withdrawn (map (λ tray. tray.items) trays)) c.deref.ensures.value ∙ ap all_withdrawn parts.trays in
-    layout c.args.closed.now words c.args.tabs.items c.requires.all parts.told c.election.result.now c.deref-2.result.now c.in_ok-cells.cells.items
-    c.requires.words c.election.ensures.stored c.election.ensures.election gone (c.in_ok-cells.ensures.cells ∙ ap (cells_after words) parts.seats)
+    record {
+      layout = layout c.args.closed.now words c.args.tabs.items c.requires.all parts.told c.args.closed.now.election c.deref-2.result.now c.in_ok-cells.cells.items
+          c.requires.words c.requires.stored refl gone (c.in_ok-cells.ensures.cells ∙ ap (cells_after words) parts.seats);
+    }
 
 pub returns-clause-stored : goal.returns-clause-stored
 returns-clause-stored c =
     let base = c.args.closed.now in
     let gone = c.deref-2.result.now in
-    subst IsStored (ap (λ (e : Election). record { election = e; ballots = ballots_without base.ballots gone }) (sym c.election.ensures.election) ∙ sym c.in_ok-after.ensures)
-    (stored_without base gone c.election.ensures.stored)
+    subst IsStored (sym c.in_ok-after.ensures) (stored_without base gone c.requires.stored)
 
 pub returns-clause-closes : goal.returns-clause-closes
 returns-clause-closes c =

@@ -7,8 +7,8 @@ use Rattle.word_rule.proofs.Lists.{all_alike}
 
 pub new-requires-clause-may_empty : goal.new-requires-clause-may_empty
 new-requires-clause-may_empty c =
-    may_empty c.args.election.now c.args.closed.now _ c.cells-2.result.now c.requires.own c.cells-2.ensures.stored
-    (record { bits = c.bits.ensures.bits; salt = c.salt.ensures; cells = c.cells.ensures.count }) c.cells.ensures.at_most refl c.cells-2.ensures.layout
+    may_empty c.election-election.result.now c.args.closed.now _ c.cells-2.result.now c.election-election.ensures.election c.cells-2.ensures.stored
+    (record { bits = c.order.ensures.bits; salt = c.order.ensures.salt; cells = c.cells.ensures.count }) c.cells.ensures.at_most refl c.cells-2.ensures.layout
 
 pub returns-clause-withdrawers : goal.returns-clause-withdrawers
 returns-clause-withdrawers c =

@@ -7,8 +7,8 @@ use Rattle.word_rule.proofs.Lists.{all_alike}
 
 pub new-requires-clause-may_hold : goal.new-requires-clause-may_hold
 new-requires-clause-may_hold c =
-    may_hold c.args.election.now c.args.closed.now _ c.cells-2.result.now c.requires.own c.len.ensures.stored
-    (record { bits = c.bits.ensures.bits; salt = c.salt.ensures; cells = c.cells.ensures.count }) c.cells.ensures.at_most (omega (arith, c.limit.ensures.limit, c.len.ensures.count)) c.cells-2.ensures.cells
+    may_hold c.election-election.result.now c.args.closed.now _ c.cells-2.result.now c.election-election.ensures.election c.len.ensures.stored
+    (record { bits = c.order.ensures.bits; salt = c.order.ensures.salt; cells = c.cells.ensures.count }) c.cells.ensures.at_most (omega (arith, c.limit.ensures.limit, c.len.ensures.count)) c.cells-2.ensures.cells
 
 pub returns-clause-tabulators : goal.returns-clause-tabulators
 returns-clause-tabulators c =

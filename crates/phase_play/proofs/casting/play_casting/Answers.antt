@@ -45,8 +45,8 @@ returns-in-Ok-close-clause-plays g c =
     let are : c.deref_mut.result.now ≡ began (λ list. list.items) phase work = c.deref_mut.ensures.value ∙ c.in-Ok.ensures.tabulators ∙ ap (map (new_tabulator phase)) (c.deref.ensures.value ∙ c.in_ok-plan.ensures) in
     let whole : tabs ≡ after = take_at after (drop (length after) held.items) held.len (omega (arith, c.run_cast.ensures.as_many, c.deref_mut.ensures.len, held.ok)) in
     let trays = cast_trays (λ list. list.items) phase work c.deref_mut.result.now are after tabs c.run_cast.ensures.as_many whole c.run_cast.ensures.cast in
-    let plays = plays_casting c.args.election.now phase.base (map (λ tab. tab.tray) tabs) (map (λ finals. finals.items) ended.1.items) (map (λ list. ballots_of list.items) work) ended.0.ballots
-    (ap (λ (store : Contents). store.election) c.in-Ok.ensures.base ∙ sym c.requires.own) c.in-Ok-close.ensures.closes trays in
-    subst (λ (given : List (List Ballot)). PlaysCasting c.args.election.now c.args.closed.ballots given (map (λ list. map reply_of list.items) ended.1.items) ended.0.ballots) (ap (map (λ list. ballots_of list.items)) c.as_slice-lists.ensures.value)
-    (subst (λ (base : Contents). PlaysCasting c.args.election.now base.ballots (map (λ list. ballots_of list.items) work) (map (λ list. map reply_of list.items) ended.1.items) ended.0.ballots) c.in-Ok.ensures.base
-    (subst (λ replies. PlaysCasting c.args.election.now phase.base.ballots (map (λ list. ballots_of list.items) work) replies ended.0.ballots) (map-map (map reply_of) (λ list. list.items) ended.1.items) plays))
+    let plays = plays_casting c.args.closed.election phase.base (map (λ tab. tab.tray) tabs) (map (λ finals. finals.items) ended.1.items) (map (λ list. ballots_of list.items) work) ended.0.ballots
+    (ap (λ (store : Contents). store.election) c.in-Ok.ensures.base) c.in-Ok-close.ensures.closes trays in
+    subst (λ (given : List (List Ballot)). PlaysCasting c.args.closed.election c.args.closed.ballots given (map (λ list. map reply_of list.items) ended.1.items) ended.0.ballots) (ap (map (λ list. ballots_of list.items)) c.as_slice-lists.ensures.value)
+    (subst (λ (base : Contents). PlaysCasting c.args.closed.election base.ballots (map (λ list. ballots_of list.items) work) (map (λ list. map reply_of list.items) ended.1.items) ended.0.ballots) c.in-Ok.ensures.base
+    (subst (λ replies. PlaysCasting c.args.closed.election phase.base.ballots (map (λ list. ballots_of list.items) work) replies ended.0.ballots) (map-map (map reply_of) (λ list. list.items) ended.1.items) plays))

@@ -64,7 +64,7 @@ lines-init g c =
                 (λ bytes. IsMediumOf e bytes c.in_ok-closed.closed.ballots) did.medium);
           }) did.later
           (did.fault.steady (λ failed. cc)) did.called did.once_synced);
-      own = c.telling-session.ensures.election;
+      own = c.telling-session.ensures.election ∙ did.election;
       telling = c.telling-session.ensures.telling;
       counted = omega (arith, c.in_ok-lines.ensures.room);
       no_fault = refl;

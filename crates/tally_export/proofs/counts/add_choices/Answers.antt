@@ -2,29 +2,30 @@ use Rattle.std.proofs.Common.{◌≡◌, ◌≢◌, ℕ, ◌+◌, ◌*◌, ◌%�
 use Rattle.std.proofs.lemmas.Bool.{cases_eq}
 use Rattle.std.proofs.lemmas.Nat.{and_le_l}
 use Rattle.std.proofs.lemmas.Nat.Bits.{bit_at-trailing_zeros, bit_at_clear_other, bit_at_clear_same}
-use Rattle.std.specs.Int.{bit_at, bit_not, trailing_zeros, w32}
+use Rattle.std.specs.Int.{bit_at, bit_not, trailing_zeros}
+use Rattle.ballot_record.specs.Record.{set_word}
 use Rattle.tally_export.proofs.counts.add_choices.Goals as goal
 
 -- the marks behind the first
 abbrev without_first : ℕ → ℕ
-without_first marks = bit_and marks (bit_not w32 (1 * 2 ^ trailing_zeros w32 marks % 2 ^ 32))
+without_first marks = bit_and marks (bit_not set_word (1 * 2 ^ trailing_zeros set_word marks % 2 ^ 32))
 
 fewer : (marks : ℕ) → 0 < marks → marks < 2 ^ 32 → without_first marks < marks
 fewer marks some fits =
-    let first = bit_at-trailing_zeros w32 marks some fits in
-    let place = trailing_zeros w32 marks in
-    let gone : bit_at (without_first marks) place ≡ 0 = bit_at_clear_same w32 marks place first.0 in
+    let first = bit_at-trailing_zeros set_word marks some fits in
+    let place = trailing_zeros set_word marks in
+    let gone : bit_at (without_first marks) place ≡ 0 = bit_at_clear_same set_word marks place first.0 in
     let other : without_first marks ≢ marks = λ same. let still = ap (λ n. bit_at n place) same in omega
     (arith, gone, first.1, still) in
-    let most : without_first marks ≤ marks = and_le_l marks (bit_not w32 (1 * 2 ^ trailing_zeros w32 marks % 2 ^ 32)) in
+    let most : without_first marks ≤ marks = and_le_l marks (bit_not set_word (1 * 2 ^ trailing_zeros set_word marks % 2 ^ 32)) in
     omega (arith, most, other)
 
 one_counted : (counts : List ℕ) (marks c : ℕ) → length counts ≡ 32 → 0 < marks → marks < 2 ^ 32 → c < 32
-    → get_or (set counts (trailing_zeros w32 marks) (get_or counts (trailing_zeros w32 marks) 0 + 1)) c 0 + bit_at
+    → get_or (set counts (trailing_zeros set_word marks) (get_or counts (trailing_zeros set_word marks) 0 + 1)) c 0 + bit_at
     (without_first marks) c ≡ get_or counts c 0 + bit_at marks c
 one_counted counts marks c size some fits within =
-    let first = bit_at-trailing_zeros w32 marks some fits in
-    let place = trailing_zeros w32 marks in
+    let first = bit_at-trailing_zeros set_word marks some fits in
+    let place = trailing_zeros set_word marks in
     let counted = get_or counts place 0 + 1 in
     elim (cases_eq c place) [
       | inl here ↦
@@ -32,14 +33,14 @@ one_counted counts marks c size some fits within =
           ap (λ k. get_or (set counts place counted) k 0) here ∙ get_or-set_same counts place counted 0
           (omega (arith, size, first.0)) in
           let gone : bit_at (without_first marks) c ≡ 0 = ap (bit_at (without_first marks)) here
-          ∙ bit_at_clear_same w32 marks place first.0 in
+          ∙ bit_at_clear_same set_word marks place first.0 in
           let was : get_or counts c 0 ≡ get_or counts place 0 = ap (λ k. get_or counts k 0) here in
           let marked : bit_at marks c ≡ 1 = ap (bit_at marks) here ∙ first.1 in
           omega (arith, written, gone, was, marked)
       | inr other ↦
           let same : get_or (set counts place counted) c 0 ≡ get_or counts c 0 = get_or-set_other counts place c
           counted 0 other in
-          let still : bit_at (without_first marks) c ≡ bit_at marks c = bit_at_clear_other w32 marks place first.0 c
+          let still : bit_at (without_first marks) c ≡ bit_at marks c = bit_at_clear_other set_word marks place first.0 c
           within other in
           omega (arith, same, still)
     ]

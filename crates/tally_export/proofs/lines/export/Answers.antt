@@ -1,4 +1,4 @@
-use Rattle.std.proofs.Common.{◌≡◌, ℕ, ◌+◌, ◌<◌, List, [], Bor, drop, get_or, length, map, Option, ap, subst, sym, ◌∙◌, arith}
+use Rattle.std.proofs.Common.{◌≡◌, ℕ, ◌+◌, ◌<◌, List, [], ◌∷◌, ◌++◌, Bor, drop, get_or, length, map, Option, ap, subst, sym, ◌∙◌, arith}
 use Rattle.std.proofs.lemmas.List.{length-map}
 use Rattle.ballot_record.specs.Record.{ballot}
 use Rattle.ballot_record.specs.declared.record.Record.{Record}
@@ -8,6 +8,8 @@ use Rattle.store_spec.specs.Report.{export_text}
 use Rattle.tally_export.proofs.Writing.{IsWritten, all_written, ballot_gathered, front_written, gathered_written, lines_left, listed_at, no_line_left, on_failure, some_written, valid_at}
 use Rattle.tally_export.proofs.lines.export.Goals as goal
 use Rattle.tally_export.proofs.lines.export.Goals.{then-len-gt-FULL+in_ok-write_all, else-len-gt-FULL}
+use Rattle.store_spec.specs.BallotLine.{record_line}
+use Rattle.store_spec.specs.Input.{line_end}
 
 abbrev nobody : Bor Record
 nobody = record { ref_ptr = (0, 0); now = record { number = 0; style = 0; marks = [] } }
@@ -26,15 +28,15 @@ pub put_ballot-requires : goal.put_ballot-requires
 put_ballot-requires g c =
     let closed = c.args.closed.now in
     let listed = c.deref-record-items.result.now in
-    valid_at c.args.election.now closed.election closed.ballots c.records.record-index
+    valid_at c.election-election.result.now closed.election closed.ballots c.records.record-index
     (ballot_at listed c.records.record-index)
-    c.requires c.in_ok-listed.ensures.stored.set.valid
+    (sym c.election-election.ensures.election) c.in_ok-listed.ensures.stored.set.valid
     (next_ballot listed c.in_ok-listed.listed.items closed.ballots c.records.record-index
     c.deref-record-items.ensures.value c.in_ok-listed.ensures.ballots (omega arith))
 
 pub returns-in_err-put_ballot-clause-some : goal.returns-in_err-put_ballot-clause-some
 returns-in_err-put_ballot-clause-some g c =
-    let e = c.args.election.now in
+    let e = c.args.closed.now.election in
     let taken = g.K.Sink.taken in
     let whole = export_text e c.args.closed.now.ballots in
     let l = c.records in
@@ -44,7 +46,7 @@ returns-in_err-put_ballot-clause-some g c =
 
 pub returns-in_err-write_all-clause-some : goal.returns-in_err-write_all-clause-some
 returns-in_err-write_all-clause-some g c =
-    let e = c.args.election.now in
+    let e = c.args.closed.now.election in
     let ballots = c.args.closed.now.ballots in
     let listed = c.deref-record-items.result.now in
     let taken = g.K.Sink.taken in
@@ -55,7 +57,7 @@ returns-in_err-write_all-clause-some g c =
     let at = next_ballot listed c.in_ok-listed.listed.items ballots l.record-index c.deref-record-items.ensures.value
     c.in_ok-listed.ensures.ballots (omega arith) in
     let gathered = ballot_gathered e ballots l.record-index (ballot_at listed l.record-index) (taken c.args.out.now)
-    (taken l.out) l.text.items text whole at.0 at.1 l.invariant.written c.in_ok-put_ballot.ensures in
+    (taken l.out) l.text.items text whole at.0 at.1 l.invariant.written (c.in_ok-put_ballot.ensures ∙ ap (λ e. l.text.items ++ (record_line e (ballot_at listed l.record-index) ++ line_end ∷ [])) c.election-election.ensures.election) in
     on_failure c.from_residual-in_err-write_all.result (TakesSome (taken c.args.out.now) whole after)
     (some_written (taken c.args.out.now) (taken l.out) after text
     (lines_left e (drop (l.record-index + 1) ballots)) whole gathered
@@ -64,7 +66,7 @@ returns-in_err-write_all-clause-some g c =
 
 pub records-preserved : goal.records-preserved
 records-preserved g c =
-    let e = c.args.election.now in
+    let e = c.args.closed.now.election in
     let ballots = c.args.closed.now.ballots in
     let listed = c.deref-record-items.result.now in
     let taken = g.K.Sink.taken in
@@ -78,7 +80,7 @@ records-preserved g c =
     c.in_ok-listed.ensures.ballots (omega arith) in
     let gathered = ballot_gathered e ballots l.record-index (ballot_at listed l.record-index) before
     (taken l.out) l.text.items text whole
-    at.0 at.1 l.invariant.written c.in_ok-put_ballot.ensures in
+    at.0 at.1 l.invariant.written (c.in_ok-put_ballot.ensures ∙ ap (λ e. l.text.items ++ (record_line e (ballot_at listed l.record-index) ++ line_end ∷ [])) c.election-election.ensures.election) in
     elim c.if-len-gt-FULL.branch [
       | then-len-gt-FULL+in_ok-write_all w ↦
           let after = taken w.write_all.new.self in
@@ -102,7 +104,7 @@ records-preserved g c =
 
 pub returns-in_err-write_all-2-clause-some : goal.returns-in_err-write_all-2-clause-some
 returns-in_err-write_all-2-clause-some g c =
-    let e = c.args.election.now in
+    let e = c.args.closed.now.election in
     let taken = g.K.Sink.taken in
     let whole = export_text e c.args.closed.now.ballots in
     let l = c.records in
@@ -115,7 +117,7 @@ returns-in_err-write_all-2-clause-some g c =
 
 pub returns-clause-all : goal.returns-clause-all
 returns-clause-all g c =
-    let e = c.args.election.now in
+    let e = c.args.closed.now.election in
     let ballots = c.args.closed.now.ballots in
     let taken = g.K.Sink.taken in
     let l = c.records in

@@ -3,11 +3,14 @@ use Rattle.std.proofs.Math.ListN.{set, length-set}
 use Rattle.std.proofs.Math.Nat.{mod-eq_of_lt}
 use Rattle.std.specs.List.{flat_map}
 use Rattle.std.specs.Int.{to_be_bytes, w32, w64}
-use Rattle.ballot_record.proofs.Cells.{cell_written}
+use Rattle.store_spec.specs.Election.{cell_size}
+use Rattle.store_spec.specs.Image.{ballot_bytes}
+use Rattle.ballot_record.proofs.FormatWriting.{cell_written}
 use borrow.Rule.Slice.PartMut.{put_mid}
 use Rattle.ballot_record.proofs.record.Record.put_cell.Goals as goal
 
 pub returns : goal.returns
+unfolding ballot_bytes cell_size
 returns c =
     let r = c.args.self.now in
     let number = to_be_bytes w64 r.number in

@@ -1,13 +1,13 @@
-use Rattle.std.proofs.Common.{◌≡◌, ℕ, List, Result, Ok, Err, IfOk, length, sym, ap, subst, ◌∙◌}
+use Rattle.std.proofs.Common.{◌≡◌, ℕ, List, Result, Ok, Err, IfOk, length, take, sym, ap, subst, ◌∙◌}
 use Rattle.std.specs.List.Sorted.{IsPermutation}
 use Rattle.body_store.specs.Contents.{Contents, IsStored, ballots_of}
-use Rattle.image_builder.proofs.Fed.{IsOwn, cells_fed, image_fed, own_parts}
+use Rattle.image_builder.proofs.Fed.{IsOwn, cells_fed, header_fed, image_fed, own_parts}
 use Rattle.image_builder.proofs.Listings.{image_of-IsPermutation}
 use Rattle.image_builder.proofs.Reading.{listing_ordered}
 use Rattle.image_builder.proofs.reader.ImageReader.finish.Goals as goal
 use Rattle.image_builder.specs.Cells.{numbers_read}
 use Rattle.store_spec.specs.Ballot.{Ballot, IsBallotSet, IsWithinLimit}
-use Rattle.store_spec.specs.Election.{Election, IsElection, bank_size}
+use Rattle.store_spec.specs.Election.{Election, IsElection, bank_size, header_size}
 use Rattle.store_spec.specs.Image.{IsImageOf}
 
 -- a store that holds the ballots that were read
@@ -36,7 +36,7 @@ from_cells-requires-clause-listing c =
     let kept = c.self.inside in
     let cells = kept.cells in
     let ballots = ballots_of cells.records.items in
-    let own = own_parts e kept.election.value kept.header (numbers_read cells) cells.reaches.items ballots kept.part.items c.args.self c.self.view_is c.requires.own c.self.invariant.parts in
+    let own = own_parts e kept c.args.self c.self.view_is c.requires.own c.self.invariant in
     let read = own.parts.cells in
     let held = listing_ordered e (numbers_read cells) ballots read.ordered read.same read.valid read.few in
     held.listing
@@ -47,15 +47,14 @@ from_cells-requires-clause-layout c =
     let kept = c.self.inside in
     let cells = kept.cells in
     let ballots = ballots_of cells.records.items in
-    let own = own_parts e kept.election.value kept.header (numbers_read cells) cells.reaches.items ballots kept.part.items c.args.self c.self.view_is c.requires.own c.self.invariant.parts in
+    let own = own_parts e kept c.args.self c.self.view_is c.requires.own c.self.invariant in
     cells_fed e kept.header (numbers_read cells) cells.reaches.items ballots kept.part.items c.contests.ensures.valid own.parts (ap length own.fed_so_far ∙ c.requires.whole)
 
 pub from_cells-requires-clause-in_turn : goal.from_cells-requires-clause-in_turn
 from_cells-requires-clause-in_turn c =
     let e = c.args.election.now in
     let kept = c.self.inside in
-    let cells = kept.cells in
-    let own = own_parts e kept.election.value kept.header (numbers_read cells) cells.reaches.items (ballots_of cells.records.items) kept.part.items c.args.self c.self.view_is c.requires.own c.self.invariant.parts in
+    let own = own_parts e kept c.args.self c.self.view_is c.requires.own c.self.invariant in
     own.parts.cells.same
 
 pub returns-clause-image : goal.returns-clause-image
@@ -64,6 +63,16 @@ returns-clause-image c =
     let kept = c.self.inside in
     let cells = kept.cells in
     let ballots = ballots_of cells.records.items in
-    let own = own_parts e kept.election.value kept.header (numbers_read cells) cells.reaches.items ballots kept.part.items c.args.self c.self.view_is c.requires.own c.self.invariant.parts in
+    let own = own_parts e kept c.args.self c.self.view_is c.requires.own c.self.invariant in
     let made = c.from_cells.ensures in
     image_told e kept.header (numbers_read cells) cells.reaches.items ballots kept.part.items c.args.self.fed c.from_cells.result own c.requires.whole made.election made.same made.stored
+
+pub returns-clause-header : goal.returns-clause-header
+returns-clause-header c =
+    let e = c.args.election.now in
+    let kept = c.self.inside in
+    let cells = kept.cells in
+    let ballots = ballots_of cells.records.items in
+    let own = own_parts e kept c.args.self c.self.view_is c.requires.own c.self.invariant in
+    ap (take header_size) (sym own.fed_so_far)
+    ∙ header_fed e kept.header (numbers_read cells) cells.reaches.items ballots kept.part.items own.parts (ap length own.fed_so_far ∙ c.requires.whole)

@@ -26,8 +26,7 @@ pub close_casting-requires-clause-valid : goal.close_casting-requires-clause-val
 close_casting-requires-clause-valid g c κs within =
     let lists = c.in-Casting.lists.items in
     let wait = c.args.self.waiting.casts (map (λ list. ballots_of list.items) lists) (ap phase_of c.in-Casting.is) in
-    let valid = subst (λ (e : Election). All (All (IsValid e)) (map (λ list. ballots_of list.items) lists)) (sym c.election.ensures.election) wait.1 in
-    all_valid c.election.result.now (λ list. ballots_of list.items) lists lists refl valid
+    all_valid c.args.self.closed.election (λ list. ballots_of list.items) lists lists refl wait.1
 
 pub close_withdrawing-requires-clause-lists : goal.close_withdrawing-requires-clause-lists
 close_withdrawing-requires-clause-lists g c κs within =
@@ -66,7 +65,6 @@ returns-clause-does g c =
     let telling = c.args.telling in
     let own = self.closed.election in
     let Did : Effect → Type 0 = Does own c.args.index (state_of self) Close (phase_of self.work) in
-    let same = c.election.ensures.election in
     let ballots = self.closed.ballots in
     let casts = λ (list : Vec Record Global). ballots_of list.items in
     let numbers = λ (list : Vec ℕ Global). list.items in
@@ -75,9 +73,7 @@ returns-clause-does g c =
           let own_lists : List (Vec Record Global) = w.in-Casting.lists.items in
           let text = string_bytes w.close_casting.new.reply in
           let after = w.in_ok-closed-in-Casting.closed in
-          let Closes : Election → Type 0 = λ e. Tells telling (ClosesCasting e ballots (map casts own_lists)) (replies text (begun after.ballots)) in
-          let listed : Closes own = subst Closes same w.in_ok-closed-in-Casting.ensures.closes in
-          close_told telling own c.args.index (state_of self) (Casts (map casts own_lists)) (phase_of self.work) (ap phase_of w.in-Casting.is) text (string_bytes c.match-work.reply) (ap string_bytes w.reply-is) after c.match-work.closed w.closed-is listed
+          close_told telling own c.args.index (state_of self) (Casts (map casts own_lists)) (phase_of self.work) (ap phase_of w.in-Casting.is) text (string_bytes c.match-work.reply) (ap string_bytes w.reply-is) after c.match-work.closed w.closed-is w.in_ok-closed-in-Casting.ensures.closes
       | in-Withdrawing+in_ok-closed-in-Withdrawing w ↦
           let own_lists : List (Vec ℕ Global) = w.in-Withdrawing.lists.items in
           let text = string_bytes w.close_withdrawing.new.reply in

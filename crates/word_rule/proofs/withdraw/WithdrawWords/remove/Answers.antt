@@ -12,9 +12,7 @@ walk-init c =
     let kept = has_chosen c.args.self.now.shape.cells chosen.0 chosen.1 c.args.seat.now.me.0.view (state_of c.args.chosen) chosen.2 c.requires.about.state_is in
     record {
       about = c.requires.about;
-      removing = kept.removing;
-      rows = no_row;
-      bounded = kept.bounded;
+      way = record { removing = kept.removing; rows = no_row; bounded = kept.bounded };
       walks = kept.walks;
     }
 
@@ -22,7 +20,7 @@ walked : (c : goal.After-step) → HasMoved (homes_of c.args.self.now.shape) (nu
 walked c =
     let i = c.walk.invariant in
     has_moved (homes_of c.args.self.now.shape) (number_of (state_of c.args.chosen)) c.args.self.now.shape.cells c.args.seat.now.me.0.view c.walk.seat.me.0.view c.step.new.seat.me.0.view (state_of c.walk.state) (state_of c.step.result.0) (note_of c.step.result.1)
-    i.removing i.rows i.bounded i.about.state_is c.step.ensures.about.state_is c.step.ensures.row c.step.ensures.falls
+    i.way i.about.state_is c.step.ensures.about.state_is c.step.ensures.row c.step.ensures.falls
 
 pub walk-smaller : goal.walk-smaller
 walk-smaller c = (walked c).falls
@@ -30,9 +28,7 @@ walk-smaller c = (walked c).falls
 pub walk-preserved : goal.walk-preserved
 walk-preserved c = record {
   about = c.step.ensures.about;
-  removing = (walked c).removing;
-  rows = (walked c).rows;
-  bounded = (walked c).bounded;
+  way = (walked c).way;
   walks = subst (λ (s : WithdrawState). Follows s (state_of c.step.result.0)) (ap state_of c.in-Chosen.is) (walked c).follows;
 }
 
@@ -41,14 +37,12 @@ looked c =
     let i = c.owed.invariant in
     let last = c.step-in-Owing in
     has_moved (homes_of c.args.self.now.shape) (number_of (state_of c.args.chosen)) c.args.self.now.shape.cells c.args.seat.now.me.0.view c.owed.seat.me.0.view last.new.seat.me.0.view (state_of c.owed.state) (state_of last.result.0) (note_of last.result.1)
-    i.removing i.rows i.bounded i.about.state_is last.ensures.about.state_is last.ensures.row last.ensures.falls
+    i.way i.about.state_is last.ensures.about.state_is last.ensures.row last.ensures.falls
 
 pub up-init : goal.up-init
 up-init c = record {
   about = c.step-in-Owing.ensures.about;
-  removing = (looked c).removing;
-  rows = (looked c).rows;
-  bounded = (looked c).bounded;
+  way = (looked c).way;
   rises = subst (λ (s : WithdrawState). Follows s (state_of c.step-in-Owing.result.0)) (ap state_of c.in-Owing.is) (looked c).follows;
   less = omega arith;
 }
@@ -58,7 +52,7 @@ risen c =
     let i = c.up.invariant in
     let last = c.step-in-Up in
     has_moved (homes_of c.args.self.now.shape) (number_of (state_of c.args.chosen)) c.args.self.now.shape.cells c.args.seat.now.me.0.view c.up.seat.me.0.view last.new.seat.me.0.view (state_of c.up.state) (state_of last.result.0) (note_of last.result.1)
-    i.removing i.rows i.bounded i.about.state_is last.ensures.about.state_is last.ensures.row last.ensures.falls
+    i.way i.about.state_is last.ensures.about.state_is last.ensures.row last.ensures.falls
 
 pub up-smaller : goal.up-smaller
 up-smaller c = (risen c).falls
@@ -66,9 +60,7 @@ up-smaller c = (risen c).falls
 pub up-preserved : goal.up-preserved
 up-preserved c = record {
   about = c.step-in-Up.ensures.about;
-  removing = (risen c).removing;
-  rows = (risen c).rows;
-  bounded = (risen c).bounded;
+  way = (risen c).way;
   rises = subst (λ (s : WithdrawState). Follows s (state_of c.step-in-Up.result.0)) (ap state_of c.in-Up.is) (risen c).follows;
   less = omega (arith, (risen c).falls, c.up.invariant.less);
 }
@@ -78,7 +70,7 @@ sunk c =
     let i = c.down.invariant in
     let last = c.step-in-Down in
     has_moved (homes_of c.args.self.now.shape) (number_of (state_of c.args.chosen)) c.args.self.now.shape.cells c.args.seat.now.me.0.view c.down.seat.me.0.view last.new.seat.me.0.view (state_of c.down.state) (state_of last.result.0) (note_of last.result.1)
-    i.removing i.rows i.bounded i.about.state_is last.ensures.about.state_is last.ensures.row last.ensures.falls
+    i.way i.about.state_is last.ensures.about.state_is last.ensures.row last.ensures.falls
 
 pub down-smaller : goal.down-smaller
 down-smaller c = (sunk c).falls
@@ -86,9 +78,7 @@ down-smaller c = (sunk c).falls
 pub down-preserved : goal.down-preserved
 down-preserved c = record {
   about = c.step-in-Down.ensures.about;
-  removing = (sunk c).removing;
-  rows = (sunk c).rows;
-  bounded = (sunk c).bounded;
+  way = (sunk c).way;
   sinks = subst (λ (s : WithdrawState). Follows s (state_of c.step-in-Down.result.0)) (ap state_of c.in-Down.is) (sunk c).follows;
   less = omega (arith, (sunk c).falls, c.down.invariant.less);
 }
@@ -98,5 +88,5 @@ owed-smaller c =
     let i = c.owed.invariant in
     let last = c.step-in-Owing in
     let look = has_moved (homes_of c.args.self.now.shape) (number_of (state_of c.args.chosen)) c.args.self.now.shape.cells c.args.seat.now.me.0.view c.owed.seat.me.0.view last.new.seat.me.0.view (state_of c.owed.state) (state_of last.result.0) (note_of last.result.1)
-    i.removing i.rows i.bounded i.about.state_is last.ensures.about.state_is last.ensures.row last.ensures.falls in
+    i.way i.about.state_is last.ensures.about.state_is last.ensures.row last.ensures.falls in
     omega (arith, look.falls, c.up.invariant.less, c.down.invariant.less)

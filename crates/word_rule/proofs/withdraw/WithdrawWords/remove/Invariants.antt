@@ -2,19 +2,15 @@ use Rattle.std.proofs.Common.{◌≤◌}
 use Rattle.step_core.specs.Shape.{homes_of}
 use Rattle.step_core.specs.WithdrawTables.{state_of}
 use Rattle.store_spec.specs.WithdrawStep.{number_of}
-use Rattle.word_rule.proofs.WithdrawWay.{Owes, Rises, Sinks, Walks}
-use Rattle.word_rule.proofs.WithdrawWork.{IsBounded, work_left}
+use Rattle.word_rule.proofs.WithdrawWay.{IsUnderWay, Owes, Rises, Sinks, Walks}
+use Rattle.word_rule.proofs.WithdrawWork.{work_left}
 use Rattle.word_rule.proofs.withdraw.WithdrawWords.remove.Given as goal
-use Rattle.word_rule.specs.Chain.{Rows}
-use Rattle.word_rule.specs.WithdrawRemoval.{IsRemoving}
-use Rattle.word_rule.specs.WithdrawWords.{IsAbout, MakesRow}
+use Rattle.word_rule.specs.WithdrawWords.{IsAbout}
 
 abbrev pub invariant-walk : goal.invariant-walk
 invariant-walk l = record {
   about : IsAbout l.self (state_of l.state) l.seat;
-  removing : IsRemoving (number_of (state_of l.fn.chosen)) l.fn.seat.me.0.view l.seat.me.0.view;
-  rows : Rows (MakesRow (homes_of l.self.shape)) l.fn.seat.me.0.view l.seat.me.0.view;
-  bounded : IsBounded (number_of (state_of l.fn.chosen)) l.self.shape.cells (state_of l.state);
+  way : IsUnderWay (homes_of l.self.shape) (number_of (state_of l.fn.chosen)) l.self.shape.cells l.fn.seat.me.0.view (state_of l.state) l.seat.me.0.view;
   walks : Walks (state_of l.state);
 }
 
@@ -24,9 +20,7 @@ decreases-walk l = work_left (number_of (state_of l.fn.chosen)) l.self.shape.cel
 abbrev pub invariant-owed : goal.invariant-owed
 invariant-owed l = record {
   about : IsAbout l.self (state_of l.state) l.seat;
-  removing : IsRemoving (number_of (state_of l.fn.chosen)) l.fn.seat.me.0.view l.seat.me.0.view;
-  rows : Rows (MakesRow (homes_of l.self.shape)) l.fn.seat.me.0.view l.seat.me.0.view;
-  bounded : IsBounded (number_of (state_of l.fn.chosen)) l.self.shape.cells (state_of l.state);
+  way : IsUnderWay (homes_of l.self.shape) (number_of (state_of l.fn.chosen)) l.self.shape.cells l.fn.seat.me.0.view (state_of l.state) l.seat.me.0.view;
   owes : Owes (state_of l.state);
 }
 
@@ -36,9 +30,7 @@ decreases-owed l = work_left (number_of (state_of l.fn.chosen)) l.self.shape.cel
 abbrev pub invariant-up : goal.invariant-up
 invariant-up l = record {
   about : IsAbout l.self (state_of l.state) l.seat;
-  removing : IsRemoving (number_of (state_of l.fn.chosen)) l.fn.seat.me.0.view l.seat.me.0.view;
-  rows : Rows (MakesRow (homes_of l.self.shape)) l.fn.seat.me.0.view l.seat.me.0.view;
-  bounded : IsBounded (number_of (state_of l.fn.chosen)) l.self.shape.cells (state_of l.state);
+  way : IsUnderWay (homes_of l.self.shape) (number_of (state_of l.fn.chosen)) l.self.shape.cells l.fn.seat.me.0.view (state_of l.state) l.seat.me.0.view;
   rises : Rises (state_of l.state);
   less : work_left (number_of (state_of l.fn.chosen)) l.self.shape.cells (state_of l.state) ≤ work_left (number_of (state_of l.fn.chosen)) l.self.shape.cells (state_of l.initial.state);
 }
@@ -49,9 +41,7 @@ decreases-up l = work_left (number_of (state_of l.fn.chosen)) l.self.shape.cells
 abbrev pub invariant-down : goal.invariant-down
 invariant-down l = record {
   about : IsAbout l.self (state_of l.state) l.seat;
-  removing : IsRemoving (number_of (state_of l.fn.chosen)) l.fn.seat.me.0.view l.seat.me.0.view;
-  rows : Rows (MakesRow (homes_of l.self.shape)) l.fn.seat.me.0.view l.seat.me.0.view;
-  bounded : IsBounded (number_of (state_of l.fn.chosen)) l.self.shape.cells (state_of l.state);
+  way : IsUnderWay (homes_of l.self.shape) (number_of (state_of l.fn.chosen)) l.self.shape.cells l.fn.seat.me.0.view (state_of l.state) l.seat.me.0.view;
   sinks : Sinks (state_of l.state);
   less : work_left (number_of (state_of l.fn.chosen)) l.self.shape.cells (state_of l.state) ≤ work_left (number_of (state_of l.fn.chosen)) l.self.shape.cells (state_of l.initial.state);
 }

@@ -1,6 +1,6 @@
 use Rattle.std.proofs.Common.{arith}
-use Rattle.ballot_record.proofs.CellReading.{no_sets_yet, next_set, all_sets}
-use Rattle.ballot_record.proofs.cell.put_sets.Goals as goal
+use Rattle.ballot_record.proofs.FormatReading.{no_sets_yet, next_set, all_sets}
+use Rattle.ballot_record.proofs.format.put_sets.Goals as goal
 
 pub loop-place-init : goal.loop-place-init
 loop-place-init c = rw (c.requires.empty) (no_sets_yet c.args.contests c.args.bytes.now c.requires.long)

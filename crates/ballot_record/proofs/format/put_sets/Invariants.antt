@@ -1,5 +1,5 @@
-use Rattle.ballot_record.proofs.CellReading.{AreSetsSoFar}
-use Rattle.ballot_record.proofs.cell.put_sets.Given as goal
+use Rattle.ballot_record.proofs.FormatReading.{AreSetsSoFar}
+use Rattle.ballot_record.proofs.format.put_sets.Given as goal
 
 -- what is left goes on with the sets so far, which stand in front
 abbrev pub invariant-loop-place : goal.invariant-loop-place

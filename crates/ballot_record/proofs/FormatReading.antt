@@ -8,10 +8,10 @@ use Rattle.std.proofs.lemmas.List.{get_or_past, set_at, nil_from_length, drop_mo
 use Rattle.std.proofs.lemmas.List.Concat.{flat_map-cons}
 use Rattle.std.proofs.lemmas.Nat.{be_bytes_4, be_bytes_8, from_be_bytes-to_be_bytes_4, from_be_bytes-to_be_bytes_8}
 use Rattle.store_spec.specs.Ballot.{Ballot, IsValid}
-use Rattle.store_spec.specs.Election.{Election, IsElection}
+use Rattle.store_spec.specs.Election.{Election, IsElection, cell_size}
 use Rattle.store_spec.specs.Image.{ballot_bytes}
 use Rattle.ballot_record.proofs.ValidMarks.{small_set, marks_kept}
-use Rattle.ballot_record.specs.CellReading.{sets_at, ballot_at}
+use Rattle.ballot_record.specs.Format.{sets_at, ballot_at}
 
 abbrev pub AreBytes : List ℕ → Type 0
 AreBytes bytes = (i : ℕ) → get_or bytes i 0 < 256
@@ -71,7 +71,8 @@ parted number_bytes style set_bytes eight =
     }
 
 -- the bytes are those of the ballot that was read
-pub cell_spelled : (e : Election) (bytes : List ℕ) → AreBytes bytes → length bytes ≡ 9 + 4 * length e.contests → bytes ≡ ballot_bytes e (ballot_at (length e.contests) bytes)
+pub cell_spelled : (e : Election) (bytes : List ℕ) → AreBytes bytes → length bytes ≡ cell_size e → bytes ≡ ballot_bytes e (ballot_at (length e.contests) bytes)
+unfolding ballot_bytes cell_size
 cell_spelled e bytes fits long =
     let n = length e.contests in
     let sets = sets_at n (drop 9 bytes) in
@@ -84,6 +85,7 @@ cell_spelled e bytes fits long =
 
 -- a valid ballot is read from its bytes
 pub cell_again : (e : Election) (b : Ballot) → IsElection e → IsValid e b → ballot_at (length e.contests) (ballot_bytes e b) ≡ b
+unfolding ballot_bytes
 cell_again e b election valid =
     let n = length e.contests in
     let front = take n b.marks in

@@ -1,7 +1,19 @@
--- How the bytes of a cell are read.
-use Rattle.std.specs.Prelude.{ℕ, zero, suc, ◌-◌, List, [], ◌∷◌, ◌++◌, take, drop, replicate, slice_index}
+-- The widths that callers may count on, and how the bytes of a cell are read.
+use Rattle.std.specs.Prelude.{ℕ, zero, suc, ◌+◌, ◌-◌, ◌*◌, List, [], ◌∷◌, ◌++◌, take, drop, replicate, slice_index}
 use Rattle.std.specs.Int.{from_be_bytes, w32, w64}
 use Rattle.store_spec.specs.Ballot.{Ballot, MARK_SETS}
+use Rattle.store_spec.specs.Election.{header_size, most_cells}
+
+-- the bytes of the number that stands in front of a cell
+abbrev pub number_size : ℕ
+number_size = 8
+
+-- the most bytes of a cell and of a bank, whatever the election
+abbrev pub largest_cell : ℕ
+largest_cell = 73
+
+abbrev pub largest_bank : ℕ
+largest_bank = header_size + most_cells * largest_cell
 
 -- so many mark sets, of four bytes each
 unfoldable pub sets_at : ℕ → List ℕ → List ℕ

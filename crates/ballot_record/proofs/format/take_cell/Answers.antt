@@ -2,9 +2,9 @@ use Rattle.std.proofs.Common.{◌≡◌, ap, subst}
 use Rattle.store_spec.specs.Image.{IsCellOf}
 use Rattle.ballot_record.specs.Record.{ballot}
 use Rattle.ballot_record.specs.declared.record.Record.{Record}
-use Rattle.ballot_record.specs.declared.cell.CellRead.TheVariants.{Held}
-use Rattle.ballot_record.proofs.CellAnswers.{no_ballot, one_record}
-use Rattle.ballot_record.proofs.cell.take_cell.Goals as goal
+use Rattle.ballot_record.specs.declared.format.CellRead.TheVariants.{Held}
+use Rattle.ballot_record.proofs.FormatAnswers.{no_ballot, one_record}
+use Rattle.ballot_record.proofs.format.take_cell.Goals as goal
 
 same_held : (r other : Record) → Held r ≡ Held other → r ≡ other
 same_held r other same = cc

@@ -5,10 +5,10 @@ use Rattle.std.specs.Int.{from_be_bytes, w64}
 use Rattle.store_spec.specs.Ballot.{Ballot, IsValid}
 use Rattle.store_spec.specs.Election.{Election, IsElection, cell_size}
 use Rattle.store_spec.specs.Image.{IsCellOf, ballot_bytes}
-use Rattle.ballot_record.specs.CellReading.{ballot_at}
+use Rattle.ballot_record.specs.Format.{ballot_at}
 use Rattle.ballot_record.specs.Record.{ballot}
 use Rattle.ballot_record.specs.declared.record.Record.{Record}
-use Rattle.ballot_record.proofs.CellReading.{AreBytes, cell_spelled, cell_again, zeros_from_all, all_from_zeros}
+use Rattle.ballot_record.proofs.FormatReading.{AreBytes, cell_spelled, cell_again, zeros_from_all, all_from_zeros}
 
 pub record IsCell (e : Election) (bytes : List ℕ) (r : Record) : Type 0 where
   pub election : IsElection e
@@ -48,6 +48,7 @@ each_zero bytes n zeros = subst (All {X = ℕ} (λ byte. byte ≡ 0)) (sym zeros
 
 -- a cell of zeros is that of no ballot, since no number is 0
 pub no_ballot : (e : Election) (bytes : List ℕ) → IsElection e → bytes ≡ replicate (cell_size e) 0 → (b : Ballot) → IsValid e b → bytes ≡ ballot_bytes e b → ⊥
+unfolding cell_size
 no_ballot e bytes election zeros b valid is =
     let n = length e.contests in
     let none = replicate (cell_size e) 0 in

@@ -3,9 +3,9 @@ use Rattle.std.proofs.lemmas.Bool.{false≢true}
 use Rattle.store_spec.specs.Ballot.{Ballot}
 use Rattle.store_spec.specs.Election.{cell_size}
 use Rattle.ballot_record.specs.Record.{ballot}
-use Rattle.ballot_record.proofs.CellAnswers.{cell_read, spelled, valid_too, zeros_of, each_zero}
-use Rattle.ballot_record.proofs.CellReading.{nothing_behind}
-use Rattle.ballot_record.proofs.cell.take_cell_into.Goals as goal
+use Rattle.ballot_record.proofs.FormatAnswers.{cell_read, spelled, valid_too, zeros_of, each_zero}
+use Rattle.ballot_record.proofs.FormatReading.{nothing_behind}
+use Rattle.ballot_record.proofs.format.take_cell_into.Goals as goal
 
 pub returns-then-valid_up_to-clause-held : goal.returns-then-valid_up_to-clause-held
 returns-then-valid_up_to-clause-held c _ =

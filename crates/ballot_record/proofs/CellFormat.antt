@@ -1,0 +1,51 @@
+-- What others may count on of the bytes of a cell and of a header: how many they are, that a ballot's number stands in
+-- front, and that no two ballots have the same bytes. That zeros are no ballot stands in `take_cell`.
+use Rattle.std.proofs.Common.{◌≡◌, ℕ, ◌*◌, ◌^◌, ◌<◌, ◌≤◌, List, [], ◌∷◌, ◌++◌, length, take, replicate, refl, sym, ap, ◌∙◌, append_assoc, arith, length-append, length-take, take_at}
+use Rattle.std.proofs.lemmas.List.{take-replicate}
+use Rattle.std.proofs.lemmas.List.Concat.{flat_map-cons}
+use Rattle.std.proofs.lemmas.Nat.{from_be_bytes-to_be_bytes_8}
+use Rattle.std.specs.Int.{from_be_bytes, to_be_bytes, w8, w32, w64}
+use Rattle.std.specs.List.{flat_map}
+use Rattle.ballot_record.proofs.FormatReading.{cell_again}
+use Rattle.ballot_record.specs.Format.{ballot_at, number_size}
+use Rattle.store_spec.specs.Ballot.{Ballot, IsValid}
+use Rattle.store_spec.specs.Damage.{number_at}
+use Rattle.store_spec.specs.Election.{Election, IsElection, cell_size, header_size}
+use Rattle.store_spec.specs.Image.{ballot_bytes, header_of}
+
+-- a cell has room for a number
+pub number_fits : (e : Election) → number_size ≤ cell_size e
+unfolding cell_size
+number_fits e = omega arith
+
+pub length-header_of : (e : Election) → length (header_of e) ≡ header_size
+unfolding header_of
+length-header_of e = refl
+
+length-sets : (sets : List ℕ) → length (flat_map (to_be_bytes w32) sets) ≡ length sets * 4
+length-sets [] = refl
+length-sets (set ∷ sets) =
+    omega (arith, ap length (flat_map-cons (to_be_bytes w32) set sets), length-append (to_be_bytes w32 set) (flat_map (to_be_bytes w32) sets), length-sets sets)
+
+pub length-ballot_bytes : (e : Election) (b : Ballot) → IsElection e → IsValid e b → length (ballot_bytes e b) ≡ cell_size e
+unfolding ballot_bytes cell_size
+length-ballot_bytes e b election valid =
+    omega (arith, length-sets (take (length e.contests) b.marks), length-take (length e.contests) b.marks, valid.every_set, election.few_contests)
+
+pub number_of_bytes : (e : Election) (b : Ballot) → b.number < 2 ^ 64 → number_at (ballot_bytes e b) ≡ b.number
+unfolding ballot_bytes
+number_of_bytes e b short =
+    let number = to_be_bytes w64 b.number in
+    let style = to_be_bytes w8 b.style in
+    let sets = flat_map (to_be_bytes w32) (take (length e.contests) b.marks) in
+    ap (λ bytes. from_be_bytes w64 (take 8 bytes)) (append_assoc number style sets)
+    ∙ ap (from_be_bytes w64) (take_at number (style ++ sets) 8 refl)
+    ∙ from_be_bytes-to_be_bytes_8 b.number short
+
+pub number_of_zeros : (e : Election) → number_at (replicate (cell_size e) 0) ≡ 0
+number_of_zeros e = ap (from_be_bytes w64) (take-replicate 8 (cell_size e) 0 (omega (arith, number_fits e)))
+
+-- no two ballots have the same bytes
+pub same_ballot : (e : Election) (a b : Ballot) → IsElection e → IsValid e a → IsValid e b → ballot_bytes e a ≡ ballot_bytes e b → a ≡ b
+same_ballot e a b election valid_a valid_b same =
+    sym (cell_again e a election valid_a) ∙ ap (ballot_at (length e.contests)) same ∙ cell_again e b election valid_b
