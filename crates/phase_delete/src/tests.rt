@@ -5,7 +5,7 @@ ghost use Rattle.body_store.specs.Contents.{ballots_of};
 ghost use Rattle.std.specs.Prelude.{◌≡◌, ◌≤◌, IfOk, length, map};
 ghost use Rattle.store_spec.specs.Ballot.{IsListing};
 
-use crate::{WithdrawPhase, Withdrawal, run_withdraw};
+use crate::{WithdrawPhase, Withdrawal, Withdrawer, run_withdraw};
 use ballot_record::{Contest, Election, MAX_MARK_SETS, Record};
 use body_store::Closed;
 use fake_turns::{Meeting, SeenWords, Turn};
@@ -141,19 +141,31 @@ fn number_lists(alloc: Global, lists: &[&[u64]]) -> Result<Vec<Vec<u64>>, Memory
     Ok(work)
 }
 
-/// One case, of one list at least.
-fn withdraws_as(
-    rt: &(impl Threads + Abort + Sync),
+/// The store after a phase with a withdrawer for each of these lists, of which there is one at least, with these replies.
+fn withdraws<R: Threads + Abort + Sync, T: Turns>(
+    rt: &R,
+    alloc: Global,
+    before: Closed,
+    lists: &[&[u64]],
+    turns: &T,
+    wanted: &[&[WithdrawReply]],
+) -> Result<Closed, Memory> {
+    assert!(rt; !lists.is_empty());
+    assert!(rt; lists.len() <= 64);
+    let work = number_lists(alloc, lists)?;
+    let (after, replies) = run(rt, alloc, before, &work, turns)?;
+    same(rt, &replies, wanted);
+    Ok(after)
+}
+
+fn withdraws_as<R: Threads + Abort + Sync>(
+    rt: &R,
     alloc: Global,
     case: &Case,
 ) -> Result<(), Memory> {
     let before = store(rt, alloc, &Election::example(), case.held)?;
-    assert!(rt; !case.lists.is_empty());
-    assert!(rt; case.lists.len() <= 64);
-    let work = number_lists(alloc, case.lists)?;
-    let (after, replies) = run(rt, alloc, before, &work, &NoTurns)?;
+    let after = withdraws(rt, alloc, before, case.lists, &NoTurns, case.replies)?;
     holds(rt, &after, case.cells);
-    same(rt, &replies, case.replies);
     Ok(())
 }
 
@@ -167,84 +179,120 @@ fn lists_of_numbers(rt: HostRuntime) -> Result<(), Fail> {
     Ok(())
 }
 
+/// A withdrawer withdraws one number.
+fn withdraws_22(rt: &impl Abort, phase: &WithdrawPhase, tab: &mut Withdrawer)
+    requires { tab.old.phase ≡ phase.now }
+{
+    assert_eq!(rt; tab.room(), 1);
+    let reply = tab.withdraw(phase, 22);
+    assert_eq!(rt; reply, Withdrawn);
+    let told = Withdrawal { number: 22, reply };
+    assert_eq!(rt; tab.tray(), [told].as_slice());
+    assert_eq!(rt; phase.peek(22), 9);
+}
+
+/// One withdrawer of a store of two ballots.
+fn withdraws_alone(rt: &impl Abort, alloc: Global) -> Result<(), Memory> {
+    let two = store(rt, alloc, &Election::example(), &[9, 22])?;
+    match WithdrawPhase::begin(alloc, two, &[1]) {
+        Ok((phase, tabs)) => {
+            let mut tabs = tabs;
+            let mut tab = tabs.pop().expect(rt, "a withdrawer");
+            withdraws_22(rt, &phase, &mut tab);
+            Ok(())
+        }
+        Err((_, memory)) => Err(memory),
+    }
+}
+
 /// One withdrawer, which is asked by itself.
 #[test]
 fn one_number(rt: HostRuntime) -> Result<(), Fail> {
-    let two = store(&rt, rt.alloc(), &Election::example(), &[9, 22])?;
-    let election = *two.election();
-    let (phase, mut tabs) = WithdrawPhase::begin(rt.alloc(), two, &[1]).map_err(
-        |refused| refused.1,
-    )?;
-    let mut tab = tabs.pop().ok_or("no withdrawer")?;
-    assert_eq!(rt; tab.room(), 1);
-    let reply = tab.withdraw(&phase, 22);
-    let told = Withdrawal { number: 22, reply };
-    assert_eq!(rt; reply, Withdrawn);
-    assert_eq!(rt; tab.tray(), [told].as_slice());
-    assert_eq!(rt; phase.peek(22), 9);
+    withdraws_alone(&rt, rt.alloc())?;
     Ok(())
 }
 
 #[test]
 fn two_at_once(rt: HostRuntime) -> Result<(), Fail> {
     let alloc = rt.alloc();
-    let work = [
-        Vec::from_slice(alloc, &[22])?,
-        Vec::from_slice(alloc, &[14])?,
-    ];
     let meeting = Meeting::new();
     let four = store(&rt, alloc, &Election::example(), &[1, 9, 14, 22])?;
-    let (rest, replies) = run(&rt, alloc, four, &work, &meeting)?;
+    let lists: [&[u64]; 2] = [&[22], &[14]];
+    let rest = withdraws(
+        &rt,
+        alloc,
+        four,
+        &lists,
+        &meeting,
+        &[&[Withdrawn], &[Withdrawn]],
+    )?;
     assert_eq!(rt; meeting.met(), 2);
     holds(&rt, &rest, &[(4, 9), (5, 1)]);
-    same(&rt, &replies, &[&[Withdrawn], &[Withdrawn]]);
     Ok(())
+}
+
+/// The one withdrawer had these words before it, one at each of its numbers.
+fn assert_seen(rt: &impl Abort, seen: &SeenWords, words: &[u64]) {
+    assert_eq!(rt; seen.count(), words.len() as u64);
+    for (place, word) in words.iter().enumerate() {
+        let turn = Turn {
+            tab: 0,
+            index: place as u64,
+            seen: *word,
+        };
+        assert_eq!(rt; seen.turn_at(place), Some(turn));
+    }
 }
 
 #[test]
 fn words_seen(rt: HostRuntime) -> Result<(), Fail> {
     let alloc = rt.alloc();
     let five = store(&rt, alloc, &Election::example(), &[1, 9, 14, 17, 22])?;
-    let work = [Vec::from_slice(alloc, &[22, 9, 17, 1])?];
     let seen = SeenWords::new();
-    let (one, _) = run(&rt, alloc, five, &work, &seen)?;
+    let lists: [&[u64]; 1] = [&[22, 9, 17, 1]];
+    let one = withdraws(&rt, alloc, five, &lists, &seen, &[&[Withdrawn; 4]])?;
     holds(&rt, &one, &[(5, 14)]);
-    assert_eq!(rt; seen.count(), 4);
-    for (index, word) in [(0, 22), (1, 17), (2, 17), (3, 1)] {
-        let turn = Turn {
-            tab: 0,
-            index,
-            seen: word,
-        };
-        assert_eq!(rt; seen.turn_at(index as usize), Some(turn));
+    assert_seen(&rt, &seen, &[22, 17, 17, 1]);
+    Ok(())
+}
+
+/// What two lists are told of one number, by whether the first withdrew it.
+fn once(is_first: bool) -> (WithdrawReply, WithdrawReply) {
+    if is_first {
+        (Withdrawn, Gone)
+    } else {
+        (Gone, Withdrawn)
     }
+}
+
+/// Two lists of which each number is withdrawn once: 9 and 14 by one or the other.
+fn assert_once(rt: &impl Abort, replies: &[Vec<WithdrawReply>]) {
+    let first: &[WithdrawReply] = replies.first().map_or(&[], |list| list.as_slice());
+    let (nine, other_nine) = once(first.get(1) == Some(&Withdrawn));
+    let (fourteen, other_fourteen) = once(first.get(2) == Some(&Withdrawn));
+    same(
+        rt,
+        replies,
+        &[
+            &[Absent, nine, fourteen],
+            &[other_nine, other_fourteen, Withdrawn],
+        ],
+    );
+}
+
+fn withdraws_once<R: Threads + Abort + Sync>(rt: &R, alloc: Global) -> Result<(), Memory> {
+    let four = store(rt, alloc, &Election::example(), &[1, 9, 14, 22])?;
+    let work = number_lists(alloc, &[&[0, 9, 14], &[9, 14, 1]])?;
+    let (one, replies) = run(rt, alloc, four, &work, &NoTurns)?;
+    holds(rt, &one, &[(4, 22)]);
+    assert_once(rt, &replies);
     Ok(())
 }
 
 #[test]
 fn one_number_from_two_threads(rt: HostRuntime) -> Result<(), Fail> {
-    let alloc = rt.alloc();
-    let election = Election::example();
-    let work = [
-        Vec::from_slice(alloc, &[0, 9, 14])?,
-        Vec::from_slice(alloc, &[9, 14, 1])?,
-    ];
     for _ in 0..50 {
-        let four = store(&rt, alloc, &election, &[1, 9, 14, 22])?;
-        let (one, replies) = run(&rt, alloc, four, &work, &NoTurns)?;
-        holds(&rt, &one, &[(4, 22)]);
-        assert_eq!(rt; replies.len(), 2);
-        let (first, second) = (&replies[0], &replies[1]);
-        assert_eq!(rt; (first.len(), second.len()), (3, 3));
-        assert_eq!(rt; (first[0], second[2]), (Absent, Withdrawn));
-        assert!(rt;
-            (first[1] == Withdrawn && second[0] == Gone)
-                || (first[1] == Gone && second[0] == Withdrawn)
-        );
-        assert!(rt;
-            (first[2] == Withdrawn && second[1] == Gone)
-                || (first[2] == Gone && second[1] == Withdrawn)
-        );
+        withdraws_once(&rt, rt.alloc())?;
     }
     Ok(())
 }
@@ -275,25 +323,44 @@ fn up_to_300(alloc: Global, first: u64) -> Result<Vec<u64>, Memory> {
     Ok(numbers)
 }
 
-#[test]
-fn a_crowd_of_threads(rt: HostRuntime) -> Result<(), Fail> {
-    let alloc = rt.alloc();
+/// An election of 300 ballots with four homes.
+fn crowded(rt: &impl Abort) -> Election {
     let contests = [Contest {
         choices: 1,
         allowed: 1,
     }];
-    let election = Election::from_parts(&contests, &[1], 300, 2, 0).ok_or("no election")?;
-    let all = up_to_300(alloc, 1)?;
-    let wanted = store(&rt, alloc, &election, &up_to_300(alloc, 281)?)?;
+    Election::from_parts(&contests, &[1], 300, 2, 0).expect(rt, "an election")
+}
+
+fn all_withdrawn(rt: &impl Abort, replies: &[Vec<WithdrawReply>]) {
+    for list in replies {
+        assert!(rt; list.iter().all(|reply| *reply == Withdrawn));
+    }
+}
+
+/// Of 300 numbers a crowd withdraws its own, and leaves those that this store has, in the same cells.
+fn assert_left<R: Threads + Abort + Sync>(
+    rt: &R,
+    alloc: Global,
+    election: &Election,
+    wanted: &Closed,
+) -> Result<(), Memory> {
+    let full = store(rt, alloc, election, &up_to_300(alloc, 1)?)?;
     let work = crowd(alloc, 8)?;
     assert_eq!(rt; work.len(), 8);
-    for time in 0..200 {
-        let full = store(&rt, alloc, &election, &all)?;
-        let (rest, replies) = run(&rt, alloc, full, &work, &NoTurns)?;
-        assert_eq!(rt; rest.cells(), wanted.cells(), "time {time}");
-        for list in &replies {
-            assert!(rt; list.iter().all(|reply| *reply == Withdrawn), "time {time}");
-        }
+    let (rest, replies) = run(rt, alloc, full, &work, &NoTurns)?;
+    assert_eq!(rt; rest.cells(), wanted.cells());
+    all_withdrawn(rt, &replies);
+    Ok(())
+}
+
+#[test]
+fn a_crowd_of_threads(rt: HostRuntime) -> Result<(), Fail> {
+    let alloc = rt.alloc();
+    let election = crowded(&rt);
+    let wanted = store(&rt, alloc, &election, &up_to_300(alloc, 281)?)?;
+    for _ in 0..200 {
+        assert_left(&rt, alloc, &election, &wanted)?;
     }
     Ok(())
 }
