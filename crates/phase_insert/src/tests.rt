@@ -177,17 +177,40 @@ fn holds(rt: &impl Abort, store: &Closed, wanted: &[(usize, u64)]) {
     }
 }
 
-/// One case, of one list at least.
-fn casts_as(rt: &(impl Threads + Abort + Sync), alloc: Global, case: &Case) -> Result<(), Memory> {
+/// The store of the example election in which these ballots were cast.
+fn holding<R: Threads + Abort + Sync>(
+    rt: &R,
+    alloc: Global,
+    list: &[Brief],
+) -> Result<Closed, Memory> {
     let empty = Closed::empty(alloc, &Election::example())?;
-    let held = ballot_lists(alloc, &[case.held])?;
-    let (before, _) = run(rt, alloc, empty, &held, &NoTurns)?;
-    assert!(rt; !case.lists.is_empty());
-    assert!(rt; case.lists.len() <= 64);
-    let work = ballot_lists(alloc, case.lists)?;
-    let (after, finals) = run(rt, alloc, before, &work, &NoTurns)?;
+    let held = ballot_lists(alloc, &[list])?;
+    let (store, _) = run(rt, alloc, empty, &held, &NoTurns)?;
+    Ok(store)
+}
+
+/// The store after a phase with a tabulator for each of these lists, of which there is one at least, with these final
+/// replies.
+fn casts<R: Threads + Abort + Sync, T: Turns>(
+    rt: &R,
+    alloc: Global,
+    before: Closed,
+    lists: &[&[Brief]],
+    turns: &T,
+    wanted: &[&[Final]],
+) -> Result<Closed, Memory> {
+    assert!(rt; !lists.is_empty());
+    assert!(rt; lists.len() <= 64);
+    let work = ballot_lists(alloc, lists)?;
+    let (after, finals) = run(rt, alloc, before, &work, turns)?;
+    same(rt, &finals, wanted);
+    Ok(after)
+}
+
+fn casts_as<R: Threads + Abort + Sync>(rt: &R, alloc: Global, case: &Case) -> Result<(), Memory> {
+    let before = holding(rt, alloc, case.held)?;
+    let after = casts(rt, alloc, before, case.lists, &NoTurns, case.finals)?;
     holds(rt, &after, case.cells);
-    same(rt, &finals, case.finals);
     Ok(())
 }
 
@@ -244,63 +267,79 @@ fn one_ballot(rt: HostRuntime) -> Result<(), Fail> {
 #[test]
 fn two_at_once(rt: HostRuntime) -> Result<(), Fail> {
     let alloc = rt.alloc();
-    let work = [
-        Vec::from_slice(alloc, &[ballot(9, 1)])?,
-        Vec::from_slice(alloc, &[ballot(14, 2)])?,
-    ];
     let meeting = Meeting::new();
     let empty = Closed::empty(alloc, &Election::example())?;
-    let (two, finals) = run(&rt, alloc, empty, &work, &meeting)?;
+    let lists: [&[Brief]; 2] = [&[(9, 1)], &[(14, 2)]];
+    let two = casts(
+        &rt,
+        alloc,
+        empty,
+        &lists,
+        &meeting,
+        &[&[Accepted], &[Accepted]],
+    )?;
     assert_eq!(rt; meeting.met(), 2);
     holds(&rt, &two, &[(4, 9), (5, 14)]);
-    same(&rt, &finals, &[&[Final::Accepted], &[Final::Accepted]]);
     Ok(())
+}
+
+/// The one tabulator had these words before it, one at each of its ballots.
+fn assert_seen(rt: &impl Abort, seen: &SeenWords, words: &[u64]) {
+    assert_eq!(rt; seen.count(), words.len() as u64);
+    for (place, word) in words.iter().enumerate() {
+        let turn = Turn {
+            tab: 0,
+            index: place as u64,
+            seen: *word,
+        };
+        assert_eq!(rt; seen.turn_at(place), Some(turn));
+    }
 }
 
 #[test]
 fn words_seen(rt: HostRuntime) -> Result<(), Fail> {
     let alloc = rt.alloc();
-    let three = [Vec::from_slice(alloc, &[ballot(9, 1), ballot(14, 2), ballot(1, 0)])?];
-    let empty = Closed::empty(alloc, &Election::example())?;
-    let (three, _) = run(&rt, alloc, empty, &three, &NoTurns)?;
-    let work = [Vec::from_slice(alloc, &[ballot(22, 0), ballot(17, 0), ballot(5, 0)])?];
+    let three = holding(&rt, alloc, &[(9, 1), (14, 2), (1, 0)])?;
     let seen = SeenWords::new();
-    let (six, _) = run(&rt, alloc, three, &work, &seen)?;
+    let lists: [&[Brief]; 1] = [&[(22, 0), (17, 0), (5, 0)]];
+    let six = casts(&rt, alloc, three, &lists, &seen, &[&[Accepted; 3]])?;
     assert_eq!(rt; six.len(), 6);
-    assert_eq!(rt; seen.count(), 3);
-    for (index, word) in [(0, 9), (1, 22), (2, 0)] {
-        let turn = Turn {
-            tab: 0,
-            index,
-            seen: word,
-        };
-        assert_eq!(rt; seen.turn_at(index as usize), Some(turn));
-    }
+    assert_seen(&rt, &seen, &[9, 22, 0]);
     Ok(())
+}
+
+/// Two tabulators cast ballot 6, the second with these marks. The ballot of one is accepted and held, and the other has
+/// this reply.
+fn one_wins<R: Threads + Abort + Sync>(
+    rt: &R,
+    alloc: Global,
+    set: u32,
+    refused: Final,
+) -> Result<(), Memory> {
+    let empty = Closed::empty(alloc, &Election::example())?;
+    let work = ballot_lists(alloc, &[&[(6, 1)], &[(6, set)]])?;
+    let (one, finals) = run(rt, alloc, empty, &work, &NoTurns)?;
+    assert_won(rt, &one, &finals, set, refused);
+    Ok(())
+}
+
+fn assert_won(rt: &impl Abort, one: &Closed, finals: &[Vec<Final>], set: u32, refused: Final) {
+    let first = finals.first().and_then(|list| list.first());
+    let (replies, kept) = if first == Some(&Accepted) {
+        ([Accepted, refused], 1)
+    } else {
+        ([refused, Accepted], set)
+    };
+    same(rt, finals, &[&replies[..1], &replies[1..]]);
+    assert_eq!(rt; one.len(), 1);
+    assert_eq!(rt; one.record_of(6), Some(ballot(6, kept)));
 }
 
 #[test]
 fn one_number_from_two_threads(rt: HostRuntime) -> Result<(), Fail> {
-    let alloc = rt.alloc();
-    for (set, refused) in [(2, Final::Conflict), (1, Final::Duplicate)] {
-        for _ in 0..50 {
-            let empty = Closed::empty(alloc, &Election::example())?;
-            let work = [
-                Vec::from_slice(alloc, &[ballot(6, 1)])?,
-                Vec::from_slice(alloc, &[ballot(6, set)])?,
-            ];
-            let (one, finals) = run(&rt, alloc, empty, &work, &NoTurns)?;
-            assert_eq!(rt; one.len(), 1);
-            assert_eq!(rt; finals.len(), 2);
-            let first = finals[0].as_slice() == [Final::Accepted].as_slice();
-            let (winner, other) = if first { (0, 1) } else { (1, 0) };
-            assert_eq!(rt; finals[winner].as_slice(), [Final::Accepted].as_slice());
-            assert_eq!(rt; finals[other].as_slice(), [refused].as_slice());
-            assert_eq!(rt;
-                one.record_of(6),
-                Some(ballot(6, if first { 1 } else { set }))
-            );
-        }
+    for _ in 0..50 {
+        one_wins(&rt, rt.alloc(), 2, Conflict)?;
+        one_wins(&rt, rt.alloc(), 1, Duplicate)?;
     }
     Ok(())
 }
@@ -322,36 +361,58 @@ fn crowd(alloc: Global, lists: usize) -> Result<Vec<Vec<Record>>, Memory>
     Ok(work)
 }
 
-#[test]
-fn a_crowd_of_threads(rt: HostRuntime) -> Result<(), Fail> {
-    let alloc = rt.alloc();
+/// An election of 300 ballots with four homes.
+fn crowded(rt: &impl Abort) -> Election {
     let contests = [Contest {
         choices: 1,
         allowed: 1,
     }];
-    let election = Election::from_parts(&contests, &[1], 300, 2, 0).ok_or("no election")?;
-    let alone = crowd(alloc, 1)?;
-    assert_eq!(rt; alone.len(), 1);
-    let (wanted, _) = run(
-        &rt,
-        alloc,
-        Closed::empty(alloc, &election)?,
-        &alone,
-        &NoTurns,
-    )?;
+    Election::from_parts(&contests, &[1], 300, 2, 0).expect(rt, "an election")
+}
+
+fn all_accepted(rt: &impl Abort, finals: &[Vec<Final>]) {
+    for list in finals {
+        assert!(rt; list.iter().all(|told| *told == Accepted));
+    }
+}
+
+/// The store of a crowd, of which each ballot is accepted from so many lists.
+fn crowd_cast<R: Threads + Abort + Sync>(
+    rt: &R,
+    alloc: Global,
+    election: &Election,
+    lists: usize,
+) -> Result<Closed, Memory>
+    requires some { 1 ≤ lists }
+    requires few { lists ≤ 64 }
+{
+    let work = crowd(alloc, lists)?;
+    assert_eq!(rt; work.len(), lists);
+    let empty = Closed::empty(alloc, election)?;
+    let (store, finals) = run(rt, alloc, empty, &work, &NoTurns)?;
+    all_accepted(rt, &finals);
+    Ok(store)
+}
+
+/// Eight lists at once leave the same cells as one.
+fn assert_cells<R: Threads + Abort + Sync>(
+    rt: &R,
+    alloc: Global,
+    election: &Election,
+    wanted: &Closed,
+) -> Result<(), Memory> {
+    let store = crowd_cast(rt, alloc, election, 8)?;
+    assert_eq!(rt; store.cells(), wanted.cells());
+    Ok(())
+}
+
+#[test]
+fn a_crowd_of_threads(rt: HostRuntime) -> Result<(), Fail> {
+    let election = crowded(&rt);
+    let wanted = crowd_cast(&rt, rt.alloc(), &election, 1)?;
     assert_eq!(rt; wanted.len(), 300);
-    let work = crowd(alloc, 8)?;
-    assert_eq!(rt; work.len(), 8);
-    for time in 0..200 {
-        let empty = Closed::empty(alloc, &election)?;
-        let (store, finals) = run(&rt, alloc, empty, &work, &NoTurns)?;
-        assert_eq!(rt; store.cells(), wanted.cells(), "time {time}");
-        for list in &finals {
-            assert!(rt;
-                list.iter().all(|told| *told == Final::Accepted),
-                "time {time}"
-            );
-        }
+    for _ in 0..200 {
+        assert_cells(&rt, rt.alloc(), &election, &wanted)?;
     }
     Ok(())
 }
