@@ -5,6 +5,7 @@ ghost use Rattle.std.specs.Prelude.{All, IfOk};
 ghost use Rattle.store_spec.specs.Ballot.{IsValid};
 
 use crate::{Final, play_casting, play_finding, play_withdrawing};
+use Final::{Accepted, Conflict, Duplicate};
 use ballot_record::{Election, MAX_MARK_SETS, Record};
 use body_store::Closed;
 use outside_io::{Memory, NoTurns};
@@ -12,7 +13,8 @@ use std::alloc::Global;
 use std::fmt::Debug;
 use std::process::Abort;
 use std::test::Fail;
-use step_core::WithdrawReply;
+use std::thread::Threads;
+use step_core::WithdrawReply::{Absent, Gone, Withdrawn};
 
 /// A ballot with these marks in the first contest.
 fn ballot(number: u64, set: u32) -> Record {
@@ -52,64 +54,71 @@ fn holds(rt: &impl Abort, store: &Closed, wanted: &[(usize, u64)]) {
     }
 }
 
-#[test]
-fn one_phase_after_another(rt: HostRuntime) -> Result<(), Fail> {
-    let alloc = rt.alloc();
+/// The ballots 9, 1 and 14, cast by two tabulators.
+fn three_cast<R: Threads + Sync + Abort>(rt: &R, alloc: Global) -> Result<Closed, Memory> {
     let election = Election::example();
     let empty = Closed::empty(alloc, &election)?;
     let work = vec![in alloc;
         cast(alloc, &election, &[ballot(9, 1), ballot(1, 0)])?,
         cast(alloc, &election, &[ballot(14, 2)])?,
     ]?;
-    let (three, finals) = play_casting(&rt, alloc, empty, work, &NoTurns)?;
-    holds(&rt, &three, &[(4, 9), (5, 14), (6, 1)]);
-    same(
-        &rt,
-        &finals,
-        &[&[Final::Accepted, Final::Accepted], &[Final::Accepted]],
-    );
+    let (three, finals) = play_casting(rt, alloc, empty, work, &NoTurns)?;
+    holds(rt, &three, &[(4, 9), (5, 14), (6, 1)]);
+    same(rt, &finals, &[&[Accepted, Accepted], &[Accepted]]);
+    Ok(three)
+}
 
-    let more = vec![in alloc;
-        cast(
-            alloc,
-            &election,
-            &[ballot(22, 0), ballot(9, 1), ballot(14, 1), ballot(22, 1)],
-        )?,
-    ]?;
-    let (four, finals) = play_casting(&rt, alloc, three, more, &NoTurns)?;
-    holds(&rt, &four, &[(4, 22), (5, 14), (6, 9), (7, 1)]);
-    same(
-        &rt,
-        &finals,
-        &[&[
-            Final::Accepted,
-            Final::Duplicate,
-            Final::Conflict,
-            Final::Conflict,
-        ]],
-    );
+/// The ballot 22 is cast behind these three.
+fn a_fourth_cast<R: Threads + Sync + Abort>(
+    rt: &R,
+    alloc: Global,
+    three: Closed,
+) -> Result<Closed, Memory> {
+    let more = [ballot(22, 0), ballot(9, 1), ballot(14, 1), ballot(22, 1)];
+    let election = *three.election();
+    let work = vec![in alloc; cast(alloc, &election, &more)?]?;
+    let (four, finals) = play_casting(rt, alloc, three, work, &NoTurns)?;
+    holds(rt, &four, &[(4, 22), (5, 14), (6, 9), (7, 1)]);
+    same(rt, &finals, &[&[Accepted, Duplicate, Conflict, Conflict]]);
+    Ok(four)
+}
 
-    let wanted = [
+fn assert_found<R: Threads + Sync + Abort>(
+    rt: &R,
+    alloc: Global,
+    four: &Closed,
+) -> Result<(), Memory> {
+    let wanted = vec![in alloc;
         Vec::from_slice(alloc, &[9, 5])?,
         Vec::from_slice(alloc, &[0, 22, 22])?,
-    ];
-    let found = play_finding(&rt, alloc, &four, &wanted, &NoTurns)?;
-    same(&rt, &found, &[&[true, false], &[false, true, true]]);
+    ]?;
+    let found = play_finding(rt, alloc, four, &wanted, &NoTurns)?;
+    same(rt, &found, &[&[true, false], &[false, true, true]]);
+    Ok(())
+}
 
-    let gone = [
+fn two_withdrawn<R: Threads + Sync + Abort>(
+    rt: &R,
+    alloc: Global,
+    four: Closed,
+) -> Result<(), Memory> {
+    let gone = vec![in alloc;
         Vec::from_slice(alloc, &[22, 5])?,
         Vec::from_slice(alloc, &[9, 9])?,
-    ];
-    let (two, replies) = play_withdrawing(&rt, alloc, four, &gone, &NoTurns)?;
-    holds(&rt, &two, &[(4, 1), (5, 14)]);
-    same(
-        &rt,
-        &replies,
-        &[
-            &[WithdrawReply::Withdrawn, WithdrawReply::Absent],
-            &[WithdrawReply::Withdrawn, WithdrawReply::Gone],
-        ],
-    );
+    ]?;
+    let (two, replies) = play_withdrawing(rt, alloc, four, &gone, &NoTurns)?;
+    holds(rt, &two, &[(4, 1), (5, 14)]);
+    same(rt, &replies, &[&[Withdrawn, Absent], &[Withdrawn, Gone]]);
+    Ok(())
+}
+
+#[test]
+fn one_phase_after_another(rt: HostRuntime) -> Result<(), Fail> {
+    let alloc = rt.alloc();
+    let three = three_cast(&rt, alloc)?;
+    let four = a_fourth_cast(&rt, alloc, three)?;
+    assert_found(&rt, alloc, &four)?;
+    two_withdrawn(&rt, alloc, four)?;
     Ok(())
 }
 
