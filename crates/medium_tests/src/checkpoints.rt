@@ -216,6 +216,23 @@ fn page_writes(alloc: Global, disk: &MemoryDisk, from: u64) -> Result<Vec<(u64, 
     Ok(writes)
 }
 
+/// So many calls were made in all, and these writes to pages are among those from this one on.
+fn assert_made(
+    rt: &impl Abort,
+    alloc: Global,
+    disk: &MemoryDisk,
+    from: u64,
+    calls: u64,
+    writes: &[(u64, usize)],
+) -> Result<(), Fail> {
+    assert_eq!(rt; disk.calls(), calls);
+    let made = page_writes(alloc, disk, from)?;
+    assert_eq!(rt; made.as_slice(), writes);
+    Ok(())
+}
+
+const TWO_PAGES: [(u64, usize); 2] = [(2_359_328, 4096), (688_128, 4096)];
+
 #[test]
 fn two_pages_of_a_large_store(rt: HostRuntime) -> Result<(), Fail> {
     let alloc = rt.alloc();
@@ -223,20 +240,11 @@ fn two_pages_of_a_large_store(rt: HostRuntime) -> Result<(), Fail> {
     let mut disk = MemoryDisk::new(alloc, Vec::new(alloc), Vec::new(alloc), LARGE_ROOM)?;
     let mut scratch = Scratch::new(alloc, &election)?;
     init(alloc, &mut disk, &election, &mut scratch)?;
-    assert_eq!(rt; disk.calls(), 823);
-    assert_eq!(rt; disk.bytes().len(), 3_342_402);
+    assert_eq!(rt; (disk.calls(), disk.bytes().len()), (823, 3_342_402));
     let closed = one_ballot(&rt, alloc, &election)?;
     checkpoint(&mut disk, &closed, &mut scratch)?;
-    let writes = page_writes(alloc, &disk, 823)?;
-    assert_eq!(rt;
-        writes.as_slice(),
-        [(2_359_328, 4096), (688_128, 4096)].as_slice()
-    );
-    let calls = disk.calls();
-    assert_eq!(rt; calls, 823 + 830);
+    assert_made(&rt, alloc, &disk, 823, 823 + 830, &TWO_PAGES)?;
     // What stands is not written again.
     checkpoint(&mut disk, &closed, &mut scratch)?;
-    assert_eq!(rt; page_writes(alloc, &disk, calls)?.as_slice(), [].as_slice());
-    assert_eq!(rt; disk.calls(), calls + 828);
-    Ok(())
+    assert_made(&rt, alloc, &disk, 823 + 830, 823 + 830 + 828, &[])
 }

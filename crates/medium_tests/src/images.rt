@@ -10,6 +10,8 @@ use ballot_record::{Contest, Election, read_line};
 use body_store::Closed;
 use image_builder::{ImageFault, ImageReader, PAGE_BYTES, Scratch, image, image_part, read_image};
 use std::alloc::Global;
+use std::process::Abort;
+use std::test::Fail;
 
 const HEADER: [u8; 32] =
     *b"HIBSTORE\x00\x01\x03\x02\x00\x00\x00\x08\0\0\0\0\0\0\0\0\0\0\0\0\0\0\0\0";
@@ -40,53 +42,70 @@ fn bank(one: usize) -> [u8; 304]
     bank
 }
 
-#[test]
-fn three_ballots(rt: HostRuntime) {
-    let election = Election::example();
-    let bytes = bank(6);
-    let store = read_image(rt.alloc(), &bytes, &election)
-        .ok()
-        .expect(&rt, "an image");
-    assert_eq!(rt; store.len(), 3);
-    for (line, number) in [("9 1 1/-", 9), ("14 1 -/2", 14), ("1 1 2/1,3", 1)] {
-        let record = read_line(line.as_bytes(), &election).ok();
-        assert_eq!(rt; store.record_of(number), record, "{number}");
-    }
-    let made = image(rt.alloc(), &store).expect(&rt, "memory");
+/// The image of a store, whole and a part of it.
+fn assert_image(
+    rt: &impl Abort,
+    alloc: Global,
+    store: &Closed,
+    bytes: &[u8; 304],
+) -> Result<(), Fail>
+    requires { store.now.election ≡ example }
+{
+    let made = image(alloc, store)?;
     assert_eq!(rt; made.as_slice(), bytes.as_slice());
     let mut part = [0; 50];
-    image_part(&store, 20, &mut part);
+    image_part(store, 20, &mut part);
     assert_eq!(rt; part.as_slice(), &bytes[20..70]);
+    Ok(())
+}
+
+/// Three lines, and the number of each.
+const LINES: [(&str, u64); 3] = [("9 1 1/-", 9), ("14 1 -/2", 14), ("1 1 2/1,3", 1)];
+
+#[test]
+fn three_ballots(rt: HostRuntime) -> Result<(), Fail> {
+    let election = Election::example();
+    let store = read_image(rt.alloc(), &bank(6), &election)?;
+    assert_eq!(rt; store.len(), 3);
+    for (line, number) in &LINES {
+        let record = read_line(line.as_bytes(), &election).ok();
+        assert_eq!(rt; store.record_of(*number), record, "{number}");
+    }
+    assert_image(&rt, rt.alloc(), &store, &bank(6))
 }
 
 #[test]
-fn no_ballots(rt: HostRuntime) {
+fn no_ballots(rt: HostRuntime) -> Result<(), Fail> {
     let election = Election::example();
     let mut bytes = [0; 304];
     bytes[..32].copy_from_slice(&HEADER);
-    let store = Closed::empty(rt.alloc(), &election).expect(&rt, "memory");
-    let made = image(rt.alloc(), &store).expect(&rt, "memory");
-    assert_eq!(rt; made.as_slice(), bytes.as_slice());
-    let read = read_image(rt.alloc(), &bytes, &election)
-        .ok()
-        .expect(&rt, "an image");
+    let store = Closed::empty(rt.alloc(), &election)?;
+    assert_image(&rt, rt.alloc(), &store, &bytes)?;
+    let read = read_image(rt.alloc(), &bytes, &election)?;
     assert_eq!(rt; read.len(), 0);
-    let scratch = Scratch::new(rt.alloc(), &election).expect(&rt, "memory");
+    Ok(())
+}
+
+#[test]
+fn scratch_has_room(rt: HostRuntime) -> Result<(), Fail> {
+    let scratch = Scratch::new(rt.alloc(), &Election::example())?;
     assert_eq!(rt; scratch.found.len(), PAGE_BYTES);
-    assert_eq!(rt; scratch.made.len(), bytes.len());
+    assert_eq!(rt; scratch.made.len(), 304);
+    Ok(())
+}
+
+fn assert_damaged(rt: &impl Abort, alloc: Global, bytes: &[u8; 304], cell: u32) {
+    let fault = read_image(alloc, bytes, &Election::example()).err();
+    assert_eq!(rt; fault, Some(ImageFault::Damaged { cell }));
 }
 
 #[test]
 fn damage(rt: HostRuntime) {
-    let election = Election::example();
-    let mut bad_byte = bank(6);
-    bad_byte[40] = 1;
-    let mut twice = bank(6);
-    put(&mut twice, 7, &NINE);
-    for (bytes, cell) in [(bank(7), 7), (bank(3), 3), (twice, 7), (bad_byte, 0)] {
-        let fault = read_image(rt.alloc(), &bytes, &election).err();
-        assert_eq!(rt; fault, Some(ImageFault::Damaged { cell }));
-    }
+    let alloc = rt.alloc();
+    assert_damaged(&rt, alloc, &bank(7), 7);
+    assert_damaged(&rt, alloc, &bank(3), 3);
+    assert_damaged(&rt, alloc, &with_cell(7, &NINE), 7);
+    assert_damaged(&rt, alloc, &with_byte(40, 1), 0);
 }
 
 #[test]
@@ -167,30 +186,51 @@ fn with_cell(place: usize, cell: &[u8; 17]) -> [u8; 304]
     bank
 }
 
+/// The header under version 2.
+const OTHER_HEADER: [u8; 32] =
+    *b"HIBSTORE\x00\x02\x03\x02\x00\x00\x00\x08\0\0\0\0\0\0\0\0\0\0\0\0\0\0\0\0";
+
+/// What stands from a byte of the bank on, and how many ballots are read from it then.
+const CHANGED: [(usize, &[u8], Result<usize, ImageFault>); 8] = [
+    (0, b"", Ok(3)),
+    (
+        9,
+        &[2],
+        Err(ImageFault::OtherElection {
+            header: OTHER_HEADER,
+        }),
+    ),
+    (108, &[2], Err(ImageFault::Damaged { cell: 4 })),
+    (112, &[0x10], Err(ImageFault::Damaged { cell: 4 })),
+    (100, &[0; 17], Err(ImageFault::Damaged { cell: 6 })),
+    (117, &[0; 17], Err(ImageFault::Damaged { cell: 6 })),
+    (134, &NINE, Err(ImageFault::Damaged { cell: 6 })),
+    (134, &[0; 17], Ok(2)),
+];
+
+/// How many ballots are read from a bank, in pieces of each size and whole.
+fn assert_read(
+    rt: &impl Abort,
+    alloc: Global,
+    bytes: &[u8; 304],
+    wanted: Result<usize, ImageFault>,
+) {
+    let election = Election::example();
+    for size in [1, 7, 17, 4096, 304] {
+        let answer = read_in_pieces(alloc, bytes, size, &election);
+        assert_eq!(rt; answer.map(|store| store.len()), wanted, "{size} bytes");
+    }
+    let answer = read_image(alloc, bytes, &election);
+    assert_eq!(rt; answer.map(|store| store.len()), wanted);
+}
+
 #[test]
 fn any_pieces(rt: HostRuntime) {
-    let election = Election::example();
-    let mut header = HEADER;
-    header[9] = 2;
-    let table = [
-        (bank(6), Ok(3)),
-        (with_byte(9, 2), Err(ImageFault::OtherElection { header })),
-        (with_byte(108, 2), Err(ImageFault::Damaged { cell: 4 })),
-        (with_byte(112, 0x10), Err(ImageFault::Damaged { cell: 4 })),
-        (with_cell(4, &[0; 17]), Err(ImageFault::Damaged { cell: 6 })),
-        (with_cell(5, &[0; 17]), Err(ImageFault::Damaged { cell: 6 })),
-        (with_cell(6, &NINE), Err(ImageFault::Damaged { cell: 6 })),
-        (with_cell(6, &[0; 17]), Ok(2)),
-    ];
-    for (bytes, wanted) in table {
-        for size in [1, 7, 17, 4096, 304] {
-            let answer = read_in_pieces(rt.alloc(), &bytes, size, &election);
-            let held = answer.map(|store| store.len());
-            assert_eq!(rt; held, wanted, "{size} bytes");
-        }
-        let answer = read_image(rt.alloc(), &bytes, &election);
-        let held = answer.map(|store| store.len());
-        assert_eq!(rt; held, wanted);
+    for (place, patch, wanted) in &CHANGED {
+        let mut bytes = bank(6);
+        assert!(rt; *place <= 304 && patch.len() <= 304 - *place);
+        bytes[*place..*place + patch.len()].copy_from_slice(*patch);
+        assert_read(&rt, rt.alloc(), &bytes, *wanted);
     }
 }
 
@@ -213,9 +253,8 @@ fn refusal_behind(
 #[test]
 fn refused_with_its_last_byte(rt: HostRuntime) {
     let election = Election::example();
-    let mut header = HEADER;
-    header[9] = 2;
     let other = refusal_behind(rt.alloc(), &with_byte(9, 2), 31, &election);
+    let header = OTHER_HEADER;
     assert_eq!(rt; other, Ok(Some(ImageFault::OtherElection { header })));
     let damaged = refusal_behind(rt.alloc(), &with_byte(108, 2), 116, &election);
     assert_eq!(rt; damaged, Ok(Some(ImageFault::Damaged { cell: 4 })));

@@ -114,76 +114,94 @@ fn assert_calls(rt: &impl Abort, disk: &MemoryDisk, from: u64, calls: &[DiskCall
     assert_eq!(rt; disk.calls(), from.wrapping_add(calls.len() as u64));
 }
 
+fn assert_written(rt: &impl Abort, disk: &MemoryDisk, call: u64, wanted: &[u8]) {
+    assert_eq!(rt; disk.written(call), wanted, "{call}");
+}
+
+/// What a stop inside a call of a checkpoint left.
+fn stopped_inside(
+    rt: &impl Abort,
+    alloc: Global,
+    disk: &MemoryDisk,
+    calls: u64,
+    torn: Torn,
+) -> Result<MemoryDisk, Fail> {
+    assert!(rt; calls < disk.calls());
+    Ok(disk.after_stop(alloc, calls, true, torn)?)
+}
+
+const GATE_A_OPENED: [DiskCall; 9] = [
+    DiskCall::Sync,
+    DiskCall::Size,
+    DiskCall::Read { at: 608, count: 2 },
+    DiskCall::Read {
+        at: 304,
+        count: 304,
+    },
+    DiskCall::Read { at: 0, count: 304 },
+    DiskCall::Write { at: 0, count: 304 },
+    DiskCall::Sync,
+    DiskCall::Write { at: 608, count: 1 },
+    DiskCall::Sync,
+];
+
 #[test]
 fn gate_a_left_closed(rt: HostRuntime) -> Result<(), Fail> {
     let alloc = rt.alloc();
     let (disk, before) = checkpointed(alloc)?;
     let calls = before.wrapping_add(7);
-    assert!(rt; calls < disk.calls());
-    let mut open = disk.after_stop(alloc, calls, true, Torn::Fill(0xa7))?;
+    let mut open = stopped_inside(&rt, alloc, &disk, calls, Torn::Fill(0xa7))?;
     assert_eq!(rt; recovered(alloc, &mut open), Ok(0));
-    let stopped = disk.after_stop(alloc, calls, true, Torn::Fill(0x3c))?;
+    let stopped = stopped_inside(&rt, alloc, &disk, calls, Torn::Fill(0x3c))?;
     let done = assert_recovers(&rt, alloc, stopped, 3)?;
-    let made = [
-        DiskCall::Sync,
-        DiskCall::Size,
-        DiskCall::Read { at: 608, count: 2 },
-        DiskCall::Read {
-            at: 304,
-            count: 304,
-        },
-        DiskCall::Read { at: 0, count: 304 },
-        DiskCall::Write { at: 0, count: 304 },
-        DiskCall::Sync,
-        DiskCall::Write { at: 608, count: 1 },
-        DiskCall::Sync,
-    ];
-    assert_calls(&rt, &done, 0, &made);
-    assert_eq!(rt; done.written(5), three_ballots().as_slice());
-    assert_eq!(rt; done.written(7), [0xa7].as_slice());
+    assert_calls(&rt, &done, 0, &GATE_A_OPENED);
+    assert_written(&rt, &done, 5, &three_ballots());
+    assert_written(&rt, &done, 7, &[0xa7]);
     Ok(())
 }
+
+const BANK_B_FILLED: [DiskCall; 9] = [
+    DiskCall::Sync,
+    DiskCall::Size,
+    DiskCall::Read { at: 608, count: 2 },
+    DiskCall::Read { at: 0, count: 304 },
+    DiskCall::Read {
+        at: 304,
+        count: 304,
+    },
+    DiskCall::Write {
+        at: 304,
+        count: 304,
+    },
+    DiskCall::Sync,
+    DiskCall::Write { at: 609, count: 1 },
+    DiskCall::Sync,
+];
+
+/// Nothing is written.
+const NOTHING_LEFT: [DiskCall; 5] = [
+    DiskCall::Sync,
+    DiskCall::Size,
+    DiskCall::Read { at: 608, count: 2 },
+    DiskCall::Read { at: 0, count: 304 },
+    DiskCall::Read {
+        at: 304,
+        count: 304,
+    },
+];
 
 #[test]
 fn bank_b_half_written(rt: HostRuntime) -> Result<(), Fail> {
     let alloc = rt.alloc();
     let (disk, before) = checkpointed(alloc)?;
     let calls = before.wrapping_add(3);
-    assert!(rt; calls < disk.calls());
-    let stopped = disk.after_stop(alloc, calls, true, Torn::Fill(0x3c))?;
+    let stopped = stopped_inside(&rt, alloc, &disk, calls, Torn::Fill(0x3c))?;
     let mut done = assert_recovers(&rt, alloc, stopped, 0)?;
-    let made = [
-        DiskCall::Sync,
-        DiskCall::Size,
-        DiskCall::Read { at: 608, count: 2 },
-        DiskCall::Read { at: 0, count: 304 },
-        DiskCall::Read {
-            at: 304,
-            count: 304,
-        },
-        DiskCall::Write {
-            at: 304,
-            count: 304,
-        },
-        DiskCall::Sync,
-        DiskCall::Write { at: 609, count: 1 },
-        DiskCall::Sync,
-    ];
-    assert_calls(&rt, &done, 0, &made);
-    assert_eq!(rt; done.written(7), [0xa7].as_slice());
-    // Once more: nothing is written.
+    assert_calls(&rt, &done, 0, &BANK_B_FILLED);
+    assert_written(&rt, &done, 7, &[0xa7]);
+    // Once more.
     assert_eq!(rt; recovered(alloc, &mut done), Ok(0));
-    let again = [
-        DiskCall::Sync,
-        DiskCall::Size,
-        DiskCall::Read { at: 608, count: 2 },
-        DiskCall::Read { at: 0, count: 304 },
-        DiskCall::Read {
-            at: 304,
-            count: 304,
-        },
-    ];
-    assert_calls(&rt, &done, 9, &again);
+    assert_calls(&rt, &done, 9, &NOTHING_LEFT);
     Ok(())
 }
 
