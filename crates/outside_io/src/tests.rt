@@ -82,66 +82,66 @@ fn padded(alloc: Global, count: usize, behind: &[u8]) -> Result<Vec<u8>, Fail> {
     Ok(bytes)
 }
 
+// What a reader of lines answers over a source of so many bytes and more.
+fn assert_told<S: Source>(
+    rt: &impl Abort,
+    alloc: Global,
+    source: &mut S,
+    want: &[u8],
+    count: usize,
+) -> Result<(), Fail> {
+    let told = told(alloc, source)?;
+    assert_eq!(rt; told.as_slice(), want, "over {count} bytes");
+    Ok(())
+}
+
+// So many bytes, these behind them, and what a reader of lines answers.
+const CUT: [(usize, &[u8], &[u8]); 10] = [
+    (0, b"", b""),
+    (0, b"\n", b"[]"),
+    (1, b"", b"[a]"),
+    (1, b"\n", b"[a]"),
+    (1, b"\n\nb", b"[a][][b]"),
+    (2, b"\r\n\n\n", b"[aa\r][][]"),
+    (8192, b"\nb\n", b"[aaaa][b]"),
+    (8193, b"\nb\n", b"wide[b]"),
+    (8193, b"", b"wide"),
+    (70000, b"\nb", b"wide[b]"),
+];
+
 #[test]
 fn cuts_lines_in_any_pieces(rt: HostRuntime) -> Result<(), Fail> {
     let alloc = rt.alloc();
-    let rows: [(usize, &[u8], &[u8]); 10] = [
-        (0, b"", b""),
-        (0, b"\n", b"[]"),
-        (1, b"", b"[a]"),
-        (1, b"\n", b"[a]"),
-        (1, b"\n\nb", b"[a][][b]"),
-        (2, b"\r\n\n\n", b"[aa\r][][]"),
-        (8192, b"\nb\n", b"[aaaa][b]"),
-        (8193, b"\nb\n", b"wide[b]"),
-        (8193, b"", b"wide"),
-        (70000, b"\nb", b"wide[b]"),
-    ];
-    for (count, behind, want) in rows {
+    for (count, behind, want) in &CUT {
         for most in [1usize, 7, 8192, 65536] {
-            let mut source = in_pieces(padded(alloc, count, behind)?, most, 0);
-            assert_eq!(rt;
-                told(alloc, &mut source)?.as_slice(),
-                want,
-                "{count} in pieces of {most}"
-            );
+            let mut source = in_pieces(padded(alloc, *count, *behind)?, most, 0);
+            assert_told(&rt, alloc, &mut source, *want, *count)?;
         }
-        let mut source = SureSource::new(padded(alloc, count, behind)?);
-        assert_eq!(rt;
-            told(alloc, &mut source)?.as_slice(),
-            want,
-            "{count} from memory"
-        );
+        let mut source = SureSource::new(padded(alloc, *count, *behind)?);
+        assert_told(&rt, alloc, &mut source, *want, *count)?;
     }
     Ok(())
 }
 
+// The call that fails, and what a reader of three lines answers. The fifth call gives the end, and there is no sixth.
+const GONE_ON: [(u64, &[u8]); 6] = [
+    (1, b"fault[aa][b][cc]"),
+    (2, b"fault[aa][b][cc]"),
+    (3, b"[aa]fault[b][cc]"),
+    (4, b"[aa][b]fault[cc]"),
+    (5, b"[aa][b]fault[cc]"),
+    (6, b"[aa][b][cc]"),
+];
+
 #[test]
 fn goes_on_after_a_fault(rt: HostRuntime) -> Result<(), Fail> {
     let alloc = rt.alloc();
-    // the fifth call gives the end, and there is no sixth
-    let rows: [(u64, &[u8]); 6] = [
-        (1, b"fault[aa][b][cc]"),
-        (2, b"fault[aa][b][cc]"),
-        (3, b"[aa]fault[b][cc]"),
-        (4, b"[aa][b]fault[cc]"),
-        (5, b"[aa][b]fault[cc]"),
-        (6, b"[aa][b][cc]"),
-    ];
-    for (failing, want) in rows {
-        let mut source = in_pieces(padded(alloc, 2, b"\nb\ncc")?, 2, failing);
-        assert_eq!(rt;
-            told(alloc, &mut source)?.as_slice(),
-            want,
-            "failing at {failing}"
-        );
+    for (failing, want) in &GONE_ON {
+        let mut source = in_pieces(padded(alloc, 2, b"\nb\ncc")?, 2, *failing);
+        assert_told(&rt, alloc, &mut source, *want, 2)?;
     }
     let mut wide = in_pieces(padded(alloc, 30000, b"\nb")?, 6000, 4);
-    assert_eq!(rt;
-        told(alloc, &mut wide)?.as_slice(),
-        b"faultwide[b]".as_slice()
-    );
-    Ok(())
+    assert_told(&rt, alloc, &mut wide, b"faultwide[b]", 30000)
 }
 
 // Reads into these bytes again and again, and compares what each read answers.

@@ -50,10 +50,14 @@ fn reads_again_after_interruptions_alone(rt: HostRuntime) -> Result<(), Fail> {
     };
     assert_eq!(rt; read_again(&mut signals, &mut buf)?, 3);
     assert_eq!(rt; buf, *b"aaa");
-    for kind in FAULT_KINDS {
-        match read_again(&mut Stopped { kind, left: 1 }, &mut buf) {
+    for kind in &FAULT_KINDS {
+        let mut failing = Stopped {
+            kind: *kind,
+            left: 1,
+        };
+        match read_again(&mut failing, &mut buf) {
             Ok(count) => assert_eq!(rt; count, 4, "{kind:?} is an error"),
-            Err(error) => assert_eq!(rt; error.kind(), kind),
+            Err(error) => assert_eq!(rt; error.kind(), *kind),
         }
     }
     Ok(())
@@ -66,8 +70,8 @@ fn assert_faults(
     stage: &Stage,
     call: Call,
 ) -> Result<(), Fail> {
-    for kind in FAULT_KINDS {
-        stage.fail(1, kind)?;
+    for kind in &FAULT_KINDS {
+        stage.fail(1, *kind)?;
         assert_eq!(rt; source.read(&mut [0; 3]), Err(Failed), "{kind:?}");
         assert_log(rt, stage, &[call])?;
     }
@@ -88,30 +92,38 @@ fn assert_goes_on(rt: &impl Abort, source: &mut impl Source, stage: &Stage) -> R
     assert_log(rt, stage, &[Call::Read(3); 3])
 }
 
-#[test]
-fn a_file_goes_on_after_a_fault(rt: HostRuntime) -> Result<(), Fail> {
-    let alloc = rt.alloc();
-    let stage = stage_of(alloc, b"abcdef", 2)?;
-    let files = FakeFiles::new(alloc, &stage, PATH, "folder");
-    let mut source = FileSource::new(&files, PATH);
-    assert_log(&rt, &stage, &[])?;
-    assert_faults(&rt, &mut source, &stage, Call::Open)?;
+// A source over a file of such bytes: it is opened by the first read that can, and goes on behind a read that failed.
+fn assert_file(rt: &impl Abort, files: &impl Files, stage: &Stage) -> Result<(), Fail> {
+    let mut source = FileSource::new(files, PATH);
+    assert_log(rt, stage, &[])?;
+    assert_faults(rt, &mut source, stage, Call::Open)?;
     stage.fail(2, ErrorKind::Other)?;
     let mut buf = [0; 3];
     // It is open from the first read on.
-    assert_reads(&rt, &mut source, &mut buf, &[Err(Failed), Ok(2)]);
+    assert_reads(rt, &mut source, &mut buf, &[Err(Failed), Ok(2)]);
     assert_eq!(rt; buf, *b"ab\0");
-    assert_log(&rt, &stage, &[Call::Open, Call::Read(3), Call::Read(3)])?;
-    assert_goes_on(&rt, &mut source, &stage)
+    assert_log(rt, stage, &[Call::Open, Call::Read(3), Call::Read(3)])?;
+    assert_goes_on(rt, &mut source, stage)
+}
+
+#[test]
+fn a_file_goes_on_after_a_fault(rt: HostRuntime) -> Result<(), Fail> {
+    let stage = stage_of(rt.alloc(), b"abcdef", 2)?;
+    let files = FakeFiles::new(rt.alloc(), &stage, PATH, "folder");
+    assert_file(&rt, &files, &stage)
+}
+
+// The first two reads of the file of a path.
+fn read_twice(files: &impl Files, path: &str) -> [Result<usize, Failed>; 2] {
+    let mut source = FileSource::new(files, path);
+    [source.read(&mut [0; 2]), source.read(&mut [0; 2])]
 }
 
 #[test]
 fn a_file_that_is_missing_is_a_fault(rt: HostRuntime) -> Result<(), Fail> {
-    let alloc = rt.alloc();
-    let stage = Stage::new(alloc, None, 9);
-    let files = FakeFiles::new(alloc, &stage, PATH, "folder");
-    let mut source = FileSource::new(&files, PATH);
-    assert_reads(&rt, &mut source, &mut [0; 3], &[Err(Failed); 2]);
+    let stage = Stage::new(rt.alloc(), None, 9);
+    let files = FakeFiles::new(rt.alloc(), &stage, PATH, "folder");
+    assert_eq!(rt; read_twice(&files, PATH), [Err(Failed); 2]);
     assert_log(&rt, &stage, &[Call::Open, Call::Open])
 }
 
@@ -129,23 +141,32 @@ fn standard_input_goes_on_after_a_fault(rt: HostRuntime) -> Result<(), Fail> {
     assert_goes_on(&rt, &mut source, &stage)
 }
 
+// A write whose one call fails, with an error of each kind.
+fn assert_write_faults(rt: &impl Abort, sink: &mut impl Sink, stage: &Stage) -> Result<(), Fail> {
+    for kind in &FAULT_KINDS {
+        stage.fail(1, *kind)?;
+        assert_eq!(rt; sink.write_all(b"f"), Err(Failed), "{kind:?}");
+        assert_log(rt, stage, &[Call::Write(1)])?;
+    }
+    Ok(())
+}
+
+fn assert_bytes(rt: &impl Abort, stage: &Stage, want: &[u8]) -> Result<(), Fail> {
+    let bytes = stage.bytes()?;
+    assert_eq!(rt; bytes.as_ref().map(|bytes| bytes.as_slice()), Some(want));
+    Ok(())
+}
+
 #[test]
 fn standard_output_takes_all_or_tells(rt: HostRuntime) -> Result<(), Fail> {
-    let alloc = rt.alloc();
-    let stage = stage_of(alloc, b"", 9)?;
+    let stage = stage_of(rt.alloc(), b"", 9)?;
     let output = FakeOutput::new(&stage);
     let mut sink = StdoutSink::new(&output);
-    let writes: [(&[u8], Result<(), Failed>); 2] = [(b"ab", Ok(())), (b"cde", Ok(()))];
-    assert_writes(&rt, &mut sink, &writes);
+    assert_writes(&rt, &mut sink, &[(b"ab", Ok(())), (b"cde", Ok(()))]);
     assert_log(&rt, &stage, &[Call::Write(2), Call::Write(3)])?;
-    for kind in FAULT_KINDS {
-        stage.fail(1, kind)?;
-        assert_eq!(rt; sink.write_all(b"f"), Err(Failed), "{kind:?}");
-        assert_log(&rt, &stage, &[Call::Write(1)])?;
-    }
-    assert_eq!(rt; sink.write_all(b"g"), Ok(()));
-    assert_eq!(rt; stage.bytes()?, Some(b"abcdeg".to_vec(alloc)?));
-    Ok(())
+    assert_write_faults(&rt, &mut sink, &stage)?;
+    assert_writes(&rt, &mut sink, &[(b"g", Ok(()))]);
+    assert_bytes(&rt, &stage, b"abcdeg")
 }
 
 #[test]
@@ -170,12 +191,6 @@ fn reads_a_real_file(rt: HostRuntime) -> Result<(), Fail> {
     }
     fs::remove_file(&rt, path)?;
     Ok(())
-}
-
-// The first two reads of the file of a path.
-fn read_twice(files: &impl Files, path: &str) -> [Result<usize, Failed>; 2] {
-    let mut source = FileSource::new(files, path);
-    [source.read(&mut [0; 2]), source.read(&mut [0; 2])]
 }
 
 #[test]
