@@ -135,19 +135,19 @@ fn memory_disk_is_replaced(rt: HostRuntime) -> Result<(), Fail> {
     Ok(())
 }
 
+const PASSED_NO_MORE: [Step<'static>; 3] = [
+    (DiskCall::Sync, &[], Err(Failed)),
+    (DiskCall::Write { at: 0, count: 1 }, &[9], Err(Failed)),
+    (DiskCall::Size, &[], Err(Failed)),
+];
+
 #[test]
 fn fused_disk_passes_two_calls(rt: HostRuntime) -> Result<(), Fail> {
     let alloc = rt.alloc();
     let mut disk = FusedDisk::new(alloc, [1, 2, 3].to_vec(alloc)?, 2, ROOM)?;
     assert_eq!(rt; replace(&mut disk, 3, &[4]), Ok(()));
-    let steps: [Step<'_>; 3] = [
-        (DiskCall::Sync, &[], Err(Failed)),
-        (DiskCall::Write { at: 0, count: 1 }, &[9], Err(Failed)),
-        (DiskCall::Size, &[], Err(Failed)),
-    ];
-    assert_steps(&rt, &mut disk, &steps);
-    assert_eq!(rt; disk.bytes(), [1, 2, 3, 4].as_slice());
-    assert_eq!(rt; disk.calls(), 5);
+    assert_steps(&rt, &mut disk, &PASSED_NO_MORE);
+    assert_eq!(rt; (disk.bytes(), disk.calls()), ([1, 2, 3, 4].as_slice(), 5));
     Ok(())
 }
 

@@ -51,7 +51,10 @@ struct Case<'a> {
 }
 
 // Makes a call, and answers whether it succeeded. What is put is a number of letters.
-fn succeeds(disk: &mut FileDisk<'_, FakeFiles<'_>>, stage: &Stage, act: Act) -> bool {
+fn succeeds<F: Files>(disk: &mut FileDisk<'_, F>, stage: &Stage, act: Act) -> bool
+where
+    F::File: FileExt + FileLock,
+{
     let mut buf = [b'x'; 8];
     match act {
         Act::AskSize => disk.size().is_ok(),
@@ -65,36 +68,46 @@ fn succeeds(disk: &mut FileDisk<'_, FakeFiles<'_>>, stage: &Stage, act: Act) -> 
     }
 }
 
-// Makes a call, and compares what it does.
-fn assert_row(
+// Makes the calls of a case one after another on a disk over these files, and compares what each does.
+fn assert_rows<F: Files>(
     rt: &impl Abort,
+    files: &F,
     stage: &Stage,
-    disk: &mut FileDisk<'_, FakeFiles<'_>>,
-    kind: ErrorKind,
-    row: Row<'_>,
-) -> Result<(), Fail> {
-    let (failing, act, wanted, calls) = row;
-    stage.fail(failing, kind)?;
-    let found = succeeds(disk, stage, act);
-    assert_eq!(rt; found, wanted, "{act:?} with {failing} failing");
-    let log = stage.log()?;
-    assert_eq!(rt; log.as_slice(), calls, "{act:?} with {failing} failing");
+    case: &Case<'_>,
+) -> Result<(), Fail>
+where
+    F::File: FileExt + FileLock,
+{
+    let mut disk = FileDisk::new(files, case.path);
+    for (failing, act, wanted, calls) in case.rows {
+        stage.fail(*failing, case.kind)?;
+        let found = succeeds(&mut disk, stage, *act);
+        let log = stage.log()?;
+        assert_eq!(rt;
+            (found, log.as_slice()),
+            (*wanted, *calls),
+            "{act:?} with {failing} failing"
+        );
+    }
     Ok(())
 }
 
-// Makes the calls of a case one after another, and compares what each does, and what they leave.
-fn assert_case(rt: &impl Abort, alloc: Global, case: Case<'_>) -> Result<(), Fail> {
+// A stage with the file of a case.
+fn stage_of(alloc: Global, case: &Case<'_>) -> Result<Stage, Fail> {
     let bytes = match case.bytes {
         Some(bytes) => Some(bytes.to_vec(alloc)?),
         None => None,
     };
     let stage = Stage::new(alloc, bytes, 3);
     stage.lock_by_others(case.others);
+    Ok(stage)
+}
+
+// Makes the calls of a case, and compares what each does, and what they leave.
+fn assert_case(rt: &impl Abort, alloc: Global, case: &Case<'_>) -> Result<(), Fail> {
+    let stage = stage_of(alloc, case)?;
     let files = FakeFiles::new(alloc, &stage, case.path, case.folder);
-    let mut disk = FileDisk::new(&files, case.path);
-    for row in case.rows {
-        assert_row(rt, &stage, &mut disk, case.kind, *row)?;
-    }
+    assert_rows(rt, &files, &stage, case)?;
     let left = stage.bytes()?;
     assert_eq!(rt; left.as_ref().map(|left| left.as_slice()), case.left);
     Ok(())
@@ -124,14 +137,11 @@ fn a_sync_reaches_what_is_owed(rt: HostRuntime) -> Result<(), Fail> {
             (0, Act::Settle, true, &[SyncAll]),
             (0, Act::Settle, true, &[SyncData]),
         ];
-        assert_case(
-            &rt,
-            rt.alloc(),
-            Case {
-                rows: &rows,
-                ..FOUR
-            },
-        )?;
+        let case = Case {
+            rows: &rows,
+            ..FOUR
+        };
+        assert_case(&rt, rt.alloc(), &case)?;
     }
     Ok(())
 }
@@ -256,22 +266,24 @@ const INTERRUPTED: Case<'static> = Case {
     ..FOUR
 };
 
+const ALSO_READ_ALONE: Case<'static> = Case {
+    kind: ErrorKind::ReadOnlyFilesystem,
+    ..READ_ALONE
+};
+
+const CALLS: [&Case<'static>; 7] = [
+    &IN_NO_FOLDER,
+    &GROWN,
+    &SIZE_ASKED_ONCE,
+    &MADE_BY_A_WRITE,
+    &READ_ALONE,
+    &ALSO_READ_ALONE,
+    &INTERRUPTED,
+];
+
 #[test]
 fn each_call_makes_calls_of_the_system(rt: HostRuntime) -> Result<(), Fail> {
-    let also_read_alone = Case {
-        kind: ErrorKind::ReadOnlyFilesystem,
-        ..READ_ALONE
-    };
-    let cases = [
-        IN_NO_FOLDER,
-        GROWN,
-        SIZE_ASKED_ONCE,
-        MADE_BY_A_WRITE,
-        READ_ALONE,
-        also_read_alone,
-        INTERRUPTED,
-    ];
-    for case in cases {
+    for case in CALLS {
         assert_case(&rt, rt.alloc(), case)?;
     }
     Ok(())
@@ -345,9 +357,16 @@ const LOCKED_ONCE_MADE: Case<'static> = Case {
     ..FOUR
 };
 
+const LOCKS: [&Case<'static>; 4] = [
+    &OTHERS_SHARE,
+    &ANOTHER_HOLDS_IT,
+    &NO_LOCKS,
+    &LOCKED_ONCE_MADE,
+];
+
 #[test]
 fn the_lock_of_another_is_a_fault(rt: HostRuntime) -> Result<(), Fail> {
-    for case in [OTHERS_SHARE, ANOTHER_HOLDS_IT, NO_LOCKS, LOCKED_ONCE_MADE] {
+    for case in LOCKS {
         assert_case(&rt, rt.alloc(), case)?;
     }
     Ok(())
@@ -386,13 +405,16 @@ const LOCK_IS_HELD: Case<'static> = Case {
 
 #[test]
 fn only_a_held_lock_is_a_fault(rt: HostRuntime) -> Result<(), Fail> {
-    for kind in FAULT_KINDS {
-        let case = if kind == ErrorKind::WouldBlock {
+    for kind in &FAULT_KINDS {
+        let case = if *kind == ErrorKind::WouldBlock {
             LOCK_IS_HELD
         } else {
-            Case { kind, ..LOCK_FAILS }
+            Case {
+                kind: *kind,
+                ..LOCK_FAILS
+            }
         };
-        assert_case(&rt, rt.alloc(), case)?;
+        assert_case(&rt, rt.alloc(), &case)?;
     }
     Ok(())
 }
@@ -416,10 +438,14 @@ fn each_error_is_a_fault(rt: HostRuntime) -> Result<(), Fail> {
         ErrorKind::PermissionDenied,
         ErrorKind::ReadOnlyFilesystem,
     ];
-    for kind in FAULT_KINDS {
-        let skipped = if opens.contains(&kind) { 3usize } else { 0 };
-        let rows = &FAULTS[skipped..];
-        assert_case(&rt, rt.alloc(), Case { kind, rows, ..FOUR })?;
+    for kind in &FAULT_KINDS {
+        let skipped = if opens.contains(kind) { 3usize } else { 0 };
+        let case = Case {
+            kind: *kind,
+            rows: &FAULTS[skipped..],
+            ..FOUR
+        };
+        assert_case(&rt, rt.alloc(), &case)?;
     }
     Ok(())
 }
