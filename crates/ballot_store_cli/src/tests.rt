@@ -209,37 +209,54 @@ where
     })
 }
 
+// The words of a run, its script, and its bad line.
+type BadLine = (&'static [&'static str], &'static str, u64, LineWhy);
+
+const BAD_LINES: [BadLine; 12] = [
+    (BUILD, "9 1 1/- | 9 1 1/-", 2, LineWhy::Duplicate),
+    (BUILD, "9 1 1/- | 9 1 2/-", 2, LineWhy::Conflict),
+    (BUILD, "7 2 1/-", 1, LineWhy::Invalid),
+    (BUILD, "7 1 5/-", 1, LineWhy::Invalid),
+    (BUILD, "7 1 1", 1, LineWhy::Invalid),
+    (BUILD, "7 1 3,1/-", 1, LineWhy::Malformed),
+    (BUILD, "9 1 1/- | x | 9 1 1/-", 2, LineWhy::Malformed),
+    (
+        BUILD,
+        "1 1 -/- | 2 1 -/- | 3 1 -/- | 5 1 -/- | 6 1 -/- | 9 1 -/- | 14 1 -/- | 17 1 -/- | 22 1 -/-",
+        9,
+        LineWhy::Full,
+    ),
+    (
+        BUILD,
+        "1 1 -/- | 2 1 -/- | 3 1 -/- | 5 1 -/- | 6 1 -/- | 9 1 -/- | 14 1 -/- | 17 1 -/- | 9 1 1/-",
+        9,
+        LineWhy::Conflict,
+    ),
+    (REPLAY, "start 9 9", 1, LineWhy::Invalid),
+    (REPLAY, "start", 2, LineWhy::Malformed),
+    (REPLAY, "start | cast 1 | list 2 7", 3, LineWhy::Invalid),
+];
+
+// A run that ends at its bad line, and leaves nothing.
+fn assert_bad_line<R>(rt: &R, row: BadLine) -> Result<(), Fail>
+where
+    R: Threads + Sync + AllocGlobal + Abort,
+{
+    let (words, script, line, why) = row;
+    let ended = ends(rt, words, script, &[], NOTHING, &NoTurns)?;
+    assert_eq!(rt; ended.status, Status::BadLine { line, why }, "{script}");
+    assert_eq!(rt;
+        (ended.written.len(), ended.disk.calls()),
+        (0, 0),
+        "{script}"
+    );
+    Ok(())
+}
+
 #[test]
 fn causes_of_bad_lines(rt: HostRuntime) -> Result<(), Fail> {
-    let rows = [
-        (BUILD, "9 1 1/- | 9 1 1/-", 2u64, LineWhy::Duplicate),
-        (BUILD, "9 1 1/- | 9 1 2/-", 2, LineWhy::Conflict),
-        (BUILD, "7 2 1/-", 1, LineWhy::Invalid),
-        (BUILD, "7 1 5/-", 1, LineWhy::Invalid),
-        (BUILD, "7 1 1", 1, LineWhy::Invalid),
-        (BUILD, "7 1 3,1/-", 1, LineWhy::Malformed),
-        (BUILD, "9 1 1/- | x | 9 1 1/-", 2, LineWhy::Malformed),
-        (
-            BUILD,
-            "1 1 -/- | 2 1 -/- | 3 1 -/- | 5 1 -/- | 6 1 -/- | 9 1 -/- | 14 1 -/- | 17 1 -/- | 22 1 -/-",
-            9,
-            LineWhy::Full,
-        ),
-        (
-            BUILD,
-            "1 1 -/- | 2 1 -/- | 3 1 -/- | 5 1 -/- | 6 1 -/- | 9 1 -/- | 14 1 -/- | 17 1 -/- | 9 1 1/-",
-            9,
-            LineWhy::Conflict,
-        ),
-        (REPLAY, "start 9 9", 1, LineWhy::Invalid),
-        (REPLAY, "start", 2, LineWhy::Malformed),
-        (REPLAY, "start | cast 1 | list 2 7", 3, LineWhy::Invalid),
-    ];
-    for (words, script, line, why) in rows {
-        let ended = ends(&rt, words, script, &[], NOTHING, &NoTurns)?;
-        assert_eq!(rt; ended.status, Status::BadLine { line, why }, "{script}");
-        assert_eq!(rt; ended.written.len(), 0, "{script}");
-        assert_eq!(rt; ended.disk.calls(), 0, "{script}");
+    for row in &BAD_LINES {
+        assert_bad_line(&rt, *row)?;
     }
     Ok(())
 }

@@ -1,8 +1,6 @@
 //! Each read, write and disk call of each command fails in turn.
 
-use super::rows::{
-    BUILT, CAST_BY_THREE, END, ROWS, Row, assert_recovers, assert_whole, ends_of, told_after,
-};
+use super::rows::{END, Row, all_rows, assert_recovers, assert_whole, ends_of, told_after};
 use super::{EXAMPLE, Ended, Failing, NOTHING, ROOM, SESSION, lines, medium_of, run_on, words_of};
 use crate::{Status, Which, run};
 use crash_disk::{Disk, FusedDisk, MemoryDisk, Torn};
@@ -159,13 +157,10 @@ where
 
 #[test]
 fn each_call_fails_in_turn(rt: HostRuntime) -> Result<(), Fail> {
-    for row in ROWS {
-        for of in [Of::Script, Of::Sink, Of::Disk] {
-            assert_each_fails(&rt, &row, of)?;
+    for row in all_rows() {
+        for of in [Of::Election, Of::Script, Of::Sink, Of::Disk] {
+            assert_each_fails(&rt, row, of)?;
         }
-    }
-    for row in [BUILT, CAST_BY_THREE] {
-        assert_each_fails(&rt, &row, Of::Election)?;
     }
     Ok(())
 }

@@ -2,7 +2,7 @@
 //! the second and so on. Where none is, they are runs like any other.
 
 use super::NOTHING;
-use super::rows::{END, ROWS, Row, assert_recovers, assert_whole, ends_of, told_after};
+use super::rows::{END, Row, all_rows, assert_recovers, assert_whole, ends_of, told_after};
 use crate::Status;
 use crash_disk::Disk;
 use std::process::Abort;
@@ -31,8 +31,8 @@ where
 
 #[test]
 fn each_command_ends_well_or_for_want_of_memory(rt: HostRuntime) -> Result<(), Fail> {
-    for row in ROWS {
-        assert_ends(&rt, &row)?;
+    for row in all_rows() {
+        assert_ends(&rt, row)?;
     }
     Ok(())
 }

@@ -2,7 +2,7 @@
 
 use super::{BUILD, Ended, Failing, NOTHING, REPLAY, SESSION, ends, image_of, lines, medium_of};
 use crate::Status;
-use crash_disk::Disk;
+use crash_disk::{Disk, MemoryDisk};
 use outside_io::NoTurns;
 use std::alloc::Global;
 use std::process::Abort;
@@ -20,33 +20,49 @@ const FOUR_BALLOTS: &str = "0000000000000016010000000000000000\
 
 const LARGE_BALLOT: &str = "29470e9140bda739010000000400000001";
 
+// A set, by the ballots that it has.
+#[derive(Clone, Copy, Debug)]
+pub(super) enum Set {
+    Empty,
+    ThreeBallots,
+    FourBallots,
+    LargeBallot,
+}
+
+// The digits of a set's cells from cell 4 on.
+fn cells_of(set: Set) -> &'static str {
+    match set {
+        Set::Empty => "",
+        Set::ThreeBallots => THREE_BALLOTS,
+        Set::FourBallots => FOUR_BALLOTS,
+        Set::LargeBallot => LARGE_BALLOT,
+    }
+}
+
 // Of what is written: that it comes at the end, whatever was read.
 pub(super) const END: usize = usize::MAX;
 
 // A command: its words and its script; the sets of the medium that it begins on and of each checkpoint, and of the one
 // that it leaves, where it has one; the texts that it writes, each once so many lines of the script were read; the set
-// whose image it writes; and how many ballots it reports as held, where it acknowledges a checkpoint. A set is the digits
-// of the cells from cell 4 on.
+// whose image it writes; and how many ballots it reports as held, where it acknowledges a checkpoint.
 #[derive(Clone, Copy)]
 pub(super) struct Row {
     pub(super) words: &'static [&'static str],
     pub(super) script: &'static str,
-    pub(super) sets: &'static [&'static str],
-    pub(super) after: Option<&'static str>,
-    pub(super) told: [(usize, &'static str); 3],
-    pub(super) image: Option<&'static str>,
+    pub(super) sets: &'static [Set],
+    pub(super) after: Option<Set>,
+    pub(super) told: &'static [(usize, &'static str)],
+    pub(super) image: Option<Set>,
     pub(super) held: u32,
 }
 
-const NO_TEXT: (usize, &str) = (END, "");
-
-pub(super) const BUILT: Row = Row {
+const BUILT: Row = Row {
     words: BUILD,
     script: "9 1 1/- | 14 1 -/2 | 1 1 2/1,3",
     sets: &[],
     after: None,
-    told: [NO_TEXT; 3],
-    image: Some(THREE_BALLOTS),
+    told: &[],
+    image: Some(Set::ThreeBallots),
     held: 0,
 };
 
@@ -54,8 +70,8 @@ const MADE: Row = Row {
     words: &["medium", "election.json", "init"],
     script: "",
     sets: &[],
-    after: Some(""),
-    told: [(END, "ready"), NO_TEXT, NO_TEXT],
+    after: Some(Set::Empty),
+    told: &[(END, "ready")],
     image: None,
     held: 0,
 };
@@ -63,9 +79,9 @@ const MADE: Row = Row {
 const CAST_BY_ONE: Row = Row {
     words: SESSION,
     script: "open cast 1 | cast 1 9 1 1/- | cast 1 14 1 -/2 | cast 1 1 1 2/1,3 | close | checkpoint",
-    sets: &["", THREE_BALLOTS],
-    after: Some(THREE_BALLOTS),
-    told: [
+    sets: &[Set::Empty, Set::ThreeBallots],
+    after: Some(Set::ThreeBallots),
+    told: &[
         (1, "casting 1"),
         (5, "1 1 accepted | 1 2 accepted | 1 3 accepted | closed 3"),
         (6, "checkpoint 3"),
@@ -74,9 +90,9 @@ const CAST_BY_ONE: Row = Row {
     held: 3,
 };
 
-pub(super) const CAST_BY_THREE: Row = Row {
+const CAST_BY_THREE: Row = Row {
     script: "open cast 3 | cast 1 9 1 1/- | cast 2 14 1 -/2 | cast 3 1 1 2/1,3 | close | checkpoint",
-    told: [
+    told: &[
         (1, "casting 3"),
         (5, "1 1 accepted | 2 1 accepted | 3 1 accepted | closed 3"),
         (6, "checkpoint 3"),
@@ -86,8 +102,8 @@ pub(super) const CAST_BY_THREE: Row = Row {
 
 const WITHDRAWN: Row = Row {
     script: "open withdraw 2 | withdraw 1 22 | withdraw 2 5 | withdraw 1 22 | close | checkpoint",
-    sets: &[FOUR_BALLOTS, THREE_BALLOTS],
-    told: [
+    sets: &[Set::FourBallots, Set::ThreeBallots],
+    told: &[
         (1, "withdrawing 2"),
         (5, "1 1 withdrawn | 1 2 gone | 2 1 absent | closed 3"),
         (6, "checkpoint 3"),
@@ -98,9 +114,9 @@ const WITHDRAWN: Row = Row {
 const AUDITED: Row = Row {
     words: &["medium", "election.json", "audit"],
     script: "",
-    sets: &[THREE_BALLOTS],
-    after: Some(THREE_BALLOTS),
-    told: [(END, "canonical 3"), NO_TEXT, NO_TEXT],
+    sets: &[Set::ThreeBallots],
+    after: Some(Set::ThreeBallots),
+    told: &[(END, "canonical 3")],
     image: None,
     held: 0,
 };
@@ -110,14 +126,10 @@ const REPLAYED: Row = Row {
     script: "start | cast 2 | list 1 1 | list 2 9 | steps 1 2 2 1 2 1 2 2",
     sets: &[],
     after: None,
-    told: [
-        (
-            END,
-            "steps 8 | cell 4 9 | rest | cell 4 9 | cell 5 1 | 1 1 accepted | 2 1 accepted",
-        ),
-        NO_TEXT,
-        NO_TEXT,
-    ],
+    told: &[(
+        END,
+        "steps 8 | cell 4 9 | rest | cell 4 9 | cell 5 1 | 1 1 accepted | 2 1 accepted",
+    )],
     image: None,
     held: 0,
 };
@@ -135,9 +147,9 @@ const LARGE: Row = Row {
         "2",
     ],
     script: "",
-    sets: &["", LARGE_BALLOT],
-    after: Some(LARGE_BALLOT),
-    told: [
+    sets: &[Set::Empty, Set::LargeBallot],
+    after: Some(Set::LargeBallot),
+    told: &[
         (5, "closed 1 | closed 1"),
         (END, "checkpoint 1 | tally 1 | contest 1 under 0 over 0"),
         (
@@ -150,7 +162,7 @@ const LARGE: Row = Row {
     held: 1,
 };
 
-pub(super) const ROWS: [Row; 8] = [
+static ROWS: [Row; 8] = [
     BUILT,
     MADE,
     CAST_BY_ONE,
@@ -161,6 +173,11 @@ pub(super) const ROWS: [Row; 8] = [
     LARGE,
 ];
 
+// Each command once. This is a function, so that their texts stand in the proof of one.
+pub(super) fn all_rows() -> &'static [Row] {
+    &ROWS
+}
+
 // A run of a row.
 pub(super) fn ends_of<R>(rt: &R, row: &Row, failing: Failing) -> Result<Ended, Fail>
 where
@@ -168,7 +185,7 @@ where
 {
     let alloc = rt.alloc();
     let medium = match row.sets.first() {
-        Some(cells) => medium_of(alloc, cells)?,
+        Some(set) => medium_of(alloc, cells_of(*set))?,
         None => Vec::new(alloc),
     };
     ends(rt, row.words, row.script, &medium, failing, &NoTurns)
@@ -178,12 +195,14 @@ where
 pub(super) fn told_after(alloc: Global, row: &Row, read: usize) -> Result<Vec<u8>, Fail> {
     let mut told = Vec::new(alloc);
     for (count, text) in row.told {
-        if count <= read {
-            told.extend_from_slice(&lines(alloc, text)?)?;
+        if *count <= read {
+            told.extend_from_slice(&lines(alloc, *text)?)?;
         }
     }
     match row.image {
-        Some(cells) if read == END => told.extend_from_slice(&image_of(alloc, cells)?)?,
+        Some(set) if read == END => {
+            told.extend_from_slice(&image_of(alloc, cells_of(set))?)?;
+        }
         _ => {}
     }
     Ok(told)
@@ -207,28 +226,40 @@ pub(super) fn assert_whole(
     assert_eq!(rt; ended.report.marks.last().copied(), mark, "{}", row.script);
     assert!(rt; ended.report.marks.len() <= 1, "{}", row.script);
     match row.after {
-        Some(cells) => assert!(rt; ended.disk.bytes() == medium_of(alloc, cells)?.as_slice()),
+        Some(set) => {
+            assert!(rt; ended.disk.bytes() == medium_of(alloc, cells_of(set))?.as_slice());
+        }
         None => assert_eq!(rt; calls, 0),
     }
     Ok(())
 }
 
+// A disk is the medium of one of these sets.
+fn assert_is_one(
+    rt: &impl Abort,
+    alloc: Global,
+    disk: &MemoryDisk,
+    sets: &[Set],
+) -> Result<(), Fail> {
+    for set in sets {
+        if disk.bytes() == medium_of(alloc, cells_of(*set))?.as_slice() {
+            return Ok(());
+        }
+    }
+    assert!(rt; false, "{sets:?}");
+    Ok(())
+}
+
 // A medium is made that of one of these sets by a session without a line, unless there is no memory.
-pub(super) fn assert_recovers<R>(rt: &R, medium: &[u8], sets: &[&str]) -> Result<(), Fail>
+pub(super) fn assert_recovers<R>(rt: &R, medium: &[u8], sets: &[Set]) -> Result<(), Fail>
 where
     R: Threads + Sync + AllocGlobal + Abort,
 {
-    let alloc = rt.alloc();
     let ended = ends(rt, SESSION, "", medium, NOTHING, &NoTurns)?;
     if ended.status == Status::Memory {
         return Ok(());
     }
     assert_eq!(rt; ended.status, Status::Ok);
     assert_eq!(rt; ended.written.len(), 0);
-    let mut held = false;
-    for cells in sets {
-        held = held || ended.disk.bytes() == medium_of(alloc, cells)?.as_slice();
-    }
-    assert!(rt; held, "{sets:?}");
-    Ok(())
+    assert_is_one(rt, rt.alloc(), &ended.disk, sets)
 }
