@@ -1,7 +1,7 @@
 ghost use Rattle.std.specs.Prelude.{◌≡◌, ◌≤◌, IfOk, string_bytes, vec_len};
 ghost use Rattle.schedule_replay.specs.Ends.{ReplayEnds};
 ghost use Rattle.outside_io.specs.Outside.{input, output, outside};
-ghost use Rattle.schedule_replay.specs.Replayed.{ReplaysAs};
+ghost use Rattle.schedule_replay.specs.Replayed.{ReplaysAs, ReplaysCast, ReplaysWithdraw};
 ghost use Rattle.schedule_replay.specs.Script.{IsReady, lists_of};
 
 use crate::fault::ReplayFault;
@@ -14,6 +14,44 @@ use outside_io::{Memory, Sink, Source};
 use std::alloc::Global;
 use step_core::{CastCore, WithdrawCore};
 
+/// The text of the replay of a casting phase.
+fn text_of_casts(alloc: Global, election: &Election, script: Script) -> Result<String, Memory>
+    requires ready { IsReady election.now script }
+    requires some_list { 1 ≤ vec_len script.lists }
+    ensures { IfOk result (λ text. ReplaysCast election.now script.base.items (lists_of script)
+        script.schedule.items (string_bytes text)) }
+{
+    let Script {
+        base,
+        lists,
+        schedule,
+        ..
+    } = script;
+    let tabs = lists.len();
+    let order = election.order();
+    let core = CastCore::new(alloc, order, election.limit(), &base, lists)?;
+    replay_text(alloc, core, tabs, &schedule)
+}
+
+/// The text of the replay of a withdrawing phase.
+fn text_of_withdrawals(alloc: Global, election: &Election, script: Script) -> Result<String, Memory>
+    requires ready { IsReady election.now script }
+    requires some_list { 1 ≤ vec_len script.lists }
+    ensures { IfOk result (λ text. ReplaysWithdraw election.now script.base.items (lists_of script)
+        script.schedule.items (string_bytes text)) }
+{
+    let Script {
+        base,
+        lists,
+        schedule,
+        ..
+    } = script;
+    let tabs = lists.len();
+    let order = election.order();
+    let core = WithdrawCore::new(alloc, order, election.limit(), &base, lists)?;
+    replay_text(alloc, core, tabs, &schedule)
+}
+
 /// The text of the replay of an input.
 fn text_of(alloc: Global, election: &Election, script: Script) -> Result<String, Memory>
     requires ready { IsReady election.now script }
@@ -21,25 +59,9 @@ fn text_of(alloc: Global, election: &Election, script: Script) -> Result<String,
     ensures { IfOk result (λ text. ReplaysAs script.kind election.now script.base.items
         (lists_of script) script.schedule.items (string_bytes text)) }
 {
-    let Script {
-        base,
-        kind,
-        lists,
-        schedule,
-        ..
-    } = script;
-    let tabs = lists.len();
-    let order = election.order();
-    let limit = election.limit();
-    match kind {
-        Kind::Cast => {
-            let core = CastCore::new(alloc, order, limit, &base, lists)?;
-            replay_text(alloc, core, tabs, &schedule)
-        }
-        Kind::Withdraw => {
-            let core = WithdrawCore::new(alloc, order, limit, &base, lists)?;
-            replay_text(alloc, core, tabs, &schedule)
-        }
+    match script.kind {
+        Kind::Cast => text_of_casts(alloc, election, script),
+        Kind::Withdraw => text_of_withdrawals(alloc, election, script),
     }
 }
 
