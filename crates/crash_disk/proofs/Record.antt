@@ -1,14 +1,12 @@
 -- How the record of a disk in memory grows.
-use Rattle.std.proofs.Common.{◌≡◌, ℕ, ◌+◌, ◌-◌, ◌*◌, ◌≤◌, ◌<◌, min, Bool, true, false, IsTrue, cond, List, [], ◌∷◌, ◌++◌, length, take, drop, refl, sym, ◌∙◌, ap, subst, arith, length-append, nat_lt, ◌^◌}
+use Rattle.std.proofs.Common.{◌≡◌, ℕ, ◌+◌, ◌-◌, ◌*◌, ◌≤◌, ◌<◌, Bool, true, false, IsTrue, cond, List, [], ◌∷◌, ◌++◌, length, take, drop, refl, sym, ◌∙◌, ap, subst, arith, length-append, nat_lt}
 use Rattle.std.specs.Prelude.{map, slice_range}
 use Rattle.std.proofs.lemmas.List.{map-append, length-map, take-append-le, take_all, drop_at}
 use Rattle.std.proofs.lemmas.Slice.{between_is}
 use Rattle.std.proofs.lemmas.Bool.{and_from, lt-ltb, le-leb}
 use Rattle.std.specs.Prelude.{suc, nat_le}
 use Rattle.std.proofs.lemmas.List.Elements.{All-append, All-cons, All-nil}
-use Rattle.std.proofs.lemmas.Bool.Decides.{nat_tests}
 use Rattle.store_spec.specs.Disk.{overwritten}
-use Rattle.store_spec.specs.Fault.{next_count}
 use Rattle.crash_disk.specs.Calls.{MadeCall, event_of, events_of, made_call, made_calls_in, AreStored, ChangesNothing, with_one_more}
 use Rattle.crash_disk.specs.History.{Event, State, settled_state, state_after, state_at, seen_after, begin_within}
 use Rattle.crash_disk.specs.History.Event.{Wrote, Synced, Unchanged}
