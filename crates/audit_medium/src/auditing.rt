@@ -44,31 +44,21 @@ pub fn audit<D: Disk>(
     ensures fault { CountsFaultIf (IsErrOf result DiskFault) (D.faults disk.old) (D.faults disk.new) }
 {
     let (bank, open_too) = choose(disk, election)?;
-    let mut own = Scratch::new(alloc, election)?;
-    let scratch = &mut own;
-    let closed = read_bank(alloc, disk, election, bank, &mut scratch.made)?;
-    Ok(compare(
-        disk,
-        &closed,
-        bank,
-        open_too,
-        &scratch.made,
-        &mut scratch.found,
-    )?)
+    let mut scratch = Scratch::new(alloc)?;
+    let closed = read_bank(alloc, disk, election, bank)?;
+    Ok(compare(disk, &closed, bank, open_too, &mut scratch.found)?)
 }
 
-/// Compares the other bank and its gate with those of the medium of the store that was read from a bank. That bank has
-/// the bytes `made`, and it and its gate are as the medium has them.
+/// Compares the other bank and its gate with those of the medium of the store that was read from a bank. That bank and
+/// its gate are as the medium has them.
+#[tactic(auto, using(ballot_record::proofs::CellFormat::largest_bank_width))]
 fn compare<D: Disk>(
     disk: &mut D,
     closed: &Closed,
     bank: Bank,
     open_too: bool,
-    made: &[u8],
     found: &mut [u8],
 ) -> Result<Audit, Failed>
-    requires image { made.now ≡ image_of closed.now.election closed.now.ballots }
-    requires whole { length made.now ≡ bank_size closed.now.election }
     requires found_page { length found.old ≡ page_size }
     requires read { ForSome (D.seen disk.old)
         (λ bytes. IsReadAs closed.now.election bytes (bank_named bank) closed.now.ballots) }
@@ -81,7 +71,7 @@ fn compare<D: Disk>(
 {
     let election = closed.election();
     let other = other_of(bank);
-    let first = first_difference(disk, election, other, made, found)?;
+    let first = first_difference(disk, election, other, closed.image(), found)?;
     if let Some(at) = first {
         let place = bank_place(election, other) + at as u64;
         return Ok(Audit::Differs { place });

@@ -1,5 +1,6 @@
 -- What others may count on of the bytes of a cell and of a header: how many they are, that a ballot's number stands in
--- front, and that no two ballots have the same bytes. That zeros are no ballot stands in `take_cell`.
+-- front, and that no two ballots have the same bytes. That zeros are no ballot stands in `take_cell`. Each width that is
+-- the same in every election is a constant of the program.
 use Rattle.std.proofs.Common.{◌≡◌, ℕ, ◌*◌, ◌^◌, ◌<◌, ◌≤◌, List, [], ◌∷◌, ◌++◌, length, take, replicate, refl, sym, ap, ◌∙◌, append_assoc, arith, length-append, length-take, take_at}
 use Rattle.std.proofs.lemmas.List.{take-replicate}
 use Rattle.std.proofs.lemmas.List.Concat.{flat_map-cons}
@@ -7,11 +8,24 @@ use Rattle.std.proofs.lemmas.Nat.{from_be_bytes-to_be_bytes_8}
 use Rattle.std.specs.Int.{from_be_bytes, to_be_bytes, w8, w32, w64}
 use Rattle.std.specs.List.{flat_map}
 use Rattle.ballot_record.proofs.FormatReading.{cell_again}
-use Rattle.ballot_record.specs.Format.{ballot_at, number_size}
+use Rattle.ballot_record.specs.Format.{ballot_at, largest_bank, largest_cell, number_size}
+use Rattle.ballot_record.specs.declared.format.TheConstants.{HEADER_BYTES, MAX_BANK_BYTES, MAX_CELL_BYTES}
 use Rattle.store_spec.specs.Ballot.{Ballot, IsValid}
 use Rattle.store_spec.specs.Damage.{number_at}
 use Rattle.store_spec.specs.Election.{Election, IsElection, cell_size, header_size}
 use Rattle.store_spec.specs.Image.{ballot_bytes, header_of}
+
+pub header_width : header_size ≡ HEADER_BYTES
+unfolding header_size
+header_width = refl
+
+pub largest_cell_width : largest_cell ≡ MAX_CELL_BYTES
+unfolding largest_cell
+largest_cell_width = refl
+
+pub largest_bank_width : largest_bank ≡ MAX_BANK_BYTES
+unfolding header_size largest_bank largest_cell
+largest_bank_width = refl
 
 -- a cell has room for a number
 pub number_fits : (e : Election) → number_size ≤ cell_size e
@@ -19,7 +33,7 @@ unfolding cell_size
 number_fits e = omega arith
 
 pub length-header_of : (e : Election) → length (header_of e) ≡ header_size
-unfolding header_of
+unfolding header_of header_size
 length-header_of e = refl
 
 length-sets : (sets : List ℕ) → length (flat_map (to_be_bytes w32) sets) ≡ length sets * 4
@@ -44,6 +58,10 @@ number_of_bytes e b short =
 
 pub number_of_zeros : (e : Election) → number_at (replicate (cell_size e) 0) ≡ 0
 number_of_zeros e = ap (from_be_bytes w64) (take-replicate 8 (cell_size e) 0 (omega (arith, number_fits e)))
+
+-- the bytes of a valid ballot spell it
+pub spells_itself : (e : Election) (b : Ballot) → IsElection e → IsValid e b → ballot_at (length e.contests) (ballot_bytes e b) ≡ b
+spells_itself = cell_again
 
 -- no two ballots have the same bytes
 pub same_ballot : (e : Election) (a b : Ballot) → IsElection e → IsValid e a → IsValid e b → ballot_bytes e a ≡ ballot_bytes e b → a ≡ b

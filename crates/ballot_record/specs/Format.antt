@@ -9,10 +9,10 @@ abbrev pub number_size : ℕ
 number_size = 8
 
 -- the most bytes of a cell and of a bank, whatever the election
-abbrev pub largest_cell : ℕ
+unfoldable pub largest_cell : ℕ
 largest_cell = 73
 
-abbrev pub largest_bank : ℕ
+unfoldable pub largest_bank : ℕ
 largest_bank = header_size + most_cells * largest_cell
 
 -- so many mark sets, of four bytes each

@@ -1,5 +1,6 @@
 //! The bytes of a medium: how many a header, a cell and a bank have, and how headers and cells are written and read. Only
 //! this module knows their widths.
+#![tactic(auto, unfolding(store_spec::specs::Election::header_size, crate::specs::Format::largest_cell, crate::specs::Format::largest_bank))]
 
 ghost use Rattle.std.specs.Prelude.{◌≡◌, ◌+◌, ◌-◌, ◌*◌, ◌≤◌, ◌++◌, ◌↔◌, length, take, drop, replicate, All, IsTrue};
 ghost use Rattle.std.specs.Int.{from_be_bytes, w32};
@@ -41,7 +42,7 @@ const MARK: [u8; 8] = *b"HIBSTORE";
 
 impl Election {
     /// How many bytes a cell has.
-    #[tactic(auto, unfolding(store_spec::specs::Election::cell_size))]
+    #[tactic(auto, unfolding(store_spec::specs::Election::cell_size, crate::specs::Format::largest_cell))]
     pub fn cell_bytes(&self) -> usize
         ensures size { result ≡ cell_size self.now }
         ensures number { number_size ≤ result }
@@ -207,6 +208,17 @@ pub fn take_cell(bytes: &[u8], election: &Election) -> CellRead
 }
 
 impl Record {
+    /// The record that the bytes of a cell spell, valid or not.
+    #[tactic(auto, unfolding(store_spec::specs::Election::cell_size))]
+    pub fn of_cell(bytes: &[u8], election: &Election) -> Record
+        requires { length bytes.now ≡ cell_size election.now }
+        ensures { ballot result ≡ ballot_at (length election.now.contests) bytes.now }
+    {
+        let mut record = Record::blank();
+        put_parts(bytes, election.contests(), &mut record);
+        record
+    }
+
     /// Writes the bytes of its cell.
     #[tactic(auto, unfolding(store_spec::specs::Election::cell_size))]
     pub fn put_cell(&self, election: &Election, out: &mut [u8])

@@ -1,12 +1,9 @@
 -- How far the text of an election has been read.
-use Rattle.std.proofs.Common.{◌≡◌, ℕ, ◌+◌, ◌-◌, ◌<◌, ◌≤◌, List, [], ◌++◌, length, take, Option, refl, ap, sym, subst, ◌∙◌, arith, append_assoc}
+use Rattle.std.proofs.Common.{◌≡◌, ℕ, ◌+◌, ◌-◌, ◌<◌, ◌≤◌, List, [], ◌++◌, length, take, Option, refl, ap, sym, subst, ◌∙◌, arith, append_assoc, Result, Ok, Err}
 use Rattle.std.proofs.lemmas.List.{append-nil, length-append, length-take}
-use Rattle.std.specs.Prelude.{IfSome, slice_range}
-use Rattle.ballot_store_cli.specs.ElectionText.{election_limit, IsElectionRead, IsNoElectionRead, IsWhole, RefusesElection}
-use Rattle.outside_io.specs.Outside.{Input}
-use Rattle.ballot_store_cli.specs.Status.{no_election, no_election_status}
-use Rattle.election_def.specs.declared.fault.ElectionFault.{ElectionFault}
-use Rattle.election_def.specs.declared.fault.ElectionFault.TheVariants.{NotElection, Memory}
+use Rattle.std.specs.Prelude.{IfErr, IfSome, IsErrAnd, slice_range}
+use Rattle.ballot_store_cli.specs.ElectionText.{election_limit, IsElectionRead, IsNoElectionRead, IsWhole}
+use Rattle.run_outcome.specs.declared.status.Status.{Status}
 use Rattle.election_def.specs.Text.{Describes, IsElectionText}
 use Rattle.outside_io.proofs.Told.{told_as, told_given, told_holds, told_on, told_still}
 use Rattle.outside_io.specs.Stream.{Gives, GivesAtMost, GivesExactly}
@@ -66,7 +63,11 @@ told_election text e told describes = told_as told (λ x y read. (read.0, subst 
 pub told_no_election : {a b : Option (List ℕ)} (text : List ℕ) → IfTold a b (λ whole left. IsWhole whole left × (text ≡ whole)) → ¬ IsElectionText text → IfTold a b IsNoElectionRead
 told_no_election text told none = told_as told (λ x y read. (read.0, subst (λ t. ¬ IsElectionText t) read.1 none))
 
--- why the text that was read gives no election
-pub told_refused : {E : Type 0} (old new : Input E) (text : List ℕ) (fault : ElectionFault) → IfTold old.left new.left (λ whole left. IsWhole whole left × (text ≡ whole)) → new.faults ≡ old.faults → (fault ≡ NotElection → ¬ IsElectionText text) → RefusesElection (no_election_status (no_election fault)) old new
-told_refused old new text NotElection told steady none = (told_no_election text told (none refl), steady)
-told_refused old new text Memory told steady none = (told_as told (λ x y read. omega (arith, read.0.0)), steady)
+-- there was no memory once it was read
+pub told_whole_few : {a b : Option (List ℕ)} (text : List ℕ) → IfTold a b (λ whole left. IsWhole whole left × (text ≡ whole)) → IfTold a b (GivesAtMost (election_limit + 1))
+told_whole_few text told = told_as told (λ x y read. omega (arith, read.0.0))
+
+-- what holds of the status of a cause holds of the one that is told
+pub if_err : {A : Type 0} (r : Result A Status) (x : Status) (P : Status → Type 0) → IsErrAnd r (λ status. status ≡ x) → P x → IfErr r P
+if_err (Ok a) x P is holds = tt
+if_err (Err y) x P is holds = subst P (sym is) holds

@@ -1,33 +1,27 @@
--- The words that the program is called with: a medium, an election, and a command.
-use Rattle.std.specs.Prelude.{◌≡◌, ◌≢◌, ℕ, List, [], ◌∷◌, codes}
+-- The commands of the program, and the words that it is called with: a medium, an election, and a command.
+use Rattle.std.specs.Prelude.{ℕ, List, ◌∷◌}
 use Rattle.ballot_store_cli.specs.declared.command.Command.{Command}
-use Rattle.large_options.specs.Options.{IsOptions}
 use Rattle.ballot_store_cli.specs.declared.command.Command.TheVariants.{Build, Init, Session, Audit, Replay, Large}
+use Rattle.medium_commands.specs.Audit.{audit_row}
+use Rattle.medium_commands.specs.Init.{init_row}
+use Rattle.run_outcome.specs.Row.{IsNamed, IsPlain, Row}
+use Rattle.script_commands.specs.Build.{build_row}
+use Rattle.script_commands.specs.Replay.{replay_row}
+use Rattle.session_commands.specs.Large.{large_row}
+use Rattle.session_commands.specs.Session.{session_row}
 
-abbrev pub DASH : ℕ
-DASH = 45
+-- the row of a command
+abbrev pub row : Command → Row
+row Build = build_row
+row Init = init_row
+row Session = session_row
+row Audit = audit_row
+row Replay = replay_row
+row (Large o) = large_row o
 
--- a word that is read by its place: it is not empty, and does not begin with a dash
-abbrev pub IsPlain : List ℕ → Type 0
-IsPlain [] = ⊥
-IsPlain (byte ∷ bytes) = byte ≢ DASH
-
--- the words from the third on name this command
-abbrev pub Names : List (List ℕ) → Command → Type 0
-Names words Build = words ≡ codes "build" ∷ []
-Names words Init = words ≡ codes "init" ∷ []
-Names words Session = words ≡ codes "session" ∷ []
-Names words Audit = words ≡ codes "audit" ∷ []
-Names words Replay = words ≡ codes "replay" ∷ []
-Names words (Large o) = (rest : List (List ℕ)) × (words ≡ codes "large" ∷ rest) × IsOptions rest o.seed o.count o.tabs
-
--- they name no command
-abbrev pub NameNone : List (List ℕ) → Type 0
-NameNone words = (command : Command) → ¬ Names words command
-
--- the words form a command: a medium and an election, read by their place, and the words that name it
+-- the words form a command: a medium and an election, read by their place, and the words of the command's row
 abbrev pub Forms : List (List ℕ) → Command → Type 0
-Forms (medium ∷ election ∷ words) command = IsPlain medium × IsPlain election × Names words command
+Forms (medium ∷ election ∷ word ∷ words) command = IsPlain medium × IsPlain election × IsNamed (row command) medium word words
 Forms words command = ⊥
 
 -- the words form no command

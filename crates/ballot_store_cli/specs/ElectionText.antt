@@ -1,9 +1,9 @@
 -- What the source of an election gives.
-use Rattle.std.specs.Prelude.{◌≡◌, ℕ, ◌+◌, ◌≤◌, List, [], length}
+use Rattle.std.specs.Prelude.{◌≡◌, ℕ, ◌+◌, ◌≤◌, List, [], length, Some}
 use Rattle.outside_io.specs.Outside.{Input}
-use Rattle.ballot_store_cli.specs.declared.status.Status.{Status}
-use Rattle.ballot_store_cli.specs.declared.status.Status.TheVariants as status
-use Rattle.ballot_store_cli.specs.declared.status.Which.TheVariants as which
+use Rattle.run_outcome.specs.declared.status.Status.{Status}
+use Rattle.run_outcome.specs.declared.status.Status.TheVariants as status
+use Rattle.run_outcome.specs.declared.status.Which.TheVariants as which
 use Rattle.election_def.specs.Text.{Describes, IsElectionText}
 use Rattle.outside_io.specs.Told.{IfTold}
 use Rattle.outside_io.specs.Stream.{GivesAtMost, GivesExactly}
@@ -41,3 +41,10 @@ RefusesElection (status.TooLong which.Election) before after = IfTold before.lef
 RefusesElection (status.ReadFault which.Election) before after = IfTold before.left after.left (GivesAtMost election_limit) × Rose before.faults after.faults
 RefusesElection status.Memory before after = IfTold before.left after.left (GivesAtMost (election_limit + 1)) × (after.faults ≡ before.faults)
 RefusesElection other before after = ⊥
+
+-- the source describes this election, within its limit
+pub record GivesElection {E : Type 0} (source : Input E) (e : Election) : Type 0 where
+  pub text : List ℕ
+  pub told : source.left ≡ Some text
+  pub within : length text ≤ election_limit
+  pub describes : Describes text e

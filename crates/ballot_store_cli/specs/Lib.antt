@@ -1,15 +1,3 @@
-pub mod Audit
-pub mod Ballots
-pub mod Build
 pub mod Command
 pub mod ElectionText
-pub mod Index
-pub mod Init
-pub mod Large
 pub mod Outcome
-pub mod Replay
-pub mod Script
-pub mod Served
-pub mod Session
-pub mod Status
-pub mod World

@@ -1,6 +1,7 @@
-ghost use Rattle.std.specs.Prelude.{◌≡◌, ◌↔◌, ◌∷◌, [], IsTrue, ◌≤◌, IfErr, IfNone, IfOk, IfSome, codes, length, map, string_bytes};
+ghost use Rattle.std.specs.Prelude.{◌≡◌, ◌↔◌, ◌∷◌, [], IsTrue, ◌≤◌, IfErr, IfNone, IfOk, IfSome, codes, length, map, string_bytes, ℕ, List};
+ghost use Rattle.ballot_store_cli.specs.Command.{Forms, FormNone, row};
 ghost use Rattle.large_options.specs.Options.{AreOptions};
-ghost use Rattle.ballot_store_cli.specs.Command.{Forms, FormNone, IsPlain, NameNone, Names};
+ghost use Rattle.run_outcome.specs.Row.{IsNamed, IsPlain};
 
 use large_options::{Options, are_options, options_of};
 use outside_io::Memory;
@@ -32,10 +33,10 @@ fn is_plain(word: &str) -> bool
     }
 }
 
-/// The command that this word names.
+/// The command that this word names alone.
 fn command_named(word: &str) -> Option<Command>
-    ensures named { IfSome result (Names (word.now ∷ [])) }
-    ensures none { IfNone result (NameNone (word.now ∷ [])) }
+    ensures named { IfSome result (λ c. (medium : List ℕ) → IsNamed (row c) medium word.now []) }
+    ensures none { IfNone result ((c : Command) (medium : List ℕ) → ¬ IsNamed (row c) medium word.now []) }
 {
     match word {
         "build" => Some(Command::Build),
@@ -49,8 +50,8 @@ fn command_named(word: &str) -> Option<Command>
 
 /// The large run that these options ask for, if they are its options.
 fn large_named(alloc: Global, options: &[String]) -> Result<Option<Command>, Memory>
-    ensures named { IfOk result
-        (λ o. IfSome o (Names (codes "large" ∷ map string_bytes options.now))) }
+    ensures named { IfOk result (λ o. IfSome o
+        (λ c. (medium : List ℕ) → IsNamed (row c) medium (codes "large") (map string_bytes options.now))) }
     ensures none { IfOk result (λ o. IfNone o (¬ AreOptions (map string_bytes options.now))) }
     ensures memory { IfErr result (λ _. AreOptions (map string_bytes options.now)) }
 {
@@ -60,44 +61,36 @@ fn large_named(alloc: Global, options: &[String]) -> Result<Option<Command>, Mem
     Ok(Some(Command::Large(options_of(alloc, options)?)))
 }
 
-/// The command that this word names, with these options behind it.
-fn named_with(alloc: Global, command: &str, options: &[String]) -> Result<Option<Command>, Memory>
-    requires { 1 ≤ length options.now }
-    ensures named { IfOk result
-        (λ o. IfSome o (Names (command.now ∷ map string_bytes options.now))) }
-    ensures none { IfOk result
-        (λ o. IfNone o (NameNone (command.now ∷ map string_bytes options.now))) }
+/// The command that this word names, with these further words behind it.
+fn named_with(alloc: Global, word: &str, words: &[String]) -> Result<Option<Command>, Memory>
+    requires { 1 ≤ length words.now }
+    ensures named { IfOk result (λ o. IfSome o
+        (λ c. (medium : List ℕ) → IsNamed (row c) medium word.now (map string_bytes words.now))) }
+    ensures none { IfOk result (λ o. IfNone o
+        ((c : Command) (medium : List ℕ) → ¬ IsNamed (row c) medium word.now (map string_bytes words.now))) }
     ensures memory { IfErr result
-        (λ _. (c : _) × Names (command.now ∷ map string_bytes options.now) c) }
+        (λ _. (c : Command) × ((medium : List ℕ) → IsNamed (row c) medium word.now (map string_bytes words.now))) }
 {
-    match command {
-        "large" => large_named(alloc, options),
+    match word {
+        "large" => large_named(alloc, words),
         _ => Ok(None),
     }
 }
 
-/// The command that the words from the third on name. Memory is taken for `large` alone.
-fn named(alloc: Global, words: &[String]) -> Result<Option<Command>, Memory>
-    ensures named { IfOk result (λ o. IfSome o (Names (map string_bytes words.now))) }
-    ensures none { IfOk result (λ o. IfNone o (NameNone (map string_bytes words.now))) }
-    ensures memory { IfErr result (λ _. (c : _) × Names (map string_bytes words.now) c) }
-{
-    match words {
-        [] => Ok(None),
-        [command] => Ok(command_named(command)),
-        [command, options @ ..] => named_with(alloc, command, options),
-    }
-}
-
-/// The command that the words form. There is no answer only where they form one.
+/// The command that the words form. Memory is taken for further words alone, and there is no answer only where the words
+/// form a command.
 pub fn command_of(alloc: Global, words: &[String]) -> Result<Option<Command>, Memory>
     ensures formed { IfOk result (λ o. IfSome o (Forms (map string_bytes words.now))) }
     ensures none { IfOk result (λ o. IfNone o (FormNone (map string_bytes words.now))) }
     ensures memory { IfErr result (λ _. (c : _) × Forms (map string_bytes words.now) c) }
 {
     match words {
-        [medium, election, rest @ ..] if is_plain(medium) && is_plain(election) => {
-            named(alloc, rest)
+        [medium, election, word, words @ ..] if is_plain(medium) && is_plain(election) => {
+            if words.is_empty() {
+                Ok(command_named(word))
+            } else {
+                named_with(alloc, word, words)
+            }
         }
         _ => Ok(None),
     }

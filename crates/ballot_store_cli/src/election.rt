@@ -2,67 +2,18 @@ ghost use Rattle.std.specs.Prelude.{◌≡◌, ◌++◌, IfOk, IfErr, OnOk, vec_
 ghost use Rattle.outside_io.specs.Told.{AsTold};
 ghost use Rattle.ballot_store_cli.specs.ElectionText.{IsElectionRead, IsWhole, RefusesElection};
 ghost use Rattle.outside_io.specs.Outside.{input};
-ghost use Rattle.ballot_store_cli.specs.Status.{no_election_status};
 ghost use Rattle.store_spec.specs.Election.{IsElection};
 
 use ballot_record::Election;
 use election_def::{ElectionFault, read_election};
-use outside_io::{Failed, Memory, Source, read_piece};
+use outside_io::{Memory, Source, read_piece};
+use run_outcome::{Status, Which};
 use std::alloc::Global;
 
 const ELECTION_BYTES: usize = 1_048_576;
 
 /// How many bytes are asked for at once.
 const PIECE: usize = 65536;
-
-/// Why a source gave no election.
-#[derive(Clone, Copy, Debug, PartialEq, Eq)]
-pub enum NoElection {
-    /// Its text describes none.
-    BadText,
-    /// It gave more than 1,048,576 bytes.
-    TooLong,
-    /// It failed.
-    ReadFault,
-    /// There was no memory.
-    Memory,
-}
-
-impl From<Memory> for NoElection {
-    ghost use Rattle.std.specs.Prelude.{◌≡◌};
-    ghost use Rattle.ballot_store_cli.specs.declared.election.NoElection.TheVariants as causes;
-
-    ghost from_gives = { λ _ cause. cause ≡ causes.Memory };
-
-    fn from(_: Memory) -> Self {
-        NoElection::Memory
-    }
-}
-
-impl From<Failed> for NoElection {
-    ghost use Rattle.std.specs.Prelude.{◌≡◌};
-    ghost use Rattle.ballot_store_cli.specs.declared.election.NoElection.TheVariants.{ReadFault};
-
-    ghost from_gives = { λ _ cause. cause ≡ ReadFault };
-
-    fn from(_: Failed) -> Self {
-        NoElection::ReadFault
-    }
-}
-
-impl From<ElectionFault> for NoElection {
-    ghost use Rattle.ballot_store_cli.specs.Status.{no_election};
-    ghost use Rattle.std.specs.Prelude.{◌≡◌};
-
-    ghost from_gives = { λ fault cause. cause ≡ no_election fault };
-
-    fn from(fault: ElectionFault) -> Self {
-        match fault {
-            ElectionFault::NotElection => NoElection::BadText,
-            ElectionFault::Memory => NoElection::Memory,
-        }
-    }
-}
 
 fn empty_piece(alloc: Global) -> Result<Vec<u8>, Memory>
     ensures { IfOk result (λ piece. vec_len piece ≡ 65536) }
@@ -78,35 +29,48 @@ fn append(text: &mut Vec<u8>, piece: &[u8]) -> Result<(), Memory>
 }
 
 // Reads a source to its end, or until it has given more bytes than the limit of an election's text.
-fn read_text<E: Source>(alloc: Global, source: &mut E) -> Result<Vec<u8>, NoElection>
+fn read_text<E: Source>(alloc: Global, source: &mut E) -> Result<Vec<u8>, Status>
     ensures text { IfOk result (λ text. AsTold E.left source.old source.new
         (λ whole left. IsWhole whole left × (text.items ≡ whole))) }
-    ensures refused { IfErr result (λ cause.
-        RefusesElection (no_election_status cause) (input E.left E.faults source.old) (input E.left E.faults source.new)) }
+    ensures refused { IfErr result (λ status.
+        RefusesElection status (input E.left E.faults source.old) (input E.left E.faults source.new)) }
     ensures no_fault { OnOk result (E.faults source.new ≡ E.faults source.old) }
 {
     let mut text = Vec::new(alloc);
     let mut piece = empty_piece(alloc)?;
     'pieces: while text.len() <= ELECTION_BYTES {
         let asked = PIECE.min(ELECTION_BYTES + 1 - text.len());
-        let count = read_piece(source, &mut piece, 0, asked)?;
+        let count = match read_piece(source, &mut piece, 0, asked) {
+            Ok(count) => count,
+            Err(_) => {
+                return Err(Status::ReadFault {
+                    which: Which::Election,
+                });
+            }
+        };
         if count == 0 {
             return Ok(text);
         }
         append(&mut text, &piece[..count])?;
     }
-    Err(NoElection::TooLong)
+    Err(Status::TooLong {
+        which: Which::Election,
+    })
 }
 
 /// The election that the whole text of a source describes.
-pub fn election_from<E: Source>(alloc: Global, source: &mut E) -> Result<Election, NoElection>
+pub fn election_from<E: Source>(alloc: Global, source: &mut E) -> Result<Election, Status>
     ensures election { IfOk result (λ election.
         AsTold E.left source.old source.new (IsElectionRead election)) }
     ensures valid { IfOk result IsElection }
-    ensures refused { IfErr result (λ cause.
-        RefusesElection (no_election_status cause) (input E.left E.faults source.old) (input E.left E.faults source.new)) }
+    ensures refused { IfErr result (λ status.
+        RefusesElection status (input E.left E.faults source.old) (input E.left E.faults source.new)) }
     ensures no_fault { OnOk result (E.faults source.new ≡ E.faults source.old) }
 {
     let text = read_text(alloc, source)?;
-    Ok(read_election(alloc, &text)?)
+    match read_election(alloc, &text) {
+        Ok(election) => Ok(election),
+        Err(ElectionFault::NotElection) => Err(Status::BadElection),
+        Err(ElectionFault::Memory) => Err(Status::Memory),
+    }
 }

@@ -3,21 +3,16 @@
 
 ghost use Rattle.std.specs.Prelude.{◌≡◌, ◌-◌, IfOk, length, vec_len};
 
-mod audit;
-mod build;
 mod command;
 mod election;
-mod init;
-mod large;
 pub mod laws;
 mod run;
-mod status;
 mod streams;
 
 use crash_disk::{FileDisk, FileLock};
 use outside_io::{FileSource, Memory, NoTurns, StdinSource, StdoutSink};
 pub use run::run;
-pub use status::{Status, Which};
+pub use run_outcome::{Status, Which};
 use std::alloc::Global;
 use std::os::unix::fs::FileExt;
 use std::process::ExitCode;

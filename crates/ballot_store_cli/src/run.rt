@@ -1,26 +1,29 @@
-ghost use Rattle.std.specs.Prelude.{◌≡◌, ◌-◌, [], length, map, string_bytes};
-ghost use Rattle.ballot_store_cli.specs.Outcome.{CommandEnds, Ends};
-ghost use Rattle.ballot_store_cli.specs.Status.{ended};
-ghost use Rattle.ballot_store_cli.specs.World.{reported, world};
-ghost use Rattle.outside_io.specs.Outside.{input, output};
-ghost use Rattle.store_spec.specs.Disk.{disk_model};
+ghost use Rattle.std.specs.Prelude.{◌≡◌, ◌-◌, length, map, string_bytes};
+ghost use Rattle.ballot_store_cli.specs.Command.{row};
+ghost use Rattle.ballot_store_cli.specs.Outcome.{Ends};
 ghost use Rattle.large_options.specs.declared.options.Options.{Options};
+ghost use Rattle.outside_io.specs.Outside.{input, output};
+ghost use Rattle.run_outcome.specs.Row.{CommandEnds};
+ghost use Rattle.run_outcome.specs.Status.{ended};
+ghost use Rattle.run_outcome.specs.World.{nothing_reported, world};
+ghost use Rattle.session_commands.specs.Session.{reported};
+ghost use Rattle.store_spec.specs.Disk.{disk_model};
 ghost use Rattle.store_spec.specs.Election.{IsElection};
 ghost use Rattle.store_spec.specs.ScriptLine.{IsTab};
 
-use crate::audit::audit;
-use crate::build::build;
 use crate::command::{Command, command_of};
 use crate::election::election_from;
-use crate::init::init;
-use crate::large::large;
-use crate::status::Status;
 use ballot_record::Election;
 use crash_disk::Disk;
+use medium_commands::audit::audit;
+use medium_commands::init::init;
 use outside_io::{Sink, Source, Turns};
-use phase_gate::{Report, Telling};
-use schedule_replay::replay;
-use session_run::run_session;
+use phase_gate::Report;
+use run_outcome::Status;
+use script_commands::build::build;
+use script_commands::replay::replay;
+use session_commands::large::large;
+use session_commands::session::session;
 use std::alloc::Global;
 use std::thread::Threads;
 
@@ -35,7 +38,8 @@ use std::thread::Threads;
 ///   and writes the summary of its replies.
 ///
 /// The report has how many calls the disk had seen at each checkpoint that a session acknowledged, and how many ballots
-/// its last closed store held. `more` has a disk for each word after the third; no command uses them yet.
+/// its last closed store held. `more` has a disk for each word after the third.
+#[tactic(auto, using(crate::proofs::Runs::not_usage))]
 pub fn run<R: Threads + Sync, E: Source, S: Source, K: Sink, D: Disk, T: Turns>(
     rt: &R,
     alloc: Global,
@@ -51,9 +55,8 @@ pub fn run<R: Threads + Sync, E: Source, S: Source, K: Sink, D: Disk, T: Turns>(
     ensures ends { Ends (disk_model D.seen D.calls D.may_leave D.faults)
         (map string_bytes words.now) result.0 (reported result.1)
         (input E.left E.faults election.old) (input E.left E.faults election.new)
-        (world (input S.left S.faults script.old) (output K.taken K.faults out.old) disk.old)
-        (world (input S.left S.faults script.new) (output K.taken K.faults out.new) disk.new) }
-    ensures more { more.new ≡ more.old }
+        (world (input S.left S.faults script.old) (output K.taken K.faults out.old) disk.old more.old)
+        (world (input S.left S.faults script.new) (output K.taken K.faults out.new) disk.new more.new) }
 {
     let mut report = Report::new(alloc);
     let command = match command_of(alloc, words) {
@@ -63,7 +66,7 @@ pub fn run<R: Threads + Sync, E: Source, S: Source, K: Sink, D: Disk, T: Turns>(
     };
     let election = match election_from(alloc, election) {
         Ok(election) => election,
-        Err(cause) => return (cause.into(), report),
+        Err(status) => return (status, report),
     };
     match carry_out(
         rt,
@@ -73,6 +76,7 @@ pub fn run<R: Threads + Sync, E: Source, S: Source, K: Sink, D: Disk, T: Turns>(
         script,
         out,
         disk,
+        more,
         turns,
         &mut report,
     ) {
@@ -90,35 +94,24 @@ fn carry_out<R: Threads + Sync, S: Source, K: Sink, D: Disk, T: Turns>(
     script: &mut S,
     out: &mut K,
     disk: &mut D,
+    more: &mut [D],
     turns: &T,
     report: &mut Report,
 ) -> Result<(), Status>
     requires options { (o : Options) → command ≡ Command.Large o → IsTab o.tabs }
     requires election { IsElection election.now }
-    requires marks { report.old.marks.items ≡ [] }
-    requires held { report.old.held ≡ 0 }
+    requires report { reported report.old ≡ nothing_reported }
     ensures { CommandEnds (disk_model D.seen D.calls D.may_leave D.faults)
-        command election.now (ended result) (reported report.new)
-        (world (input S.left S.faults script.old) (output K.taken K.faults out.old) disk.old)
-        (world (input S.left S.faults script.new) (output K.taken K.faults out.new) disk.new) }
+        (row command) election.now (ended result) (reported report.new)
+        (world (input S.left S.faults script.old) (output K.taken K.faults out.old) disk.old more.old)
+        (world (input S.left S.faults script.new) (output K.taken K.faults out.new) disk.new more.new) }
 {
     match command {
-        Command::Build => build(alloc, election, script, out)?,
-        Command::Init => init(alloc, election, out, disk)?,
-        Command::Session => run_session(
-            rt,
-            alloc,
-            election,
-            script,
-            out,
-            disk,
-            turns,
-            Telling::All,
-            report,
-        )?,
-        Command::Audit => audit(alloc, election, out, disk)?,
-        Command::Replay => replay(alloc, election, script, out)?,
-        Command::Large(options) => large(rt, alloc, options, election, out, disk, turns, report)?,
+        Command::Build => build(alloc, election, script, out),
+        Command::Init => init(alloc, election, out, disk),
+        Command::Session => session(rt, alloc, election, script, out, disk, turns, report),
+        Command::Audit => audit(alloc, election, out, disk),
+        Command::Replay => replay(alloc, election, script, out),
+        Command::Large(options) => large(rt, alloc, options, election, out, disk, turns, report),
     }
-    Ok(())
 }

@@ -1,4 +1,5 @@
 //! The bytes of the banks.
+#![tactic(auto, using(ballot_record::proofs::CellFormat::largest_bank_width))]
 
 ghost use Rattle.std.specs.Prelude.{◌≡◌, ◌↔◌, ◌+◌, ◌≤◌, ℕ, List, length, slice_range, Some, option_map, is_some, IfSome, OnOk, OnErr};
 ghost use Rattle.std.specs.Option.{ForSome};

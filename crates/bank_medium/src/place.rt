@@ -1,4 +1,5 @@
 //! Where the parts of a medium stand.
+#![tactic(auto, using(ballot_record::proofs::CellFormat::largest_bank_width))]
 
 ghost use Rattle.std.specs.Prelude.{◌≡◌, ◌+◌, ◌*◌, ◌≤◌};
 ghost use Rattle.bank_medium.specs.Banks.{place_of, gate_of};

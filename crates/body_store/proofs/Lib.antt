@@ -1,9 +1,13 @@
 mod CellPlaces
-mod Keeping
-mod Numbered
-mod Placed
+pub mod Keeping
+mod Planning
+mod Relaying
 pub mod BallotSets
 pub mod Blank
 pub mod ByNumber
+pub mod Images
+pub mod Listings
 pub mod Lookups
 pub mod Numbers
+pub mod Pieces
+pub mod Spelled

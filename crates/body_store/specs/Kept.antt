@@ -1,17 +1,20 @@
--- How a closed store is kept: the election, the records in any order, the cells that are their layout, and the place of
--- the record in each cell.
-use Rattle.std.specs.Prelude.{◌≡◌}
+-- How a closed store is kept: the election, the bytes of its image, the number in each cell, and how many have one. The
+-- bytes spell what it holds.
+use Rattle.std.specs.Prelude.{◌≡◌, drop, length}
 use Rattle.body_store.specs.ByNumber.{by_number}
-use Rattle.body_store.specs.Contents.{Contents, IsStored, ballots_of}
-use Rattle.body_store.specs.Places.{LeadTo}
+use Rattle.body_store.specs.Contents.{Contents, IsStored}
+use Rattle.body_store.specs.Held.{Shows, spelled_in}
 use Rattle.body_store.specs.declared.Closed.TheInside.{Inside}
-use Rattle.store_spec.specs.Ballot.{numbers_of}
-use Rattle.store_spec.specs.Image.{cells_of}
+use Rattle.store_spec.specs.Election.{header_size}
+use Rattle.store_spec.specs.Layout.{numbers_in}
 
 abbrev pub contents_of : Inside → Contents
-contents_of a = record { election = a.election.value; ballots = by_number (ballots_of a.records.items) }
+contents_of a = record {
+  election = a.election.value;
+  ballots = by_number (spelled_in a.election.value a.cells.items (drop header_size a.image.items));
+}
 
 pub record IsKept (a : Inside) : Type 0 where
   pub stored : IsStored (contents_of a)
-  pub cells : a.cells.items ≡ cells_of a.election.value (ballots_of a.records.items)
-  pub places : LeadTo (numbers_of (ballots_of a.records.items)) a.cells.items a.places.items
+  pub shown : Shows a.election.value (contents_of a).ballots a.image.items a.cells.items
+  pub counted : a.held ≡ length (numbers_in a.cells.items)

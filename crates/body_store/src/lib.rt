@@ -1,37 +1,45 @@
-//! The closed store: the ballots that are held, the cells in which their numbers stand, and the records found by them.
+//! The closed store: the image of the ballots that are held, and the cells in which their numbers stand.
 #![tactic(auto)]
 
+mod changed;
+mod closing;
 pub mod laws;
-mod places;
-mod records;
+mod lookup;
+mod moves;
+mod nothing;
+mod relay;
 #[cfg(test)]
 mod tests;
+mod zeros;
 
-ghost use Rattle.body_store.specs.Contents.{Contents, IsStored, ballots_of, ballots_without};
 ghost use Rattle.body_store.specs.ByNumber.{by_number};
-ghost use Rattle.body_store.specs.Places.{LeadTo};
-ghost use Rattle.std.specs.Prelude.{◌≡◌, ◌++◌, ◌<◌, List, [], IfOk, IsPermutation, OnErr, OnOk, length, map, option_map, slice_index};
+ghost use Rattle.body_store.specs.Contents.{Contents, IsStored, ballots_of, ballots_without};
+ghost use Rattle.body_store.specs.Held.{Shows, held_in};
+ghost use Rattle.body_store.specs.Places.{AreAt};
+ghost use Rattle.std.specs.Prelude.{◌≡◌, ◌++◌, ◌+◌, ◌-◌, ◌<◌, ◌≤◌, ℕ, List, [], All, IfOk, IsPermutation, OnErr, OnOk, drop, length, map, option_map, slice_index, take};
 ghost use Rattle.ballot_record.specs.Record.{ballot};
-ghost use Rattle.store_spec.specs.Ballot.{IsListing, IsWithinLimit, ballot_of, numbers_of};
-ghost use Rattle.store_spec.specs.Election.{IsElection, cell_count};
+ghost use Rattle.store_spec.specs.Ballot.{Ballot, IsListing, IsWithinLimit, ballot_of, numbers_of};
+ghost use Rattle.store_spec.specs.Election.{IsElection, bank_size, cell_count};
 ghost use Rattle.store_spec.specs.Home.{home_in};
-ghost use Rattle.store_spec.specs.Image.{cells_of};
-ghost use Rattle.store_spec.specs.Layout.{IsLayout, numbers_in};
+ghost use Rattle.store_spec.specs.Image.{cells_of, image_of};
+ghost use Rattle.store_spec.specs.Layout.{IsLayout};
 
 use ballot_record::{Election, Record};
+pub use lookup::Place;
 use outside_io::Memory;
 use std::alloc::Global;
 use std::marker::Model;
+pub use zeros::lengthen;
 
-/// A store between two phases: its election, the records that it holds, the cells in which their numbers stand, and for
-/// each cell with a number which of the records has it. An election has some thousand bytes, and a store is moved at
-/// each line of a session, so the election stands beside it.
+/// A store between two phases: its election, the bytes of its image, the number in each of its cells, and how many have
+/// one. An election has some thousand bytes, and a store is moved at each line of a session, so the election stands
+/// beside it.
 #[derive(Drop)]
 pub struct Closed {
     election: Box<Election>,
-    records: Vec<Record>,
+    image: Vec<u8>,
     cells: Vec<u64>,
-    places: Vec<u16>,
+    held: usize,
 }
 
 impl Model for Closed {
@@ -51,10 +59,9 @@ impl Closed {
     pub fn empty(alloc: Global, election: &Election) -> Result<Closed, Memory>
         ensures { IfOk result (λ store. store ≡ record { election = election.now; ballots = [] }) }
     {
-        let records = Vec::new(alloc);
-        let cells = records::layout(alloc, election, &records)?;
-        let places = places::of_all(alloc, &election.order(), &records, &cells)?;
-        kept(alloc, election, records, cells, places)
+        let image = nothing::image(alloc, election)?;
+        let cells = vec![in alloc; 0; election.cells()]?;
+        Closed::from_image(alloc, election, image, cells)
     }
 
     /// A store that holds these ballots, which may come in any order.
@@ -70,30 +77,34 @@ impl Closed {
             (λ store. IsPermutation (ballots_of ballots.items) store.ballots) }
         ensures stored { IfOk result IsStored }
     {
-        let cells = records::layout(alloc, election, &ballots)?;
-        let places = places::of_all(alloc, &election.order(), &ballots, &cells)?;
-        kept(alloc, election, ballots, cells, places)
+        let cells = lookup::layout(alloc, election, &ballots)?;
+        let mut store = Closed::empty(alloc, election)?;
+        store.merge(alloc, ballots, cells)?;
+        Ok(store)
     }
 
-    /// A store that holds these ballots, which come in the order of their cells. `cells` is their layout.
-    pub fn from_cells(
+    /// The store with this image. `cells` are the numbers in its cells.
+    pub fn from_image(
         alloc: Global,
         election: &Election,
-        records: Vec<Record>,
+        image: Vec<u8>,
         cells: Vec<u64>,
     ) -> Result<Closed, Memory>
-        requires listing { IsListing election.now (ballots_of records.items) }
-        requires within_limit { IsWithinLimit election.now (ballots_of records.items) }
-        requires layout { cells.items ≡ cells_of election.now (ballots_of records.items) }
-        requires in_turn { numbers_of (ballots_of records.items) ≡ numbers_in cells.items }
-        ensures election { IfOk result (λ store. store.election ≡ election.now) }
-        ensures same { IfOk result
-            (λ store. IsPermutation (ballots_of records.items) store.ballots) }
+        ghost ballots: { List Ballot }
+        requires { Shows election.now ballots image.items cells.items }
+        ensures contents { IfOk result
+            (λ store. store ≡ record { election = election.now; ballots = by_number ballots }) }
+        ensures same { IfOk result (λ store. IsPermutation ballots store.ballots) }
         ensures stored { IfOk result IsStored }
     {
-        let _ = election.limit();
-        let places = places::in_turn(alloc, &cells)?;
-        kept(alloc, election, records, cells, places)
+        let own = Box::new(alloc, *election)?;
+        let held = lookup::count(&cells);
+        Ok(Closed {
+            election: own,
+            image,
+            cells,
+            held,
+        })
     }
 
     /// Its election.
@@ -109,24 +120,16 @@ impl Closed {
         ensures count { result ≡ length self.now.ballots }
         ensures stored { IsStored self.now }
     {
-        self.records.len()
+        self.held
     }
 
-    /// The ballots that it holds, in no particular order.
-    pub fn records(&self) -> &[Record]
-        ensures ballots { IsPermutation (ballots_of result.now) self.now.ballots }
+    /// The bytes of its image.
+    pub fn image(&self) -> &[u8]
+        ensures image { result.now ≡ image_of self.now.election self.now.ballots }
+        ensures whole { length result.now ≡ bank_size self.now.election }
         ensures stored { IsStored self.now }
     {
-        &self.records
-    }
-
-    /// The ballots that it holds, in ascending order of their numbers.
-    pub fn in_order(&self, alloc: Global) -> Result<Vec<&Record>, Memory>
-        ensures ballots { IfOk result
-            (λ listed. map (λ held. ballot held.now) listed.items ≡ self.now.ballots) }
-        ensures stored { IsStored self.now }
-    {
-        records::in_order(alloc, &self.records)
+        &self.image
     }
 
     /// Its cells, each with the number of a ballot, or 0 where it is empty.
@@ -139,27 +142,46 @@ impl Closed {
         &self.cells
     }
 
+    /// The numbers of its ballots in ascending order, each with its cell.
+    pub fn in_order(&self, alloc: Global) -> Result<Vec<Place>, Memory>
+        ensures numbers { IfOk result
+            (λ places. map (λ place. place.number) places.items ≡ numbers_of self.now.ballots) }
+        ensures cells { IfOk result
+            (λ places. AreAt (cells_of self.now.election self.now.ballots) places.items) }
+        ensures stored { IsStored self.now }
+    {
+        lookup::in_order(alloc, &self.cells)
+    }
+
     /// The ballot with this number. `None` where it holds none.
     pub fn record_of(&self, number: u64) -> Option<Record>
         ensures { option_map ballot result ≡ ballot_of self.now.ballots number }
     {
-        records::with_number(
-            &self.election,
-            &self.records,
-            &self.cells,
-            &self.places,
-            number,
-        )
+        lookup::with_number(&self.election, &self.image, &self.cells, number)
     }
 
     /// The ballot whose number stands in a cell. `None` where the cell is empty.
-    pub fn record_in(&self, cell: usize) -> Option<&Record>
+    pub fn record_in(&self, cell: usize) -> Option<Record>
         requires { cell < cell_count self.now.election }
-        ensures { option_map (λ held. ballot held.now) result
+        ensures { option_map ballot result
             ≡ ballot_of self.now.ballots
             (slice_index (cells_of self.now.election self.now.ballots) cell) }
     {
-        records::in_cell(&self.records, &self.cells, &self.places, cell)
+        lookup::in_cell(&self.election, &self.image, &self.cells, cell)
+    }
+
+    /// Puts the ballots of cells from one on in place of these records, up to `end` or as far as there is room. It
+    /// answers how many it put, and the first cell that it did not look at.
+    pub fn put_records(&self, from: usize, end: usize, out: &mut [Record]) -> (usize, usize)
+        requires within { (from ≤ end) × (end ≤ cell_count self.now.election) }
+        ensures room { result.0 ≤ length out.new }
+        ensures onward { (from ≤ result.1) × (result.1 ≤ end) }
+        ensures progress { from < end → 0 < length out.new → from < result.1 }
+        ensures records { ballots_of (take result.0 out.new)
+            ≡ held_in self.now.ballots (take (result.1 - from)
+            (drop from (cells_of self.now.election self.now.ballots))) }
+    {
+        lookup::put_records(&self.election, &self.image, &self.cells, from, end, out)
     }
 
     /// Adds ballots whose numbers are new to the store. `cells` is the layout of all. After `Memory` it is as it was.
@@ -181,66 +203,46 @@ impl Closed {
         ensures unchanged { OnErr result (self.new ≡ self.old) }
         ensures stored { IsStored self.new }
     {
-        let places = places::renewed(
+        closing::close(
             alloc,
-            &self.election.order(),
-            &self.records,
+            &self.election,
             &ballots,
             &self.cells,
-            &self.places,
             &cells,
+            &mut self.image,
         )?;
-        records::append(&mut self.records, ballots)?;
+        let held = lookup::count(&cells);
         self.cells = cells;
-        self.places = places;
+        self.held = held;
         Ok(())
     }
 
-    /// The store without the ballots of these numbers. `cells` is the layout of the rest.
-    pub fn without(&self, alloc: Global, numbers: &[u64], cells: Vec<u64>) -> Result<Closed, Memory>
-        requires layout { cells.items
-            ≡ cells_of self.now.election (ballots_without self.now.ballots numbers.now) }
-        ensures { IfOk result
-            (λ store. store ≡ record {
-              election = self.now.election;
-              ballots = ballots_without self.now.ballots numbers.now;
+    /// Takes out the ballots of some numbers, those that do not stand in `cells`, the layout of the rest. After `Memory` it
+    /// is as it was.
+    pub fn without(&mut self, alloc: Global, cells: Vec<u64>) -> Result<(), Memory>
+        requires { (numbers : List ℕ)
+            × (cells.items ≡ cells_of self.old.election (ballots_without self.old.ballots numbers)) }
+        ensures election { self.new.election ≡ self.old.election }
+        ensures rest { (numbers : List ℕ)
+            → cells.items ≡ cells_of self.old.election (ballots_without self.old.ballots numbers)
+            → OnOk result (self.new ≡ record {
+              election = self.old.election;
+              ballots = ballots_without self.old.ballots numbers;
             }) }
+        ensures stored { IsStored self.new }
+        ensures unchanged { OnErr result (self.new ≡ self.old) }
     {
-        let election = self.election();
-        let order = election.order();
-        let records = records::without(alloc, &order, &self.records, numbers, &cells)?;
-        let places = places::of_all(alloc, &order, &records, &cells)?;
-        kept(alloc, election, records, cells, places)
+        closing::close(
+            alloc,
+            &self.election,
+            &[],
+            &self.cells,
+            &cells,
+            &mut self.image,
+        )?;
+        let held = lookup::count(&cells);
+        self.cells = cells;
+        self.held = held;
+        Ok(())
     }
-}
-
-/// The store of these records, whose cells and places are given.
-fn kept(
-    alloc: Global,
-    election: &Election,
-    records: Vec<Record>,
-    cells: Vec<u64>,
-    places: Vec<u16>,
-) -> Result<Closed, Memory>
-    requires election { IsElection election.now }
-    requires listing { IsListing election.now (ballots_of records.items) }
-    requires within_limit { IsWithinLimit election.now (ballots_of records.items) }
-    requires layout { cells.items ≡ cells_of election.now (ballots_of records.items) }
-    requires places { LeadTo (numbers_of (ballots_of records.items)) cells.items places.items }
-    ensures contents { IfOk result
-        (λ store. store ≡ record {
-          election = election.now;
-          ballots = by_number (ballots_of records.items);
-        }) }
-    ensures same { IfOk result
-        (λ store. IsPermutation (ballots_of records.items) store.ballots) }
-    ensures stored { IfOk result IsStored }
-{
-    let own = Box::new(alloc, *election)?;
-    Ok(Closed {
-        election: own,
-        records,
-        cells,
-        places,
-    })
 }

@@ -5,7 +5,7 @@ ghost use Rattle.std.specs.Prelude.{◌≡◌, ◌≢◌, ◌≤◌, All, AllPai
 ghost use Rattle.store_spec.specs.Ballot.{IsListing, IsWithinLimit, MARK_SETS};
 ghost use Rattle.store_spec.specs.Election.{example};
 
-use crate::{Closed, records};
+use crate::{Closed, lookup};
 use ballot_record::{Election, MAX_MARK_SETS, Record};
 use outside_io::Memory;
 use std::alloc::Global;
@@ -69,18 +69,8 @@ fn three_ballots(rt: HostRuntime) {
     let store = Closed::from_records(rt.alloc(), &election, three).expect(&rt, "memory");
     holds(&rt, store.cells(), &[(4, 9), (5, 14), (6, 1)]);
     is_found(&rt, rt.alloc(), &store, &[1, 9, 14]);
-    assert_eq!(rt; store.records().len(), 3);
     assert_eq!(rt; store.record_of(10), None);
     assert_eq!(rt; store.record_of(0), None);
-}
-
-#[test]
-fn in_the_order_of_their_cells(rt: HostRuntime) {
-    let election = Election::example();
-    let three = blanks(rt.alloc(), &[9, 14, 1]).expect(&rt, "memory");
-    let cells = records::layout(rt.alloc(), &election, &three).expect(&rt, "memory");
-    let store = Closed::from_cells(rt.alloc(), &election, three, cells).expect(&rt, "memory");
-    is_found(&rt, rt.alloc(), &store, &[1, 9, 14]);
 }
 
 #[test]
@@ -88,7 +78,7 @@ fn one_more(rt: HostRuntime) {
     let election = Election::example();
     let three = blanks(rt.alloc(), &[1, 9, 14]).expect(&rt, "memory");
     let four = blanks(rt.alloc(), &[1, 9, 14, 22]).expect(&rt, "memory");
-    let cells = records::layout(rt.alloc(), &election, &four).expect(&rt, "memory");
+    let cells = lookup::layout(rt.alloc(), &election, &four).expect(&rt, "memory");
     let mut store = Closed::from_records(rt.alloc(), &election, three).expect(&rt, "memory");
     let new = blanks(rt.alloc(), &[22]).expect(&rt, "memory");
     store.merge(rt.alloc(), new, cells).expect(&rt, "memory");
@@ -102,10 +92,10 @@ fn one_less(rt: HostRuntime) {
     let election = Election::example();
     let three = blanks(rt.alloc(), &[1, 9, 14]).expect(&rt, "memory");
     let two = blanks(rt.alloc(), &[1, 14]).expect(&rt, "memory");
-    let cells = records::layout(rt.alloc(), &election, &two).expect(&rt, "memory");
-    let store = Closed::from_records(rt.alloc(), &election, three).expect(&rt, "memory");
-    let rest = store.without(rt.alloc(), &[9], cells).expect(&rt, "memory");
-    assert_eq!(rt; rest.len(), 2);
-    holds(&rt, rest.cells(), &[(4, 1), (5, 14)]);
-    is_found(&rt, rt.alloc(), &rest, &[1, 14]);
+    let cells = lookup::layout(rt.alloc(), &election, &two).expect(&rt, "memory");
+    let mut store = Closed::from_records(rt.alloc(), &election, three).expect(&rt, "memory");
+    store.without(rt.alloc(), cells).expect(&rt, "memory");
+    assert_eq!(rt; store.len(), 2);
+    holds(&rt, store.cells(), &[(4, 1), (5, 14)]);
+    is_found(&rt, rt.alloc(), &store, &[1, 14]);
 }

@@ -14,7 +14,7 @@ use ballot_record::Election;
 use bank_medium::{Bank, gates, open_both_gates, settle, write_page};
 use body_store::Closed;
 use crash_disk::Disk;
-use image_builder::{PAGE_BYTES, Scratch};
+use image_builder::PAGE_BYTES;
 use outside_io::{Failed, Memory};
 use std::alloc::Global;
 
@@ -56,12 +56,7 @@ impl From<Memory> for InitFault {
 /// Makes an unused disk the medium of the empty set: both banks are written and settled before the gates are opened.
 /// Until the first sync has returned a crash leaves what it might have left before. From then on nothing was written
 /// yet, or it leaves what holds nothing or the empty set.
-pub fn init<D: Disk>(
-    alloc: Global,
-    disk: &mut D,
-    election: &Election,
-    scratch: &mut Scratch,
-) -> Result<(), InitFault>
+pub fn init<D: Disk>(alloc: Global, disk: &mut D, election: &Election) -> Result<(), InitFault>
     ensures medium { OnOk result (AsTold D.seen disk.old disk.new
         (λ _ bytes. IsMediumOf election.now bytes [])) }
     ensures settled { OnOk result (IsSettled D.seen D.calls D.may_leave disk.new) }
@@ -82,8 +77,7 @@ pub fn init<D: Disk>(
     settle(disk)?;
     look(disk, election)?;
     let closed = Closed::empty(alloc, election)?;
-    scratch.make(&closed);
-    write_banks(disk, election, &scratch.made)?;
+    write_banks(disk, election, closed.image())?;
     open_both_gates(disk, election)?;
     Ok(())
 }

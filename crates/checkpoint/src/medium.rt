@@ -16,8 +16,8 @@ use crash_disk::Disk;
 use image_builder::Scratch;
 use outside_io::Failed;
 
-/// Makes a medium that of a store: its image is made once, and bank B is renewed from it and then bank A. Only pages
-/// that differ are written. At each moment a crash leaves a medium that holds the old set or that of the store. After
+/// Makes a medium that of a store: bank B is renewed from the store's image, and then bank A. Only pages that differ
+/// are written. At each moment a crash leaves a medium that holds the old set or that of the store. After
 /// `Failed` it is to be recovered.
 pub fn checkpoint<D: Disk>(
     disk: &mut D,
@@ -39,8 +39,7 @@ pub fn checkpoint<D: Disk>(
     ensures fault { CountsFault result (D.faults disk.old) (D.faults disk.new) }
 {
     let election = closed.election();
-    scratch.make(closed);
-    let made = scratch.made.as_slice();
+    let made = closed.image();
     renew_bank(disk, election, Bank::B, made, &mut scratch.found)?;
     renew_bank(disk, election, Bank::A, made, &mut scratch.found)
 }

@@ -1,24 +1,22 @@
 -- One cell behind those that were read: the bytes so far, and the cell that is wrong.
 use Rattle.std.proofs.Common.{◌≡◌, ℕ, zero, suc, ◌+◌, ◌-◌, ◌*◌, ◌<◌, ◌≤◌, ⊎_elim, List, [], ◌∷◌, ◌++◌, length, take, drop, replicate, refl, sym, ap, subst, ◌∙◌, arith, append_assoc}
 use Rattle.std.proofs.lemmas.Bool.{cases_lt}
-use Rattle.std.proofs.lemmas.List.{append-nil, length-append, length-replicate, replicate-append-replicate, take_at, drop_at, take-append-drop}
+use Rattle.std.proofs.lemmas.List.{append-nil, length-append, length-replicate, replicate-append-replicate, take_at, drop_at}
 use Rattle.std.specs.List.{All}
-use Rattle.body_store.specs.Contents.{ballots_of}
-use Rattle.image_builder.proofs.Images.{length_pieces, length-cell_bytes}
+use Rattle.body_store.proofs.Images.{length_pieces, length-cell_bytes, one_cell_more}
 use Rattle.image_builder.proofs.Reaches.{reaches_empty, reaches_more}
-use Rattle.image_builder.proofs.Reading.{AreRead, one_cell_more}
+use Rattle.image_builder.proofs.Reading.{AreRead}
 use Rattle.image_builder.proofs.Steps.{ballot_read, empty_read}
 use Rattle.image_builder.proofs.Wrong.{first_wrong}
-use Rattle.image_builder.specs.Cells.{AreCells, AreKept, IsRefusedAt, bytes_in, front_of, kept_front, numbers_read}
+use Rattle.image_builder.specs.Cells.{AreCells, IsRefusedAt, bytes_in, front_of}
 use Rattle.image_builder.specs.Feeding.{Completes, IsRefusedPiece}
 use Rattle.image_builder.specs.Reaches.{AreReaches, IsReach}
 use Rattle.image_builder.specs.Reading.{IsRefusedBank}
-use Rattle.image_builder.specs.declared.cells.CellsRead.{CellsRead}
 use Rattle.image_builder.specs.declared.read.ImageFault.{ImageFault}
 use Rattle.image_builder.specs.declared.read.ImageFault.TheVariants.{OtherElection, Damaged, Memory}
 use Rattle.store_spec.specs.Ballot.{Ballot, IsValid}
 use Rattle.store_spec.specs.Damage.{BeginsAnImage, cell_at}
-use Rattle.store_spec.specs.Election.{Election, IsElection, bank_size, cell_count, cell_size, header_size}
+use Rattle.store_spec.specs.Election.{Election, IsElection, cell_count, cell_size, header_size}
 use Rattle.store_spec.specs.Home.{home_in}
 use Rattle.store_spec.specs.Image.{IsEmptyCell, ballot_bytes, cell_bytes, header_of}
 use Rattle.store_spec.specs.Layout.{MayStand}
@@ -103,7 +101,7 @@ ballot_next e numbers reaches ballots b from bytes election cells long valid is 
 
 -- ---- empty cells
 
-empties_next : (e : Election) (numbers reaches : List ℕ) (ballots : List Ballot) (bytes : List ℕ) (count : ℕ) → IsElection e → AreCells e numbers reaches ballots → bytes ≡ replicate (count * cell_size e) 0
+pub empties_next : (e : Election) (numbers reaches : List ℕ) (ballots : List Ballot) (bytes : List ℕ) (count : ℕ) → IsElection e → AreCells e numbers reaches ballots → bytes ≡ replicate (count * cell_size e) 0
     → AreNext e (front_of e numbers ballots) bytes (numbers ++ replicate count 0) reaches ballots
 empties_next e numbers reaches ballots bytes zero election cells zeros =
     let front = front_of e numbers ballots in
@@ -127,29 +125,6 @@ empties_next e numbers reaches ballots bytes (suc more) election cells zeros =
       fed = ap (λ ns. front_of e ns ballots) (sym same) ∙ next.fed ∙ ap (λ (xs : List ℕ). xs ++ rest) one.fed ∙ append_assoc front first rest ∙ ap (λ (xs : List ℕ). front ++ xs) (sym all);
     }
 
--- and their numbers are put behind those so far
-pub empties_put : (e : Election) (cells : CellsRead) (numbers bytes : List ℕ) (count : ℕ) → IsElection e → AreKept e cells → bytes ≡ replicate (count * cell_size e) 0 → numbers ≡ numbers_read cells ++ replicate count 0
-    → AreNext e (kept_front e cells) bytes numbers cells.reaches.items (ballots_of cells.records.items)
-empties_put e cells numbers bytes count election kept zeros put =
-    let reaches = cells.reaches.items in
-    let ballots = ballots_of cells.records.items in
-    subst (λ (ns : List ℕ). AreNext e (kept_front e cells) bytes ns reaches ballots) (sym put) (empties_next e (numbers_read cells) reaches ballots bytes count election kept zeros)
-
-pub empty_put : (e : Election) (cells : CellsRead) (numbers bytes : List ℕ) → IsElection e → AreKept e cells → IsEmptyCell e bytes → numbers ≡ numbers_read cells ++ 0 ∷ []
-    → AreNext e (kept_front e cells) bytes numbers cells.reaches.items (ballots_of cells.records.items)
-empty_put e cells numbers bytes election kept empty put =
-    let one : cell_size e ≡ 1 * cell_size e = omega arith in
-    empties_put e cells numbers bytes 1 election kept (empty ∙ ap (λ n. replicate n 0) one) put
-
--- more zeros behind zeros
-pub zeros_more : (bytes rest behind : List ℕ) (k : ℕ) → length rest ≤ length bytes → bytes ≡ replicate (length bytes - length rest) 0 ++ rest → rest ≡ replicate k 0 ++ behind
-    → bytes ≡ replicate (length bytes - length behind) 0 ++ behind
-zeros_more bytes rest behind k shorter zeros more =
-    let m = length bytes - length rest in
-    let long : m + k ≡ length bytes - length behind = omega (arith, ap length more, length-append (replicate {A = ℕ} k 0) behind, length-replicate {A = ℕ} k 0, shorter) in
-    zeros ∙ ap (λ (xs : List ℕ). replicate m 0 ++ xs) more ∙ sym (append_assoc (replicate m 0) (replicate k 0) behind)
-    ∙ ap (λ (xs : List ℕ). xs ++ behind) (replicate-append-replicate m k 0 ∙ ap (λ n. replicate n 0) long)
-
 -- ---- a wrong cell
 
 -- what every bank that goes on with these bytes is like
@@ -164,7 +139,7 @@ wrong_next e numbers reaches ballots bytes election cells long lt wrong =
     let place = length numbers in
     let size = length-front_of e numbers ballots election cells.valid in
     record {
-      completes = (omega (arith, size, length-append front bytes, long), omega (arith, size, length-append front bytes, long));
+      completes = (omega (arith, number_fits e, size, length-append front bytes, long), omega (arith, size, length-append front bytes, long));
       each_bank = λ rest.
           let bank = front ++ (bytes ++ rest) in
           let read = read_in_front e numbers reaches ballots (bytes ++ rest) election cells in
@@ -180,16 +155,6 @@ completes_more e before after first last (OtherElection header) low high complet
 completes_more e before after first last (Damaged cell) low high completes = (omega (arith, completes.0), omega (arith, completes.1))
 completes_more e before after first last Memory low high completes = tt
 
--- the same piece as a part of a longer one
-pub refused_within : (e : Election) (fed piece before whole after : List ℕ) (fault : ImageFault) → length before ≤ length fed → (fed ++ piece) ++ after ≡ before ++ whole
-    → IsRefusedPiece e fed piece fault → IsRefusedPiece e before whole fault
-refused_within e fed piece before whole after fault low same refused = record {
-  completes = completes_more e (length fed) (length (fed ++ piece)) (length before) (length (before ++ whole)) fault low
-      (omega (arith, ap length same, length-append (fed ++ piece) after)) refused.completes;
-  each_bank = λ rest.
-      subst (λ (bank : List ℕ). IsRefusedBank e bank fault) (sym (append_assoc (fed ++ piece) after rest) ∙ ap (λ bytes. bytes ++ rest) same) (refused.each_bank (after ++ rest));
-}
-
 -- the bytes at whose end it is refused
 pub refused_behind : (e : Election) (told before whole after : List ℕ) (fault : ImageFault) → length before < length told → told ++ after ≡ before ++ whole → IsRefusedAt e told fault → IsRefusedPiece e before whole fault
 refused_behind e told before whole after fault less same refused = record {
@@ -198,32 +163,3 @@ refused_behind e told before whole after fault less same refused = record {
   each_bank = λ rest.
       subst (λ (bank : List ℕ). IsRefusedBank e bank fault) (sym (append_assoc told after rest) ∙ ap (λ bytes. bytes ++ rest) same) (refused.each_bank (after ++ rest));
 }
-
--- where memory is wanting, the header was right
-pub refused_memory : (e : Election) (numbers : List ℕ) (ballots : List Ballot) (part bytes : List ℕ) → IsRefusedPiece e (front_of e numbers ballots ++ part) bytes Memory
-refused_memory e numbers ballots part bytes = record {
-  completes = tt;
-  each_bank = λ rest.
-      let front = front_of e numbers ballots in
-      ap (take header_size) (append_assoc (front ++ part) bytes rest ∙ append_assoc front part (bytes ++ rest)) ∙ header_in_front e numbers ballots (part ++ (bytes ++ rest));
-}
-
--- a list that is parted in two
-pub parted : (front rest first last : List ℕ) (n : ℕ) → first ≡ take n rest → last ≡ drop n rest → (front ++ first) ++ last ≡ front ++ rest
-parted front rest first last n is_first is_last =
-    append_assoc front first last ∙ ap (λ bytes. front ++ (bytes ++ last)) is_first ∙ ap (λ bytes. front ++ (take n rest ++ bytes)) is_last ∙ ap (λ bytes. front ++ bytes) (take-append-drop n rest)
-
--- there is room for a cell more
-pub room_next : (e : Election) (numbers : List ℕ) (ballots : List Ballot) (rest all : List ℕ) → IsElection e → All (IsValid e) ballots → front_of e numbers ballots ++ rest ≡ all → length all ≤ bank_size e → cell_size e ≤ length rest → length numbers < cell_count e
-room_next e numbers ballots rest all election valid same within long =
-    let size = length-front_of e numbers ballots election valid in
-    let some : 0 < cell_size e = omega (arith, number_fits e) in
-    fewer_cells (length numbers) (cell_count e) (cell_size e) (omega (arith, size, ap length same, length-append (front_of e numbers ballots) rest))
-
--- the same cells under other names
-pub next_as : (e : Election) (front bytes numbers numbers_now reaches reaches_now : List ℕ) (ballots ballots_now : List Ballot) → AreNext e front bytes numbers reaches ballots
-    → numbers_now ≡ numbers → reaches_now ≡ reaches → ballots_now ≡ ballots → AreNext e front bytes numbers_now reaches_now ballots_now
-next_as e front bytes numbers numbers_now reaches reaches_now ballots ballots_now next same_numbers same_reaches same_ballots =
-    subst (λ (ns : List ℕ). AreNext e front bytes ns reaches_now ballots_now) (sym same_numbers)
-    (subst (λ (rs : List ℕ). AreNext e front bytes numbers rs ballots_now) (sym same_reaches)
-    (subst (λ (bs : List Ballot). AreNext e front bytes numbers reaches bs) (sym same_ballots) next))

@@ -7,9 +7,8 @@ use Rattle.ballot_record.proofs.BallotNumbers.{length-numbers_of}
 use Rattle.ballot_record.proofs.CellCases.{each_or_one, empty_or_not, held_or_not}
 use Rattle.ballot_record.proofs.BallotSets.{in_order, in_order-IsPermutation, set_of_listing}
 use Rattle.body_store.proofs.BallotSets.{limit-IsPermutation}
-use Rattle.image_builder.proofs.Images.{length-cell_bytes}
-use Rattle.image_builder.proofs.Listings.{image_of-IsPermutation}
-use Rattle.image_builder.proofs.OneSet.{piece_at}
+use Rattle.body_store.proofs.Images.{length-cell_bytes, piece_at}
+use Rattle.body_store.proofs.Listings.{image_of-IsPermutation}
 use Rattle.image_builder.proofs.Reading.{AreRead, begins_fewer, begins_read, listing_read, number_in_cell}
 use Rattle.image_builder.proofs.Steps.{ballot_read, empty_read, known_read, nothing_read}
 use Rattle.image_builder.proofs.Wrong.{bad_bytes, misplaced, too_many, whole_bank}

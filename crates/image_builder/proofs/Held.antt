@@ -1,7 +1,7 @@
 -- Bytes hold one thing.
 use Rattle.std.proofs.Common.{◌≡◌, ℕ, List, Option, Some, None, refl, sym, ◌∙◌, ap, subst, length}
 use Rattle.body_store.proofs.BallotSets.{may_hold_set}
-use Rattle.image_builder.proofs.Images.{length-image_of}
+use Rattle.body_store.proofs.Images.{length-image_of}
 use Rattle.image_builder.proofs.MediumParts.{AreBoth, both_of, both_is}
 use Rattle.image_builder.proofs.OneSet.{one_set}
 use Rattle.store_spec.specs.Ballot.{Ballot, IsBallotSet, IsWithinLimit}

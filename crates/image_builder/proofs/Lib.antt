@@ -1,11 +1,8 @@
-pub mod Blocks
-pub mod Fed
 pub mod FirstCells
 pub mod FirstZeros
 pub mod FourTests
 pub mod Held
-pub mod Images
-pub mod Listings
+pub mod Judged
 pub mod MediumParts
 pub mod OneSet
 pub mod Reaches

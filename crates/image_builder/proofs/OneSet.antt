@@ -1,10 +1,10 @@
 -- An image is that of one set of ballots alone.
-use Rattle.std.proofs.Common.{◌≡◌, ℕ, suc, ◌*◌, ◌<◌, List, length, get_or, take, drop, refl, sym, ap, subst, ◌∙◌, arith}
-use Rattle.std.proofs.lemmas.List.{drop_at, take_at}
+use Rattle.std.proofs.Common.{◌≡◌, ◌*◌, ◌<◌, List, length, get_or, take, drop, refl, sym, ap, subst, ◌∙◌, arith}
+use Rattle.std.proofs.lemmas.List.{drop_at}
 use Rattle.std.proofs.lemmas.List.Elements.{All-contains}
 use Rattle.std.specs.List.{Contains, flat_map}
 use Rattle.body_store.proofs.BallotSets.{MayHold, may_hold_set}
-use Rattle.image_builder.proofs.Images.{cell_of_found, drop_pieces, length-cell_bytes}
+use Rattle.body_store.proofs.Images.{cell_of_found, length-cell_bytes, piece_at}
 use Rattle.ballot_record.proofs.BallotSets.{same_members}
 use Rattle.ballot_record.proofs.BallotNumbers.{ballot_with, contains_number}
 use Rattle.ballot_record.proofs.Lookups.{found_once}
@@ -27,9 +27,6 @@ same_cells e xs ys election set_x set_y same =
     (λ i lt. number_in_cell e xs (get_or (cells_of e xs) i 0) set_x.listing.valid (known_cell e xs i layout_x))
     (λ i lt. number_in_cell e ys (get_or (cells_of e ys) i 0) set_y.listing.valid (known_cell e ys i layout_y))
     same
-
-pub piece_at : (f : ℕ → List ℕ) (width : ℕ) (xs : List ℕ) (i : ℕ) → ((x : ℕ) → length (f x) ≡ width) → i < length xs → take width (drop (i * width) (flat_map f xs)) ≡ f (get_or xs i 0)
-piece_at f width xs i each lt = ap (take width) (drop_pieces f width xs i each lt) ∙ take_at (f (get_or xs i 0)) (flat_map f (drop (suc i) xs)) width (each (get_or xs i 0))
 
 -- a ballot of one set is in the other
 in_other : (e : Election) (xs ys : List Ballot) → IsElection e → MayHold e xs → MayHold e ys → flat_map (cell_bytes e xs) (cells_of e xs) ≡ flat_map (cell_bytes e ys) (cells_of e ys) → (b : Ballot) → Contains xs b → Contains ys b

@@ -2,20 +2,20 @@
 use Rattle.std.proofs.Common.{◌≡◌, ◌≢◌, ℕ, zero, suc, ◌+◌, ◌*◌, ◌^◌, ◌<◌, ◌≤◌, ⊎_elim, List, [], ◌∷◌, ◌++◌, length, get_or, take, drop, None, refl, sym, ap, subst, ◌∙◌, arith}
 use Rattle.std.proofs.lemmas.Bool.{cases_eq}
 use Rattle.std.proofs.Math.Seq.{take-add}
-use Rattle.std.proofs.lemmas.List.{append-nil, take_at, drop_at, drop-drop, take-take}
+use Rattle.std.proofs.lemmas.List.{append-nil, take_at, drop_at, take-take}
 use Rattle.std.proofs.lemmas.List.Concat.{flat_map-cons, flat_map-append}
 use Rattle.std.proofs.lemmas.List.Elements.{All-contains}
 use Rattle.std.specs.List.{All, AllPairs, Contains, flat_map}
 use Rattle.body_store.proofs.BallotSets.{MayHold, has_room, limit-IsPermutation}
 use Rattle.ballot_record.proofs.BallotSets.{in_order, in_order-IsPermutation, set_of_listing}
-use Rattle.image_builder.proofs.Listings.{image_of-IsPermutation}
-use Rattle.image_builder.proofs.Images.{length-cell_bytes, cell_of_found, cell_of_none}
+use Rattle.body_store.proofs.Listings.{image_of-IsPermutation}
+use Rattle.body_store.proofs.Images.{length-cell_bytes, cell_of_found, cell_of_none}
 use Rattle.ballot_record.proofs.Lookups.{option_cases, found_in, missing_from}
 use Rattle.ballot_record.proofs.BallotNumbers.{ballot_with, pairs_of_ballots}
 use Rattle.layout_def.proofs.Fronts.{distinct_in, front_is_layout}
 use Rattle.layout_def.proofs.LaidOut.{layout_of_is}
 use Rattle.store_spec.specs.Ballot.{Ballot, IsValid, ballot_of, numbers_of}
-use Rattle.store_spec.specs.Damage.{BeginsAnImage, cell_at, first_cells, number_at}
+use Rattle.store_spec.specs.Damage.{BeginsAnImage, first_cells, number_at}
 use Rattle.store_spec.specs.Election.{Election, IsElection, cell_count, cell_size, header_size}
 use Rattle.store_spec.specs.Home.{home_in}
 use Rattle.store_spec.specs.Image.{cell_bytes, cells_of, header_of, image_of}
@@ -83,13 +83,6 @@ same_numbers f g (x ∷ xs) (y ∷ ys) long wide first second same =
     ap (λ n. n ∷ xs) head ∙ ap (λ ns. y ∷ ns) rest
 
 -- ---- the first cells of a bank
-
-pub one_cell_more : (e : Election) (place : ℕ) (bank : List ℕ) → first_cells e (place + 1) bank ≡ first_cells e place bank ++ cell_at e place bank
-one_cell_more e place bank =
-    let size = cell_size e in
-    ap (λ k. take k (drop header_size bank)) (let same : (place + 1) * size ≡ place * size + size = omega arith in same)
-    ∙ take-add (place * size) size (drop header_size bank)
-    ∙ ap (λ bytes. first_cells e place bank ++ take size bytes) (drop-drop (place * size) header_size bank)
 
 pub front_of_image : (e : Election) (ballots : List Ballot) (n : ℕ) → IsElection e → All (IsValid e) ballots → n ≤ length (cells_of e ballots) → first_cells e n (image_of e ballots) ≡ flat_map (cell_bytes e ballots) (take n (cells_of e ballots))
 front_of_image e ballots n election valid le =

@@ -2,13 +2,13 @@
 use Rattle.std.proofs.Common.{◌≡◌, ◌≢◌, ◌==◌, not, ℕ, ◌+◌, ◌*◌, ◌<◌, ◌≤◌, ⊎_elim, List, [], ◌∷◌, ◌++◌, length, get_or, take, drop, replicate, Option, Some, None, refl, sym, ap, subst, ◌∙◌, arith}
 use Rattle.std.proofs.lemmas.Bool.{cases_lt, cond-true, cond-false, eq-eqb, ne_eqb}
 use Rattle.std.proofs.lemmas.List.{append-nil, length-append, map_push, get_or_append_left, get_or_push}
-use Rattle.std.proofs.lemmas.List.Elements.{All-contains, filter-append, All-push}
+use Rattle.std.proofs.lemmas.List.Elements.{filter-append, All-push}
 use Rattle.std.proofs.lemmas.List.Folds.{find-append}
-use Rattle.std.specs.List.{All, Contains, flat_map}
+use Rattle.std.specs.List.{Contains, flat_map}
 use Rattle.std.specs.Option.{option_map_or, option_or}
-use Rattle.image_builder.proofs.Images.{cell_of_found, cell_of_none}
+use Rattle.body_store.proofs.Images.{cell_of_found, cell_of_zero, one_cell_more}
 use Rattle.ballot_record.proofs.Lookups.{option_cases, found_in}
-use Rattle.image_builder.proofs.Reading.{AreRead, IsKnown, one_cell_more, piece_more, same_pieces}
+use Rattle.image_builder.proofs.Reading.{AreRead, IsKnown, piece_more, same_pieces}
 use Rattle.store_spec.specs.Home.{home_in}
 use Rattle.ballot_record.proofs.BallotNumbers.{contains_number}
 use Rattle.layout_def.proofs.Fronts.{holds_own}
@@ -99,16 +99,6 @@ nothing_read e bank = record {
   bytes = ap (λ k. take k (drop header_size bank)) (let none : 0 * cell_size e ≡ 0 = omega arith in none);
 }
 
-zero_cell : (e : Election) (ballots : List Ballot) → All (IsValid e) ballots → cell_bytes e ballots 0 ≡ replicate (cell_size e) 0
-zero_cell e ballots valid = ⊎_elim
-    (λ (none : ballot_of ballots 0 ≡ None). cell_of_none e ballots 0 none)
-    (λ some.
-    let found = found_in ballots 0 some.0 some.1 in
-    let own = All-contains (IsValid e) ballots some.0 valid found.0 in
-    let one = own.some_number in
-    absurd (omega (arith, found.1)))
-    (option_cases (ballot_of ballots 0))
-
 pub empty_read : (e : Election) (bank : List ℕ) (place : ℕ) (numbers : List ℕ) (ballots : List Ballot) → AreRead e bank place numbers ballots → cell_at e place bank ≡ replicate (cell_size e) 0 → AreRead e bank (place + 1) (numbers ++ 0 ∷ []) ballots
 empty_read e bank place numbers ballots read is = record {
   size = omega (arith, length-append numbers (0 ∷ []), read.size);
@@ -118,7 +108,7 @@ empty_read e bank place numbers ballots read is = record {
   few = read.few;
   bytes = one_cell_more e place bank
       ∙ ap (λ bytes. bytes ++ cell_at e place bank) read.bytes
-      ∙ ap (λ bytes. flat_map (cell_bytes e ballots) numbers ++ bytes) (is ∙ sym (zero_cell e ballots read.valid))
+      ∙ ap (λ bytes. flat_map (cell_bytes e ballots) numbers ++ bytes) (is ∙ sym (cell_of_zero e e ballots read.valid))
       ∙ sym (piece_more (cell_bytes e ballots) numbers 0);
 }
 

@@ -5,9 +5,9 @@ use Rattle.std.proofs.lemmas.List.{length-take, length-drop, take_more, get_or-t
 use Rattle.std.proofs.lemmas.List.Elements.{All-contains}
 use Rattle.std.specs.List.{flat_map}
 use Rattle.body_store.proofs.BallotSets.{MayHold, has_room, may_hold_set}
-use Rattle.image_builder.proofs.Images.{length_pieces, length-cell_bytes, cell_of_found, cell_of_none}
+use Rattle.body_store.proofs.Images.{length_pieces, length-cell_bytes, cell_of_found, cell_of_none, one_cell_more}
 use Rattle.ballot_record.proofs.Lookups.{option_cases, found_in}
-use Rattle.image_builder.proofs.Reading.{AreRead, IsKnown, begins_fewer, begins_read, front_of_image, front_read, layout_read, number_in_cell, one_cell_more, piece_more, same_numbers, listing_read, split_same}
+use Rattle.image_builder.proofs.Reading.{AreRead, IsKnown, begins_fewer, begins_read, front_of_image, front_read, layout_read, number_in_cell, piece_more, same_numbers, listing_read, split_same}
 use Rattle.store_spec.specs.Home.{home_in}
 use Rattle.image_builder.proofs.Steps.{known_read}
 use Rattle.layout_def.proofs.Ascending.{length-ascending}

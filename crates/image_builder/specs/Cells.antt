@@ -1,13 +1,13 @@
--- The first cells of a bank, as they are kept once they were read.
-use Rattle.std.specs.Prelude.{◌≡◌, ℕ, ◌-◌, ◌≤◌, List, ◌++◌, All, flat_map, length, vec_capacity}
-use Rattle.body_store.specs.Contents.{ballots_of}
+-- The first cells of a bank, as they are kept once they were judged.
+use Rattle.std.specs.Prelude.{◌≡◌, ℕ, ◌+◌, ◌-◌, ◌*◌, ◌<◌, ◌≤◌, List, [], ◌++◌, All, drop, flat_map, length, take, vec_capacity}
+use Rattle.body_store.specs.Held.{spelled_in}
 use Rattle.image_builder.specs.Feeding.{Completes}
 use Rattle.image_builder.specs.Reaches.{AreReaches}
 use Rattle.image_builder.specs.Reading.{IsRefusedBank}
 use Rattle.image_builder.specs.declared.cells.CellsRead.{CellsRead}
 use Rattle.image_builder.specs.declared.read.ImageFault.{ImageFault}
 use Rattle.store_spec.specs.Ballot.{Ballot, IsValid, IsWithinLimit, numbers_of}
-use Rattle.store_spec.specs.Election.{Election, cell_count}
+use Rattle.store_spec.specs.Election.{Election, cell_count, cell_size, header_size}
 use Rattle.store_spec.specs.Home.{home_in}
 use Rattle.store_spec.specs.Image.{cell_bytes, header_of}
 use Rattle.store_spec.specs.Layout.{IsOrdered, numbers_in}
@@ -20,19 +20,6 @@ pub record AreCells (e : Election) (numbers reaches : List ℕ) (ballots : List 
   pub few : IsWithinLimit e ballots
   pub reached : AreReaches numbers reaches
 
--- the number in each of the cells that were read
-abbrev pub numbers_read : CellsRead → List ℕ
-numbers_read cells = cells.numbers.items
-
-abbrev pub AreKept : Election → CellsRead → Type 0
-AreKept e cells = AreCells e (numbers_read cells) cells.reaches.items (ballots_of cells.records.items)
-
--- room for the number of each cell of a bank, and for as many records as a store may hold, each with its reach
-pub record HasSpace (e : Election) (cells : CellsRead) : Type 0 where
-  pub numbers : cell_count e ≤ vec_capacity cells.numbers
-  pub records : e.limit ≤ vec_capacity cells.records
-  pub reaches : e.limit ≤ vec_capacity cells.reaches
-
 -- the bytes of cells with these numbers
 abbrev pub bytes_in : Election → List ℕ → List Ballot → List ℕ
 bytes_in e numbers ballots = flat_map (cell_bytes e ballots) numbers
@@ -41,8 +28,41 @@ bytes_in e numbers ballots = flat_map (cell_bytes e ballots) numbers
 abbrev pub front_of : Election → List ℕ → List Ballot → List ℕ
 front_of e numbers ballots = header_of e ++ bytes_in e numbers ballots
 
-abbrev pub kept_front : Election → CellsRead → List ℕ
-kept_front e cells = front_of e (numbers_read cells) (ballots_of cells.records.items)
+-- where these first cells end
+abbrev pub end_of : Election → List ℕ → ℕ
+end_of e numbers = header_size + length numbers * cell_size e
+
+-- the ballots that a bank spells in its first cells, which have these numbers
+abbrev pub ballots_at : Election → List ℕ → List ℕ → List Ballot
+ballots_at e numbers bank = spelled_in e numbers (drop header_size bank)
+
+-- the bank has the election's header, and its first cells have these numbers and reaches
+pub record AreFirst (e : Election) (numbers reaches bank : List ℕ) : Type 0 where
+  pub cells : AreCells e numbers reaches (ballots_at e numbers bank)
+  pub bytes : take (end_of e numbers) bank ≡ front_of e numbers (ballots_at e numbers bank)
+  pub within : end_of e numbers ≤ length bank
+
+-- the number in each of the cells that were judged
+abbrev pub numbers_read : CellsRead → List ℕ
+numbers_read cells = cells.numbers.items
+
+abbrev pub IsRead : Election → CellsRead → List ℕ → Type 0
+IsRead e cells bank = AreFirst e (numbers_read cells) cells.reaches.items bank
+
+abbrev pub end_read : Election → CellsRead → ℕ
+end_read e cells = end_of e (numbers_read cells)
+
+-- room for the number of each cell of a bank, and for a reach for each ballot that a store may hold
+pub record HasSpace (e : Election) (cells : CellsRead) : Type 0 where
+  pub numbers : cell_count e ≤ vec_capacity cells.numbers
+  pub reaches : e.limit ≤ vec_capacity cells.reaches
+
+-- all that is whole in the first bytes of a bank was judged, and is right
+pub record AreJudged (e : Election) (cells : CellsRead) (bank : List ℕ) : Type 0 where
+  pub waits : length bank < header_size → (numbers_read cells ≡ []) × (cells.reaches.items ≡ [])
+  pub first : header_size ≤ length bank → IsRead e cells bank
+  pub short : header_size ≤ length bank → length bank < end_read e cells + cell_size e
+  pub wide : HasSpace e cells
 
 -- The last of these bytes makes whole what tells the fault, and every bank that begins with them is refused so.
 pub record IsRefusedAt (e : Election) (bytes : List ℕ) (fault : ImageFault) : Type 0 where

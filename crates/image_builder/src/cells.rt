@@ -1,228 +1,214 @@
-//! The cells of a bank, judged in their order as their bytes come.
+//! The cells of a bank, judged in their order where they stand.
 
-ghost use Rattle.body_store.specs.Contents.{ballots_of};
-ghost use Rattle.image_builder.specs.Cells.{AreKept, HasSpace, IsRefusedAt, kept_front, numbers_read};
-ghost use Rattle.image_builder.specs.Feeding.{IsRefusedPiece};
+ghost use Rattle.body_store.specs.Contents.{IsStored};
+ghost use Rattle.image_builder.specs.Cells.{AreJudged, HasSpace, IsRead, IsRefusedAt, end_read, numbers_read};
+ghost use Rattle.image_builder.specs.Feeding.{IsFront, IsRefusedPiece};
 ghost use Rattle.image_builder.specs.Reaches.{AreReaches, IsReach};
-ghost use Rattle.std.specs.Prelude.{◌≡◌, ◌+◌, ◌-◌, ◌<◌, ◌≤◌, ◌↔◌, ◌++◌, ◌∷◌, [], false, length, vec_capacity, vec_len, IfOk, IfErr, IfSome, IsSome, IsTrue, OnOk};
-ghost use Rattle.store_spec.specs.Election.{IsElection, bank_size, cell_count, cell_size};
+ghost use Rattle.std.specs.Prelude.{◌≡◌, ◌+◌, ◌-◌, ◌*◌, ◌<◌, ◌≤◌, ◌↔◌, ◌++◌, ◌∷◌, [], ℕ, List, false, drop, length, take, vec_capacity, vec_len, IfOk, IfErr, IfSome, IsSome, IsTrue, OnOk};
+ghost use Rattle.store_spec.specs.Election.{IsElection, bank_size, cell_count, cell_size, header_size};
 ghost use Rattle.store_spec.specs.Home.{home_in};
+ghost use Rattle.store_spec.specs.Image.{IsImageOf, header_of};
 ghost use Rattle.store_spec.specs.Layout.{MayStand};
 
-use crate::read::ImageFault;
+use crate::read::{ImageFault, check_header};
 use crate::zeros::is_empty;
-use ballot_record::{CellKind, Election, Record, take_cell_into};
+use ballot_record::{CellKind, Election, HEADER_BYTES, MAX_CONTESTS, Record, take_cell_into};
+use body_store::Closed;
+use outside_io::Memory;
 use probe_order::Order;
-use std::alloc::{AllocError, Global};
+use std::alloc::Global;
 
 /// How many empty cells are passed at once.
 const BLOCK: usize = 16;
 
-/// The cells that were read: the number in each, or 0 where it is empty, and the records in them.
+/// The cells that were judged: the number in each, or 0 where it is empty, and for each number how far back its cell
+/// reaches. The bytes stay with the caller.
 #[derive(Drop)]
 pub struct CellsRead {
     pub numbers: Vec<u64>,
-    pub records: Vec<Record>,
-    /// How far back the cell of each record reaches.
     pub reaches: Vec<u32>,
 }
 
-/// No cells, with room for those of a bank.
-pub fn no_cells(alloc: Global, election: &Election) -> Result<CellsRead, AllocError>
-    ensures numbers { IfOk result (λ cells. numbers_read cells ≡ []) }
-    ensures records { IfOk result (λ cells. cells.records.items ≡ []) }
-    ensures reaches { IfOk result (λ cells. cells.reaches.items ≡ []) }
-    ensures wide { IfOk result (HasSpace election.now) }
-{
-    Ok(CellsRead {
-        numbers: Vec::with_capacity(alloc, election.cells())?,
-        records: Vec::with_capacity(alloc, election.limit() as usize)?,
-        reaches: Vec::with_capacity(alloc, election.limit() as usize)?,
-    })
+impl CellsRead {
+    /// No cells, with room for those of a bank.
+    #[tactic(auto, using(ballot_record::proofs::CellFormat::header_width))]
+    pub fn new(alloc: Global, election: &Election) -> Result<CellsRead, Memory>
+        ensures judged { IfOk result (λ cells. AreJudged election.now cells []) }
+        ensures election { IsElection election.now }
+    {
+        prove!(election.contests() <= MAX_CONTESTS);
+        Ok(CellsRead {
+            numbers: Vec::with_capacity(alloc, election.cells())?,
+            reaches: Vec::with_capacity(alloc, election.limit() as usize)?,
+        })
+    }
+
+    /// Judges what is whole in the first bytes of a bank, behind what was judged before: the header, and cells. Where
+    /// something is wrong, what was judged is given up.
+    #[tactic(auto, using(ballot_record::proofs::CellFormat::header_width))]
+    pub fn judge(&mut self, bank: &[u8], election: &Election) -> Result<(), ImageFault>
+        requires judged { (fed more : List ℕ)
+            × AreJudged election.now self.old fed × (bank.now ≡ fed ++ more) }
+        requires within { length bank.now ≤ bank_size election.now }
+        requires election { IsElection election.now }
+        ensures judged { OnOk result (AreJudged election.now self.new bank.now) }
+        ensures front { OnOk result (IsFront election.now bank.now) }
+        ensures refused { (fed more : List ℕ)
+            → AreJudged election.now self.old fed → bank.now ≡ fed ++ more
+            → IfErr result (IsRefusedPiece election.now fed more) }
+    {
+        if bank.len() < HEADER_BYTES {
+            return Ok(());
+        }
+        if self.numbers.is_empty() {
+            check_header(bank, election)?;
+        }
+        read_whole_cells(self, bank, election)
+    }
+
+    /// The store whose image a bank is that was judged whole.
+    pub fn into_store(
+        self,
+        alloc: Global,
+        bank: Vec<u8>,
+        election: &Election,
+    ) -> Result<Closed, Memory>
+        requires judged { AreJudged election.now self bank.items }
+        requires whole { length bank.items ≡ bank_size election.now }
+        ensures image { IfOk result (λ store. IsImageOf election.now bank.items store.ballots) }
+        ensures election { IfOk result (λ store. store.election ≡ election.now) }
+        ensures stored { IfOk result IsStored }
+        ensures header { take header_size bank.items ≡ header_of election.now }
+    {
+        prove!(election.contests() <= MAX_CONTESTS);
+        Closed::from_image(alloc, election, bank, self.numbers)
+    }
 }
 
-/// Reads bytes of a bank behind some cells and the part of one more.
-pub fn read_cells(
+/// Reads each cell that is whole in the first bytes of a bank, behind those that were read.
+fn read_whole_cells(
     cells: &mut CellsRead,
-    part: &mut Vec<u8>,
-    bytes: &[u8],
+    bank: &[u8],
     election: &Election,
 ) -> Result<(), ImageFault>
     requires election { IsElection election.now }
-    requires kept { AreKept election.now cells.old }
+    requires read { IsRead election.now cells.old bank.now }
     requires wide { HasSpace election.now cells.old }
-    requires short { length part.old.items < cell_size election.now }
-    requires within { length (kept_front election.now cells.old ++ part.old.items ++ bytes.now)
-        ≤ bank_size election.now }
-    ensures kept { OnOk result (AreKept election.now cells.new) }
+    requires within { length bank.now ≤ bank_size election.now }
+    ensures read { OnOk result (IsRead election.now cells.new bank.now) }
+    ensures short { OnOk result
+        (length bank.now < end_read election.now cells.new + cell_size election.now) }
     ensures wide { OnOk result (HasSpace election.now cells.new) }
-    ensures short { OnOk result (length part.new.items < cell_size election.now) }
-    ensures fed { OnOk result (kept_front election.now cells.new ++ part.new.items
-        ≡ kept_front election.now cells.old ++ part.old.items ++ bytes.now) }
     ensures refused { IfErr result
-        (IsRefusedPiece election.now
-        (kept_front election.now cells.old ++ part.old.items) bytes.now) }
+        (IsRefusedPiece election.now (take (end_read election.now cells.old) bank.now)
+        (drop (end_read election.now cells.old) bank.now)) }
 {
     let size = election.cell_bytes();
-    let rest = fill(part, bytes, size)?;
-    if part.len() < size {
-        return Ok(());
+    let mut at = pass_empty(cells, bank, election);
+    while bank.len() - at >= size {
+        read_cell(cells, bank, at, election)?;
+        at += size;
     }
-    read_cell(cells, part, election)?;
-    let rest = read_whole_cells(cells, rest, election)?;
-    part.clear();
-    part.extend_from_slice(rest)?;
     Ok(())
 }
 
-/// Puts bytes behind the part of a cell until it is whole, and answers the bytes behind them.
-fn fill<'a>(part: &mut Vec<u8>, bytes: &'a [u8], size: usize) -> Result<&'a [u8], AllocError>
-    requires { length part.old.items ≤ size }
-    ensures joined { IfOk result
-        (λ rest. part.new.items ++ rest.now ≡ part.old.items ++ bytes.now) }
-    ensures within { OnOk result (length part.new.items ≤ size) }
-    ensures all { IfOk result (λ rest. length part.new.items < size → rest.now ≡ []) }
-{
-    let (front, rest) = bytes.split_at(bytes.len().min(size - part.len()));
-    part.extend_from_slice(front)?;
-    Ok(rest)
-}
-
-/// Reads each cell that is whole in these bytes, and answers the bytes behind them.
-fn read_whole_cells<'a>(
-    cells: &mut CellsRead,
-    bytes: &'a [u8],
-    election: &Election,
-) -> Result<&'a [u8], ImageFault>
+/// Passes blocks of empty cells that stand behind those that were read, and answers where the cells that were read end
+/// then. Where few ballots are kept, that is most of a page.
+#[tactic(auto, using(ballot_record::proofs::CellFormat::header_width, ballot_record::proofs::CellFormat::largest_cell_width))]
+fn pass_empty(cells: &mut CellsRead, bank: &[u8], election: &Election) -> usize
     requires election { IsElection election.now }
-    requires kept { AreKept election.now cells.old }
+    requires read { IsRead election.now cells.old bank.now }
     requires wide { HasSpace election.now cells.old }
-    requires within { length (kept_front election.now cells.old ++ bytes.now)
-        ≤ bank_size election.now }
-    ensures kept { OnOk result (AreKept election.now cells.new) }
-    ensures wide { OnOk result (HasSpace election.now cells.new) }
-    ensures short { IfOk result (λ rest. length rest.now < cell_size election.now) }
-    ensures fed { IfOk result (λ rest. kept_front election.now cells.new ++ rest.now
-        ≡ kept_front election.now cells.old ++ bytes.now) }
-    ensures refused { IfErr result
-        (IsRefusedPiece election.now (kept_front election.now cells.old) bytes.now) }
-{
-    let size = election.cell_bytes();
-    let mut rest = pass_empty(cells, bytes, election);
-    while rest.len() >= size {
-        let (cell, behind) = rest.split_at(size);
-        read_cell(cells, cell, election)?;
-        rest = behind;
-    }
-    Ok(rest)
-}
-
-/// Passes blocks of empty cells that stand first in these bytes, and answers the bytes behind them. Where few ballots are
-/// kept, that is most of a page.
-fn pass_empty<'a>(cells: &mut CellsRead, bytes: &'a [u8], election: &Election) -> &'a [u8]
-    requires election { IsElection election.now }
-    requires kept { AreKept election.now cells.old }
-    requires wide { HasSpace election.now cells.old }
-    requires within { length (kept_front election.now cells.old ++ bytes.now)
-        ≤ bank_size election.now }
-    ensures kept { AreKept election.now cells.new }
+    requires within { length bank.now ≤ bank_size election.now }
+    ensures read { IsRead election.now cells.new bank.now }
     ensures wide { HasSpace election.now cells.new }
-    ensures fed { kept_front election.now cells.new ++ result.now
-        ≡ kept_front election.now cells.old ++ bytes.now }
-    ensures shorter { length result.now ≤ length bytes.now }
+    ensures end { result ≡ end_read election.now cells.new }
+    ensures onward { end_read election.now cells.old ≤ result }
 {
-    let size = BLOCK * election.cell_bytes();
-    let mut rest = bytes;
-    while rest.len() >= size && is_empty(&rest[..size]) {
+    let cell = election.cell_bytes();
+    let size = BLOCK * cell;
+    let mut at = HEADER_BYTES + cells.numbers.len() * cell;
+    while bank.len() - at >= size && is_empty(&bank[at..at + size]) {
         let fits = cells.numbers.extend_from_slice(&[0; BLOCK]).is_ok();
         prove!(fits);
-        (_, rest) = rest.split_at(size);
+        at += size;
     }
-    rest
+    at
 }
 
-/// Reads one cell more. Most cells are empty, and judged with no call.
+/// Reads one cell more, which begins at this byte. Most cells are empty, and judged with no call.
 #[tactic(auto, using(ballot_record::proofs::CellFormat::number_fits))]
 #[inline(always)]
-fn read_cell(cells: &mut CellsRead, bytes: &[u8], election: &Election) -> Result<(), ImageFault>
+fn read_cell(
+    cells: &mut CellsRead,
+    bank: &[u8],
+    at: usize,
+    election: &Election,
+) -> Result<(), ImageFault>
     requires election { IsElection election.now }
-    requires size { length bytes.now ≡ cell_size election.now }
-    requires kept { AreKept election.now cells.old }
+    requires read { IsRead election.now cells.old bank.now }
     requires wide { HasSpace election.now cells.old }
-    requires room { length (numbers_read cells.old) < cell_count election.now }
-    ensures kept { OnOk result (AreKept election.now cells.new) }
+    requires at { at ≡ end_read election.now cells.old }
+    requires whole { at + cell_size election.now ≤ length bank.now }
+    requires within { length bank.now ≤ bank_size election.now }
+    ensures read { OnOk result (IsRead election.now cells.new bank.now) }
     ensures wide { OnOk result (HasSpace election.now cells.new) }
-    ensures fed { OnOk result
-        (kept_front election.now cells.new ≡ kept_front election.now cells.old ++ bytes.now) }
+    ensures end { OnOk result
+        (end_read election.now cells.new ≡ end_read election.now cells.old + cell_size election.now) }
     ensures refused { IfErr result
-        (IsRefusedAt election.now (kept_front election.now cells.old ++ bytes.now)) }
+        (IsRefusedAt election.now (take (at + cell_size election.now) bank.now)) }
 {
+    let bytes = &bank[at..at + election.cell_bytes()];
     if is_empty(bytes) {
         cells.numbers.push_reserved(0);
         return Ok(());
     }
     let place = cells.numbers.len();
-    if read_right_cell(cells, bytes, election) {
+    if read_right_cell(cells, bank, at, election) {
         Ok(())
     } else {
         Err(ImageFault::Damaged { cell: place as u32 })
     }
 }
 
-/// Reads one cell more where it is right, and answers whether it is.
+/// Reads one cell more, which begins at this byte, where it is right, and answers whether it is.
 #[inline(never)]
-fn read_right_cell(cells: &mut CellsRead, bytes: &[u8], election: &Election) -> bool
+fn read_right_cell(cells: &mut CellsRead, bank: &[u8], at: usize, election: &Election) -> bool
     requires election { IsElection election.now }
-    requires size { length bytes.now ≡ cell_size election.now }
-    requires kept { AreKept election.now cells.old }
+    requires read { IsRead election.now cells.old bank.now }
     requires wide { HasSpace election.now cells.old }
-    requires room { length (numbers_read cells.old) < cell_count election.now }
-    ensures kept { IsTrue result → AreKept election.now cells.new }
+    requires at { at ≡ end_read election.now cells.old }
+    requires whole { at + cell_size election.now ≤ length bank.now }
+    requires within { length bank.now ≤ bank_size election.now }
+    ensures read { IsTrue result → IsRead election.now cells.new bank.now }
     ensures wide { IsTrue result → HasSpace election.now cells.new }
-    ensures fed { IsTrue result
-        → kept_front election.now cells.new ≡ kept_front election.now cells.old ++ bytes.now }
+    ensures end { IsTrue result
+        → end_read election.now cells.new ≡ end_read election.now cells.old + cell_size election.now }
     ensures refused { (result ≡ false) → IsRefusedAt election.now
-        (kept_front election.now cells.old ++ bytes.now)
+        (take (at + cell_size election.now) bank.now)
         (ImageFault.Damaged (length (numbers_read cells.old))) }
 {
     let mut record = Record::blank();
+    let bytes = &bank[at..at + election.cell_bytes()];
     match take_cell_into(bytes, election, &mut record) {
         CellKind::Empty => {
             cells.numbers.push_reserved(0);
             true
         }
         CellKind::Held => {
-            if cells.records.len() >= election.limit() as usize {
+            if cells.reaches.len() >= election.limit() as usize {
                 return false;
             }
             let number = record.number;
             let Some(reach) = reach_of(election, &cells.numbers, &cells.reaches, number) else {
                 return false;
             };
-            put(cells, &record, reach);
+            cells.numbers.push_reserved(number);
+            cells.reaches.push_reserved(reach);
             true
         }
         CellKind::Bad => false,
     }
-}
-
-/// Puts a record and the reach of its cell behind those so far. There is a place for them.
-#[inline(always)]
-fn put(cells: &mut CellsRead, held: &Record, reach: u32)
-    requires numbers { vec_len cells.old.numbers < vec_capacity cells.old.numbers }
-    requires records { vec_len cells.old.records < vec_capacity cells.old.records }
-    requires reaches { vec_len cells.old.reaches < vec_capacity cells.old.reaches }
-    ensures numbers { cells.new.numbers.items
-        ≡ cells.old.numbers.items ++ held.now.number ∷ [] }
-    ensures records { cells.new.records.items ≡ cells.old.records.items ++ held.now ∷ [] }
-    ensures reaches { cells.new.reaches.items ≡ cells.old.reaches.items ++ reach ∷ [] }
-    ensures room_for_numbers { vec_capacity cells.new.numbers ≡ vec_capacity cells.old.numbers }
-    ensures room_for_records { vec_capacity cells.new.records ≡ vec_capacity cells.old.records }
-    ensures room_for_reaches { vec_capacity cells.new.reaches ≡ vec_capacity cells.old.reaches }
-{
-    cells.numbers.push_reserved(held.number);
-    cells.records.push_reserved(*held);
-    cells.reaches.push_reserved(reach);
 }
 
 /// How far back these cells hold greater numbers than one that is to stand in the cell after them. `None` where it may

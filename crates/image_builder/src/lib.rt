@@ -9,6 +9,7 @@ mod scratch;
 mod write;
 mod zeros;
 
+pub use cells::CellsRead;
 pub use read::ImageFault;
 pub use reader::{ImageReader, read_image};
 pub use scratch::{PAGE_BYTES, Scratch};

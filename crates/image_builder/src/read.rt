@@ -1,4 +1,5 @@
-//! Why bytes are not read as the image of a store, and the header of a bank.
+//! Why bytes are not read as the image of a store, and the test of a header.
+#![tactic(auto, using(ballot_record::proofs::CellFormat::header_width, std::proofs::lemmas::Grind::common_steps))]
 
 ghost use Rattle.std.specs.Prelude.{◌≡◌, ◌≢◌, ℕ, ◌+◌, ◌<◌, ◌≤◌, ◌++◌, List, [], length, take, IfOk, IfErr};
 ghost use Rattle.store_spec.specs.Election.{IsElection, header_size};
@@ -7,7 +8,6 @@ ghost use Rattle.store_spec.specs.Image.{header_of};
 use ballot_record::{Election, HEADER_BYTES, Header};
 use outside_io::Memory;
 use std::alloc::{AllocError, AllocFailed};
-use std::marker::Model;
 
 /// Why bytes were not read as the image of a store.
 #[derive(Clone, Copy, Debug, PartialEq, Eq)]
@@ -62,59 +62,12 @@ pub fn check_header(bytes: &[u8], election: &Election) -> Result<(), ImageFault>
         (λ fault. fault ≡ ImageFault.OtherElection (take header_size bytes.now)) }
     ensures valid { IsElection election.now }
 {
+    prove!(HEADER_BYTES <= bytes.len());
     let mut header = [0; HEADER_BYTES];
     header.copy_from_slice(&bytes[..HEADER_BYTES]);
     if header == Header::of(election).bytes {
         Ok(())
     } else {
         Err(ImageFault::OtherElection { header })
-    }
-}
-
-/// A header, or the first bytes of one.
-#[derive(Drop)]
-pub struct HeaderPart {
-    bytes: [u8; HEADER_BYTES],
-    count: usize,
-}
-
-impl Model for HeaderPart {
-    ghost Value = { List ℕ };
-
-    ghost view = { λ a. take a.count a.bytes };
-
-    ghost invariant = { λ a. a.count ≤ header_size };
-}
-
-impl HeaderPart {
-    /// No bytes.
-    pub fn new() -> HeaderPart
-        ensures { result ≡ [] }
-    {
-        HeaderPart {
-            bytes: [0; HEADER_BYTES],
-            count: 0,
-        }
-    }
-
-    /// The bytes so far.
-    pub fn bytes(&self) -> &[u8]
-        ensures bytes { result.now ≡ self.now }
-        ensures within { length result.now ≤ header_size }
-    {
-        &self.bytes[..self.count]
-    }
-
-    /// Takes the first of these bytes, until the header is whole, and answers the bytes behind them.
-    pub fn take<'a>(&mut self, bytes: &'a [u8]) -> &'a [u8]
-        ensures joined { self.new ++ result.now ≡ self.old ++ bytes.now }
-        ensures all { length self.new < header_size → result.now ≡ [] }
-    {
-        let room = HEADER_BYTES - self.count;
-        let (front, rest) = bytes.split_at(bytes.len().min(room));
-        let end = self.count + front.len();
-        self.bytes[self.count..end].copy_from_slice(front);
-        self.count = end;
-        rest
     }
 }

@@ -3,28 +3,26 @@
 ghost use Rattle.body_store.specs.Contents.{IsStored};
 ghost use Rattle.image_builder.specs.Feeding.{IsFront, IsRefusedPiece};
 ghost use Rattle.image_builder.specs.Reading.{IsRefusedBank};
-ghost use Rattle.std.specs.Prelude.{◌≡◌, ◌+◌, ◌≤◌, ◌++◌, List, [], length, take, IfOk, IfErr, MatchResult};
+ghost use Rattle.std.specs.Prelude.{◌≡◌, ◌≤◌, ◌++◌, List, [], length, take, IfOk, IfErr, MatchResult};
 ghost use Rattle.store_spec.specs.Ballot.{Ballot};
 ghost use Rattle.store_spec.specs.Election.{bank_size, header_size};
 ghost use Rattle.store_spec.specs.Image.{IsImageOf, header_of};
 
-use crate::cells::{CellsRead, no_cells, read_cells};
-use crate::read::{HeaderPart, ImageFault, check_header};
-use ballot_record::{Election, HEADER_BYTES, MAX_CONTESTS};
+use crate::cells::CellsRead;
+use crate::read::{ImageFault, check_header};
+use ballot_record::Election;
 use body_store::Closed;
 use outside_io::Memory;
 use std::alloc::Global;
 use std::marker::Model;
 
-/// A bank that is read as its bytes come, in pieces of any lengths. It keeps the records with a reach for each, a number
-/// for each cell, and of the bytes the part of a cell. The election has some thousand bytes, and a reader is moved at
-/// each piece, so the election stands beside it.
+/// A bank that is read as its bytes come, in pieces of any lengths. It keeps the bytes, and what was judged of them. The
+/// election has some thousand bytes, and a reader is moved at each piece, so the election stands beside it.
 #[derive(Drop)]
 pub struct ImageReader {
     election: Box<Election>,
-    header: HeaderPart,
+    image: Vec<u8>,
     cells: CellsRead,
-    part: Vec<u8>,
 }
 
 impl Model for ImageReader {
@@ -41,19 +39,18 @@ impl Model for ImageReader {
 
 impl ImageReader {
     /// A reader for a bank of this election, which was fed nothing.
-    #[tactic(auto, using(ballot_record::proofs::CellFormat::number_fits))]
     pub fn new(alloc: Global, election: &Election) -> Result<ImageReader, Memory>
         ensures { IfOk result (λ reader. reader ≡ record { election = election.now; fed = [] }) }
     {
         Ok(ImageReader {
             election: Box::new(alloc, *election)?,
-            header: HeaderPart::new(),
-            cells: no_cells(alloc, election)?,
-            part: Vec::new(alloc),
+            image: Vec::with_capacity(alloc, election.bank_bytes())?,
+            cells: CellsRead::new(alloc, election)?,
         })
     }
 
     /// Reads the next bytes of the bank. A refusal gives up the reader.
+    #[tactic(auto, using(ballot_record::proofs::CellFormat::header_width))]
     pub fn feed(self, bytes: &[u8], election: &Election) -> Result<ImageReader, ImageFault>
         requires own { election.now ≡ self.election }
         requires within { length (self.fed ++ bytes.now) ≤ bank_size election.now }
@@ -64,26 +61,16 @@ impl ImageReader {
     {
         let ImageReader {
             election: own,
-            mut header,
+            mut image,
             mut cells,
-            mut part,
         } = self;
-        let rest = header.take(bytes);
-        if header.bytes().len() < HEADER_BYTES {
-            return Ok(ImageReader {
-                election: own,
-                header,
-                cells,
-                part,
-            });
-        }
-        check_header(header.bytes(), election)?;
-        read_cells(&mut cells, &mut part, rest, election)?;
+        let fits = image.extend_from_slice(bytes).is_ok();
+        prove!(fits);
+        cells.judge(&image, election)?;
         Ok(ImageReader {
             election: own,
-            header,
+            image,
             cells,
-            part,
         })
     }
 
@@ -96,14 +83,8 @@ impl ImageReader {
         ensures stored { IfOk result IsStored }
         ensures header { take header_size self.fed ≡ header_of election.now }
     {
-        prove!(election.contests() <= MAX_CONTESTS);
-        let cells = self.cells;
-        let CellsRead {
-            numbers,
-            records,
-            ..
-        } = cells;
-        Closed::from_cells(alloc, election, records, numbers)
+        let ImageReader { image, cells, .. } = self;
+        cells.into_store(alloc, image, election)
     }
 }
 

@@ -1,5 +1,5 @@
 //! Media in memory, and the calls that make them.
-#![tactic(auto, unfolding(store_spec::specs::Election::cell_size))]
+#![tactic(auto, unfolding(store_spec::specs::Election::cell_size, store_spec::specs::Election::header_size))]
 
 ghost use Rattle.std.specs.Prelude.{◌≡◌, ◌<◌, length, IfOk};
 
@@ -87,15 +87,11 @@ fn init_on_no_bytes(rt: HostRuntime) -> Result<(), Fail> {
     let alloc = rt.alloc();
     let election = Election::example();
     let mut disk = MemoryDisk::new(alloc, Vec::new(alloc), Vec::new(alloc), ROOM)?;
-    let mut scratch = Scratch::new(alloc, &election)?;
-    assert_eq!(rt; init(alloc, &mut disk, &election, &mut scratch), Ok(()));
+    assert_eq!(rt; init(alloc, &mut disk, &election), Ok(()));
     assert!(rt; disk.bytes() == medium_of(&empty_bank()).as_slice());
     assert_eq!(rt; disk.calls(), 7);
     assert_calls(&rt, &disk, 0, &INIT_CALLS);
-    assert_eq!(rt;
-        init(alloc, &mut disk, &election, &mut scratch),
-        Err(InitFault::Exists)
-    );
+    assert_eq!(rt; init(alloc, &mut disk, &election), Err(InitFault::Exists));
     Ok(())
 }
 
@@ -110,8 +106,8 @@ fn assert_three(rt: &impl Abort, disk: &MemoryDisk, calls: u64) {
 fn checkpointed_twice(rt: &impl Abort, alloc: Global) -> Result<MemoryDisk, Fail> {
     let election = Election::example();
     let mut disk = MemoryDisk::new(alloc, Vec::new(alloc), Vec::new(alloc), ROOM)?;
-    let mut scratch = Scratch::new(alloc, &election)?;
-    init(alloc, &mut disk, &election, &mut scratch)?;
+    let mut scratch = Scratch::new(alloc)?;
+    init(alloc, &mut disk, &election)?;
     let closed = read_image(alloc, &three_ballots(), &election)?;
     checkpoint(&mut disk, &closed, &mut scratch)?;
     assert_three(rt, &disk, 21);
@@ -238,8 +234,8 @@ fn two_pages_of_a_large_store(rt: HostRuntime) -> Result<(), Fail> {
     let alloc = rt.alloc();
     let election = large_election(&rt);
     let mut disk = MemoryDisk::new(alloc, Vec::new(alloc), Vec::new(alloc), LARGE_ROOM)?;
-    let mut scratch = Scratch::new(alloc, &election)?;
-    init(alloc, &mut disk, &election, &mut scratch)?;
+    let mut scratch = Scratch::new(alloc)?;
+    init(alloc, &mut disk, &election)?;
     assert_eq!(rt; (disk.calls(), disk.bytes().len()), (823, 3_342_402));
     let closed = one_ballot(&rt, alloc, &election)?;
     checkpoint(&mut disk, &closed, &mut scratch)?;

@@ -89,7 +89,7 @@ fn assert_medium(
 /// How many ballots come back from a disk.
 fn recovered(alloc: Global, disk: &mut MemoryDisk) -> Result<usize, RecoverFault> {
     let election = Election::example();
-    let mut scratch = Scratch::new(alloc, &election)?;
+    let mut scratch = Scratch::new(alloc)?;
     let store = recover(alloc, disk, &election, &mut scratch)?;
     Ok(store.len())
 }

@@ -28,8 +28,8 @@ fn handle<R: Threads + Sync, D: Disk, K: Sink>(
     report: &mut Report,
 ) -> Result<(), Fail> {
     let election = Election::example();
-    let mut scratch = Scratch::new(alloc, &election)?;
-    init(alloc, disk, &election, &mut scratch)?;
+    let mut scratch = Scratch::new(alloc)?;
+    init(alloc, disk, &election)?;
     let closed = Closed::empty(alloc, &election)?;
     let mut session = Session::telling(alloc, closed, telling);
     'lines: for (at, line) in lines.iter().enumerate() {

@@ -2,10 +2,9 @@
 
 ghost use Rattle.body_store.specs.Contents.{IsStored};
 ghost use Rattle.phase_delete.specs.Closing.{ClosesAs};
-ghost use Rattle.phase_delete.specs.Ends.{TellsOf, all_withdrawn, seat_of};
-ghost use Rattle.phase_delete.specs.Tray.{withdrawn_of};
+ghost use Rattle.phase_delete.specs.Ends.{TellsOf, seat_of};
 ghost use Rattle.phase_delete.specs.Withdrawer.{AreAll, new_withdrawer, seated_at};
-ghost use Rattle.std.specs.Prelude.{◌≡◌, ◌≤◌, ◌++◌, All, IfOk, length, map, zip};
+ghost use Rattle.std.specs.Prelude.{◌≡◌, ◌≤◌, All, IfOk, OnErr, OnOk, length, map, zip};
 ghost use Rattle.store_spec.specs.WithdrawStep.{fresh_view};
 ghost use Rattle.word_rule.specs.Stores.{AreWordsOf};
 
@@ -59,28 +58,29 @@ fn seated(
     Ok(tabs)
 }
 
-/// What becomes of a phase: the store without what was removed, and the reply to each number.
+/// What becomes of a phase: the store loses what was removed, and each number has a reply. After `Memory` the store holds
+/// what it held.
 pub fn after_phase(
     alloc: Global,
-    closed: &Closed,
+    closed: &mut Closed,
     words: WithdrawWords,
     tabs: Vec<Withdrawer>,
-) -> Result<(Closed, Vec<Vec<WithdrawReply>>), Memory>
-    requires stored { IsStored closed.now }
-    requires all { AreAll (record { base = closed.now; words = words }) tabs.items }
-    requires words { AreWordsOf closed.now.election closed.now.ballots words }
-    ensures election { IfOk result (λ ended. ended.0.election ≡ closed.now.election) }
-    ensures stored { IfOk result (λ ended. IsStored ended.0) }
+) -> Result<Vec<Vec<WithdrawReply>>, Memory>
+    requires stored { IsStored closed.old }
+    requires all { AreAll (record { base = closed.old; words = words }) tabs.items }
+    requires words { AreWordsOf closed.old.election closed.old.ballots words }
+    ensures election { OnOk result (closed.new.election ≡ closed.old.election) }
+    ensures stored { OnOk result (IsStored closed.new) }
     ensures closes { IfOk result
-        (λ ended. ClosesAs closed.now (map (λ tab. tab.tray) tabs.items)
-        (map (λ replies. replies.items) ended.1.items) ended.0.ballots) }
+        (λ replies. ClosesAs closed.old (map (λ tab. tab.tray) tabs.items)
+        (map (λ list. list.items) replies.items) closed.new.ballots) }
+    ensures unchanged { OnErr result (closed.new ≡ closed.old) }
 {
     let (seats, trays) = taken_apart(alloc, tabs)?;
-    let withdrawn = withdrawn(alloc, &trays)?;
     let cells = words.close(alloc, seats)?;
-    let after = closed.without(alloc, &withdrawn, cells)?;
     let replies = all_replies(alloc, &trays)?;
-    Ok((after, replies))
+    closed.without(alloc, cells)?;
+    Ok(replies)
 }
 
 /// The seats of withdrawers, and their trays.
@@ -101,31 +101,6 @@ fn taken_apart(
         trays.push(tray)?;
     }
     Ok((seats, trays))
-}
-
-/// The numbers that were withdrawn, tray by tray.
-fn withdrawn(alloc: Global, trays: &[Vec<Withdrawal>]) -> Result<Vec<u64>, Memory>
-    ensures { IfOk result
-        (λ withdrawn. withdrawn.items ≡ all_withdrawn (map (λ tray. tray.items) trays.now)) }
-{
-    let mut withdrawn = Vec::new(alloc);
-    for tray in trays {
-        push_withdrawn(&mut withdrawn, tray)?;
-    }
-    Ok(withdrawn)
-}
-
-/// Appends the numbers of a tray that were withdrawn.
-fn push_withdrawn(withdrawn: &mut Vec<u64>, tray: &[Withdrawal]) -> Result<(), Memory>
-    ensures { IfOk result
-        (λ _. withdrawn.new.items ≡ withdrawn.old.items ++ withdrawn_of tray.now) }
-{
-    for withdrawal in tray {
-        if withdrawal.reply == WithdrawReply::Withdrawn {
-            withdrawn.push(withdrawal.number)?;
-        }
-    }
-    Ok(())
 }
 
 /// The replies to the numbers of all trays.

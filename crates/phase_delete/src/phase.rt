@@ -124,12 +124,12 @@ impl WithdrawPhase {
         ensures given_back { IfErr result (λ refused. refused.0 ≡ self.base) }
     {
         let Self {
-            closed,
+            mut closed,
             shape: _,
             words,
         } = self;
-        match after_phase(alloc, &closed, words, tabs) {
-            Ok(ended) => Ok(ended),
+        match after_phase(alloc, &mut closed, words, tabs) {
+            Ok(replies) => Ok((closed, replies)),
             Err(memory) => Err((closed, memory)),
         }
     }

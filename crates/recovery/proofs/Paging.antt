@@ -4,7 +4,6 @@ use Rattle.std.proofs.Math.Seq.{take-add}
 use Rattle.std.proofs.lemmas.List.{length-append, length-drop, length-take, take-append-drop, take_all}
 use Rattle.std.specs.Prelude.{slice_range, IfSome}
 use Rattle.body_store.specs.Contents.{Contents, IsStored}
-use Rattle.image_builder.proofs.Held.{image_fits}
 use Rattle.image_builder.specs.Feeding.{Feeding, IsRefusedPiece}
 use Rattle.image_builder.specs.Reading.{IsRefusedBank}
 use Rattle.image_builder.specs.declared.read.ImageFault.{ImageFault}
@@ -16,7 +15,7 @@ use Rattle.recovery.specs.Faults.{recover_fault}
 use Rattle.recovery.specs.Refused.{IsRefusedMedium}
 use Rattle.store_spec.specs.Ballot.{Ballot}
 use Rattle.store_spec.specs.Election.{Election, IsElection, bank_size, medium_size}
-use Rattle.store_spec.specs.Image.{IsImageOf, image_of}
+use Rattle.store_spec.specs.Image.{IsImageOf}
 use Rattle.store_spec.specs.Medium.{Bank, bank_of}
 use Rattle.store_spec.specs.Medium.Bank.{A, B}
 
@@ -76,12 +75,16 @@ refused_told e bank (Some bytes) now at k reader page why same before from here 
     refused_medium e bytes bank why (from bytes refl) (refused_page e (bank_of e bank bytes) reader.fed page at k why before.fed page_there refused)
 
 -- the whole bank
-pub read_told : (e : Election) (bank : Bank) (first : Option (List ℕ)) (at : ℕ) (reader : Feeding) (set : List Ballot) → bank_size e ≤ at → IsFedFrom e bank first at reader
-    → ((x : List ℕ) → first ≡ Some x → IsReadFrom e x bank) → IsImageOf e reader.fed set → IfSome first (λ bytes. IsReadAs e bytes bank set)
-read_told e bank None at reader set far before from image = tt
-read_told e bank (Some bytes) at reader set far before from image =
-    let whole = pages_all e bank bytes reader.fed at (from bytes refl).size far before.fed in
-    record { from = from bytes refl; image = subst (λ (xs : List ℕ). IsImageOf e xs set) whole image }
+pub all_told : (e : Election) (bank : Bank) (first : Option (List ℕ)) (at : ℕ) (made : List ℕ) → bank_size e ≤ at → length made ≡ bank_size e → IsFedFrom e bank first at (record { election = e; fed = take at made })
+    → ((x : List ℕ) → first ≡ Some x → IsReadFrom e x bank) → IfSome first (λ bytes. made ≡ bank_of e bank bytes)
+all_told e bank None at made far whole fed from = tt
+all_told e bank (Some bytes) at made far whole fed from = sym (take_all at made (omega (arith, whole, far))) ∙ pages_all e bank bytes (take at made) at (from bytes refl).size far fed.fed
+
+pub read_told : (e : Election) (bank : Bank) (first : Option (List ℕ)) (made : List ℕ) (set : List Ballot) → IfSome first (λ bytes. made ≡ bank_of e bank bytes)
+    → ((x : List ℕ) → first ≡ Some x → IsReadFrom e x bank) → IsImageOf e made set → IfSome first (λ bytes. IsReadAs e bytes bank set)
+read_told e bank None made set read from image = tt
+read_told e bank (Some bytes) made set read from image =
+    record { from = from bytes refl; image = subst (λ (xs : List ℕ). IsImageOf e xs set) read image }
 
 -- ---- pages of two banks
 

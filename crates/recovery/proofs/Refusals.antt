@@ -1,7 +1,7 @@
 -- Bytes are refused for one reason, and then they hold nothing.
 use Rattle.std.proofs.Common.{◌≡◌, ℕ, List, length, refl, sym, ◌∙◌, ap, subst, ⊎_elim}
 use Rattle.std.specs.Prelude.{◌≢◌}
-use Rattle.image_builder.proofs.Fed.{only_memory}
+use Rattle.image_builder.proofs.Judged.{only_memory}
 use Rattle.image_builder.proofs.FourTests.{one_wrong}
 use Rattle.image_builder.proofs.Held.{one_bank}
 use Rattle.image_builder.specs.Reading.{IsRefusedBank}

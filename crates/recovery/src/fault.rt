@@ -1,5 +1,6 @@
 //! Why no store comes back from a medium.
 
+use ballot_record::HEADER_BYTES;
 use image_builder::ImageFault;
 use outside_io::{Failed, Memory};
 
@@ -9,7 +10,7 @@ pub enum RecoverFault {
     /// The disk has not as many bytes as a medium, or neither gate is open.
     NoStore,
     /// The header of the bank that is read is not that of this election, but this.
-    OtherElection { header: [u8; 32] },
+    OtherElection { header: [u8; HEADER_BYTES] },
     /// The header is this election's, and this cell, counted from 0, is the first wrong one of the bank that is read.
     Damaged { cell: u32 },
     /// The disk failed.

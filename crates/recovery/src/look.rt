@@ -1,26 +1,26 @@
 //! What a medium is found to hold. Nothing is written here.
 
-ghost use Rattle.std.specs.Prelude.{◌≡◌, ◌↔◌, ◌+◌, ◌<◌, ◌≤◌, ◌++◌, ℕ, List, length, slice_range, IsErrOf, IsTrue, IfErr, IfOk, IfSome};
+ghost use Rattle.std.specs.Prelude.{◌≡◌, ◌↔◌, ◌+◌, ◌<◌, ◌≤◌, ◌++◌, ℕ, List, length, slice_range, IsErrOf, IsTrue, IfErr, IfOk, IfSome, OnOk, []};
 ghost use Rattle.std.specs.Option.{ForSome};
 ghost use Rattle.bank_medium.specs.Banks.{bank_named, bytes_of, HasMediumSize};
 ghost use Rattle.body_store.specs.Contents.{IsStored};
+ghost use Rattle.image_builder.specs.Cells.{AreJudged};
 ghost use Rattle.image_builder.specs.Page.{page_size};
 ghost use Rattle.recovery.specs.Canonical.{IsChoice, IsReadAs, IsReadFrom};
 ghost use Rattle.recovery.specs.Differing.{IsFirstDifference};
 ghost use Rattle.recovery.specs.ReadsOnly.{WritesNothing};
 ghost use Rattle.recovery.specs.Refused.{IsRefusedMedium};
 ghost use Rattle.store_spec.specs.Disk.{KeepsCrashImages};
-ghost use Rattle.store_spec.specs.Election.{bank_size};
+ghost use Rattle.store_spec.specs.Election.{IsElection, bank_size};
 ghost use Rattle.store_spec.specs.Fault.{CountsFault, CountsFaultIf};
-ghost use Rattle.store_spec.specs.Image.{IsImageOf};
 
 use crate::fault::RecoverFault;
 use ballot_record::Election;
 use bank_medium::{Bank, gates, read_page};
-use body_store::Closed;
+use body_store::{Closed, lengthen};
 use crash_disk::Disk;
-use image_builder::{ImageReader, PAGE_BYTES};
-use outside_io::Failed;
+use image_builder::{CellsRead, PAGE_BYTES};
+use outside_io::{Failed, Memory};
 use std::alloc::Global;
 
 /// The bank that is read, and whether the gate of the other one is open.
@@ -43,20 +43,18 @@ pub fn choose<D: Disk>(disk: &mut D, election: &Election) -> Result<(Bank, bool)
     }
 }
 
-/// The store whose image the bank that is read is. Its bytes are kept.
+/// The store whose image the bank that is read is. Each page is judged where it stands, in the bytes that become the
+/// store's.
 pub fn read_bank<D: Disk>(
     alloc: Global,
     disk: &mut D,
     election: &Election,
     bank: Bank,
-    made: &mut [u8],
 ) -> Result<Closed, RecoverFault>
-    requires whole { length made.old ≡ bank_size election.now }
     requires from { ForSome (D.seen disk.old)
         (λ bytes. IsReadFrom election.now bytes (bank_named bank)) }
     ensures read { IfOk result (λ store. IfSome (D.seen disk.old)
         (λ bytes. IsReadAs election.now bytes (bank_named bank) store.ballots)) }
-    ensures image { IfOk result (λ store. IsImageOf election.now made.new store.ballots) }
     ensures election { IfOk result (λ store. store.election ≡ election.now) }
     ensures stored { IfOk result IsStored }
     ensures refused { IfErr result
@@ -65,17 +63,53 @@ pub fn read_bank<D: Disk>(
     ensures fault { CountsFaultIf (IsErrOf result RecoverFault.DiskFault)
         (D.faults disk.old) (D.faults disk.new) }
 {
+    let mut cells = CellsRead::new(alloc, election)?;
+    let mut made = zeros(alloc, election)?;
+    read_pages(disk, election, bank, &mut cells, &mut made)?;
+    Ok(cells.into_store(alloc, made, election)?)
+}
+
+/// Reads a bank page after page into these bytes, and judges each page where it stands.
+fn read_pages<D: Disk>(
+    disk: &mut D,
+    election: &Election,
+    bank: Bank,
+    cells: &mut CellsRead,
+    made: &mut [u8],
+) -> Result<(), RecoverFault>
+    requires election { IsElection election.now }
+    requires none { AreJudged election.now cells.old [] }
+    requires whole { length made.old ≡ bank_size election.now }
+    requires from { ForSome (D.seen disk.old)
+        (λ bytes. IsReadFrom election.now bytes (bank_named bank)) }
+    ensures judged { OnOk result (AreJudged election.now cells.new made.new) }
+    ensures read { OnOk result (IfSome (D.seen disk.old)
+        (λ bytes. made.new ≡ bytes_of election.now bank bytes)) }
+    ensures refused { IfErr result
+        (λ fault. IfSome (D.seen disk.old) (λ bytes. IsRefusedMedium election.now bytes fault)) }
+    ensures reads { WritesNothing D.seen D.calls D.may_leave disk.old disk.new }
+    ensures fault { CountsFaultIf (IsErrOf result RecoverFault.DiskFault)
+        (D.faults disk.old) (D.faults disk.new) }
+{
     let end = made.len();
-    let mut reader = ImageReader::new(alloc, election)?;
     let mut at = 0;
     while at < end {
         let count = PAGE_BYTES.min(end - at);
-        let page = &mut made[at..at + count];
-        read_page(disk, election, bank, at, page)?;
-        reader = reader.feed(page, election)?;
+        read_page(disk, election, bank, at, &mut made[at..at + count])?;
+        cells.judge(&made[..at + count], election)?;
         at += count;
     }
-    Ok(reader.finish(alloc, election)?)
+    Ok(())
+}
+
+/// As many zeros as a bank has bytes.
+fn zeros(alloc: Global, election: &Election) -> Result<Vec<u8>, Memory>
+    ensures { IfOk result (λ bytes. length bytes.items ≡ bank_size election.now) }
+{
+    let size = election.bank_bytes();
+    let mut bytes = Vec::with_capacity(alloc, size)?;
+    lengthen(&mut bytes, size)?;
+    Ok(bytes)
 }
 
 /// The first of these bytes, counted from 0, that a bank has not. It reads up to the page where that byte stands.

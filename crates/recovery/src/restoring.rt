@@ -104,14 +104,13 @@ fn restore<D: Disk>(
         (D.faults disk.old) (D.faults disk.new) }
 {
     let (bank, open_too) = choose(disk, election)?;
-    scratch.fit(election);
-    let closed = read_bank(alloc, disk, election, bank, &mut scratch.made)?;
+    let closed = read_bank(alloc, disk, election, bank)?;
     make_canonical(
         disk,
         election,
         bank,
         open_too,
-        &scratch.made,
+        closed.image(),
         &mut scratch.found,
     )?;
     Ok(closed)

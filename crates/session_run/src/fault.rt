@@ -1,5 +1,6 @@
 //! Why a session did not come to the end of its script.
 
+use ballot_record::HEADER_BYTES;
 use outside_io::{LineEndFault, Memory};
 use phase_gate::SessionFault;
 use recovery::RecoverFault;
@@ -10,7 +11,7 @@ pub enum RunFault {
     /// The disk has not as many bytes as a medium, or neither gate is open.
     NoStore,
     /// The header of the bank that is read is not that of this election, but this.
-    OtherElection { header: [u8; 32] },
+    OtherElection { header: [u8; HEADER_BYTES] },
     /// The header is this election's, and this cell, counted from 0, is the first wrong one of the bank that is read.
     Damaged { cell: u32 },
     /// The script gave more than 67,108,864 bytes.

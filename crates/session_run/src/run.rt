@@ -39,7 +39,7 @@ pub fn run_session<R: Threads + Sync, S: Source, K: Sink, D: Disk, T: Turns>(
         (around (output K.taken K.faults out.old) disk.old report.old)
         (around (output K.taken K.faults out.new) disk.new report.new) }
 {
-    let mut scratch = Scratch::new(alloc, election)?;
+    let mut scratch = Scratch::new(alloc)?;
     let mut lines = Lines::new(alloc)?;
     let closed = recover(alloc, disk, election, &mut scratch)?;
     report.held = closed.len() as u32;

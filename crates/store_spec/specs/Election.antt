@@ -107,7 +107,7 @@ front_size = 9
 unfoldable pub cell_size : Election → ℕ
 cell_size e = front_size + set_width e * length e.contests
 
-abbrev pub header_size : ℕ
+unfoldable pub header_size : ℕ
 header_size = 32
 
 -- a header and the cells

@@ -17,13 +17,13 @@ pub fn example_homes()
 {}
 
 /// The sizes of the example election's store.
-#[tactic(auto, unfolding(crate::specs::Election::cell_size))]
+#[tactic(auto, unfolding(crate::specs::Election::cell_size, crate::specs::Election::header_size))]
 pub fn example_sizes()
     ensures { ExampleSizes }
 {}
 
 /// Where the parts of the example election's medium stand.
-#[tactic(auto, unfolding(crate::specs::Election::cell_size))]
+#[tactic(auto, unfolding(crate::specs::Election::cell_size, crate::specs::Election::header_size))]
 pub fn example_places()
     ensures { ExamplePlaces }
 {}

@@ -1,19 +1,16 @@
 -- The tally of two lists of ballots, one after the other.
-use Rattle.std.proofs.Common.{◌≡◌, ℕ, ◌+◌, ◌-◌, ◌*◌, ◌^◌, ◌≤◌, Bool, false, true, cond, List, [], ◌∷◌, ◌++◌, drop, length, take, sym, subst, ap, ◌∙◌, arith}
-use Rattle.std.proofs.lemmas.List.{drop-map, take-map}
-use Rattle.std.proofs.lemmas.List.Elements.{All-drop, All-take, filter-append}
+use Rattle.std.proofs.Common.{◌≡◌, ℕ, ◌+◌, ◌-◌, ◌*◌, ◌^◌, ◌≤◌, Bool, false, true, cond, List, [], ◌∷◌, ◌++◌, length, ap, ◌∙◌, arith}
+use Rattle.std.proofs.lemmas.List.Elements.{filter-append}
 use Rattle.std.proofs.lemmas.List.Sums.{sum_by-append, sum_by-cons}
 use Rattle.std.specs.Int.{bit_at}
-use Rattle.std.specs.List.{All, filter, sum_by}
+use Rattle.std.specs.List.{filter, sum_by}
 use Rattle.std.specs.Prelude.{count_ones}
-use Rattle.ballot_record.specs.Record.{ballot}
-use Rattle.ballot_record.specs.declared.record.Record.{Record}
-use Rattle.body_store.specs.Contents.{ballots_of}
-use Rattle.store_spec.specs.Ballot.{Ballot, IsValid}
+use Rattle.store_spec.specs.Ballot.{Ballot}
 use Rattle.store_spec.specs.Election.{Election, IsElection, is_on_style}
-use Rattle.store_spec.specs.Report.{allowed_of, is_overvote, marked_in}
+use Rattle.store_spec.specs.Report.{allowed_of, is_overvote, marked_in, overvotes, undervotes, votes}
 use Rattle.tally_export.proofs.Counting.{allowed_few, bit_few, one_few}
-use Rattle.tally_export.specs.Counted.{AddsUp, IsTallyOf, IsUpTo}
+use Rattle.tally_export.specs.Counted.{AddsBallots, AddsUp, AreAtMost, AreCountsOf, IsTallyOf, IsUpTo}
+use Rattle.tally_export.specs.declared.counts.Counts.{Counts}
 use Rattle.tally_export.specs.declared.counts.Tally.{Tally}
 
 -- what counts no more than 32 of a ballot counts no more than 32 of each
@@ -27,75 +24,81 @@ few_each f p (b ∷ bs) each = one (p b) (few_each f p bs each)
     one true few = omega (arith, each b, few, sum_by-cons f b (filter p bs))
     one false few = omega (arith, few)
 
+pub votes_few : (e : Election) (bs : List Ballot) (k c : ℕ) → votes e bs k (c + 1) ≤ 32 * length bs
+votes_few e bs k c =
+    few_each (λ b. cond (is_overvote e k b) 0 (bit_at (marked_in k b) (c + 1 - 1))) (λ b. is_on_style e b.style k) bs
+    (λ b. omega (arith, bit_few (is_overvote e k b) (marked_in k b) (c + 1 - 1)))
+
+pub undervotes_few : (e : Election) (bs : List Ballot) (k : ℕ) → IsElection e → undervotes e bs k ≤ 32 * length bs
+undervotes_few e bs k election =
+    few_each (λ b. allowed_of e k - count_ones (marked_in k b)) (λ b. is_on_style e b.style k) bs
+    (λ b. omega (arith, allowed_few e k election))
+
+pub overvotes_few : (e : Election) (bs : List Ballot) (k : ℕ) → overvotes e bs k ≤ 32 * length bs
+overvotes_few e bs k =
+    few_each (λ b. cond (is_overvote e k b) 1 0) (λ b. is_on_style e b.style k) bs
+    (λ b. omega (arith, one_few (is_overvote e k b)))
+
 -- no count of so few ballots is near the end of its type
 pub few_counts : (e : Election) (bs : List Ballot) (t : Tally) → IsElection e → length bs ≤ 32768 → IsTallyOf e bs t
     → IsUpTo (2 ^ 62) t
-few_counts e bs t election few is =
-    let on : ℕ → Ballot → Bool = λ k b. is_on_style e b.style (k + 1) in
-    record {
-      choices = λ k c known within. omega (
-        arith,
-        is.choices k c known within,
-        few_each (λ b. cond (is_overvote e (k + 1) b) 0 (bit_at (marked_in (k + 1) b) (c + 1 - 1))) (on k) bs
-            (λ b. omega (arith, bit_few (is_overvote e (k + 1) b) (marked_in (k + 1) b) (c + 1 - 1))),
-      );
-      under = λ k known. omega (
-        arith,
-        is.under k known,
-        few_each (λ b. allowed_of e (k + 1) - count_ones (marked_in (k + 1) b)) (on k) bs
-            (λ b. omega (arith, allowed_few e (k + 1) election)),
-      );
-      over = λ k known. omega (
-        arith,
-        is.over k known,
-        few_each (λ b. cond (is_overvote e (k + 1) b) 1 0) (on k) bs
-            (λ b. omega (arith, one_few (is_overvote e (k + 1) b))),
-      );
-    }
+few_counts e bs t election few is = record {
+  choices = λ k c known within. omega (arith, is.choices k c known within, votes_few e bs (k + 1) c);
+  under = λ k known. omega (arith, is.under k known, undervotes_few e bs (k + 1) election);
+  over = λ k known. omega (arith, is.over k known, overvotes_few e bs (k + 1));
+}
+
+-- nor is one of a contest
+pub few_of_contest : (e : Election) (bs : List Ballot) (k : ℕ) (counts : Counts) → IsElection e → length bs ≤ 32768
+    → AreCountsOf e bs k counts → AreAtMost (2 ^ 62) counts
+few_of_contest e bs k counts election few are = record {
+  choices = λ c within. omega (arith, are.choices c within, votes_few e bs k c);
+  under = omega (arith, are.under, undervotes_few e bs k election);
+  over = omega (arith, are.over, overvotes_few e bs k);
+}
 
 -- what is counted of two lists is counted of the one and of the other
 sum_both : (f : Ballot → ℕ) (p : Ballot → Bool) (xs ys : List Ballot)
     → sum_by f (filter p (xs ++ ys)) ≡ sum_by f (filter p xs) + sum_by f (filter p ys)
 sum_both f p xs ys = ap (sum_by f) (filter-append p xs ys) ∙ sum_by-append f (filter p xs) (filter p ys)
 
--- the counts of two lists are the sums of their counts
-pub tally_of_both : (e : Election) (xs ys : List Ballot) (one other both : Tally) → IsTallyOf e xs one
-    → IsTallyOf e ys other → AddsUp one other both → IsTallyOf e (xs ++ ys) both
-tally_of_both e xs ys one other both first second adds =
+-- what ballots add up to was added to the tally of others
+pub ballots_added : (e : Election) (xs ys : List Ballot) (before now : Tally) → IsTallyOf e xs before
+    → AddsBallots e ys before now → IsTallyOf e (xs ++ ys) now
+ballots_added e xs ys before now is adds =
     let on : ℕ → Ballot → Bool = λ k b. is_on_style e b.style (k + 1) in
     record {
       choices = λ k c known within. omega (
         arith,
         adds.choices k c known within,
-        first.choices k c known within,
-        second.choices k c known within,
+        is.choices k c known within,
         sum_both (λ b. cond (is_overvote e (k + 1) b) 0 (bit_at (marked_in (k + 1) b) (c + 1 - 1))) (on k) xs ys,
       );
       under = λ k known. omega (
         arith,
         adds.under k known,
-        first.under k known,
-        second.under k known,
+        is.under k known,
         sum_both (λ b. allowed_of e (k + 1) - count_ones (marked_in (k + 1) b)) (on k) xs ys,
       );
       over = λ k known. omega (
         arith,
         adds.over k known,
-        first.over k known,
-        second.over k known,
+        is.over k known,
         sum_both (λ b. cond (is_overvote e (k + 1) b) 1 0) (on k) xs ys,
       );
     }
 
--- the first of some valid ballots are valid, and so are the others
-module _ (e : Election) (records part : List Record) (n : ℕ) where
-  abbrev AreValid : List Ballot → Type 0
-  AreValid bs = All (IsValid e) bs
+-- a tally that was added adds its ballots
+tally_added : (e : Election) (ys : List Ballot) (one other both : Tally) → IsTallyOf e ys other → AddsUp one other both
+    → AddsBallots e ys one both
+tally_added e ys one other both is adds = record {
+  choices = λ k c known within. omega (arith, adds.choices k c known within, is.choices k c known within);
+  under = λ k known. omega (arith, adds.under k known, is.under k known);
+  over = λ k known. omega (arith, adds.over k known, is.over k known);
+}
 
-  pub valid_front : part ≡ take n records → AreValid (ballots_of records) → AreValid (ballots_of part)
-  valid_front is valid = subst (λ (rs : List Record). AreValid (ballots_of rs)) (sym is)
-      (subst AreValid (take-map ballot n records) (All-take (IsValid e) n (ballots_of records) valid))
-
-  pub valid_back : part ≡ drop n records → AreValid (ballots_of records) → AreValid (ballots_of part)
-  valid_back is valid = subst (λ (rs : List Record). AreValid (ballots_of rs)) (sym is)
-      (subst AreValid (drop-map ballot n records) (All-drop (IsValid e) n (ballots_of records) valid))
+-- the tally of two lists of ballots, where their tallies were added
+pub tally_of_both : (e : Election) (xs ys : List Ballot) (one other both : Tally) → IsTallyOf e xs one
+    → IsTallyOf e ys other → AddsUp one other both → IsTallyOf e (xs ++ ys) both
+tally_of_both e xs ys one other both first second adds =
+    ballots_added e xs ys one both first (tally_added e ys one other both second adds)

@@ -1,9 +1,7 @@
--- The tally of a set, contest by contest.
-use Rattle.std.proofs.Common.{◌≡◌, ◌≢◌, ℕ, ◌+◌, ◌<◌, ◌≤◌, cond, inl, inr, List, [], ◌∷◌, get_or, length, replicate, refl, sym, ap, subst, ◌∙◌, arith}
-use Rattle.std.proofs.Math.ListN.{set, length-set}
-use Rattle.std.proofs.lemmas.Bool.{cases_lt, cases_eq}
-use Rattle.std.proofs.lemmas.Grind.{get_or-set_at}
-use Rattle.std.proofs.lemmas.List.{get_or-set_other, get_or-replicate}
+-- Counts of ballots, added to a tally contest by contest.
+use Rattle.std.proofs.Common.{◌≡◌, ◌≢◌, ℕ, ◌+◌, ◌^◌, ◌<◌, ◌≤◌, cond, inl, inr, List, [], ◌∷◌, get_or, length, replicate, refl, sym, ap, subst, ◌∙◌, arith}
+use Rattle.std.proofs.lemmas.Bool.{cases_eq, cases_lt}
+use Rattle.std.proofs.lemmas.List.{get_or-replicate}
 use Rattle.std.proofs.lemmas.List.Elements.{recursion_from_All}
 use Rattle.std.specs.List.{AllByRecursion, sum_by}
 use Rattle.std.specs.Prelude.{All}
@@ -11,78 +9,75 @@ use Rattle.ballot_record.proofs.OnStyle.{past_contests}
 use Rattle.store_spec.specs.Ballot.{Ballot, IsValid}
 use Rattle.store_spec.specs.Election.{Election, IsElection}
 use Rattle.store_spec.specs.Report.{ballots_with, overvotes, undervotes, votes}
-use Rattle.tally_export.specs.Counted.{AreCountsOf, IsTallyOf}
+use Rattle.tally_export.proofs.Adding.{overvotes_few, undervotes_few, votes_few}
+use Rattle.tally_export.specs.Counted.{AddsBallots, AddsContest, AreCountsOf, IsTallyOf, IsUpTo, choice_count}
 use Rattle.tally_export.specs.declared.counts.Counts.{Counts}
 use Rattle.tally_export.specs.declared.counts.Tally.{Tally}
 
--- the count of a choice
-abbrev pub count_at : List (List ℕ) → ℕ → ℕ → ℕ
-count_at rows k c = get_or (get_or rows k []) c 0
-
--- the counts of the first contests stand in their places, and 0 in the others
-pub record PlacedTo (e : Election) (ballots : List Ballot) (n : ℕ) (choices : List (List ℕ))
-    (unders overs : List ℕ) : Type 0 where
-  pub row_places : length choices ≡ 16
-  pub under_places : length unders ≡ 16
-  pub over_places : length overs ≡ 16
-  pub rows : (k c : ℕ) → k < n → c < 32 → count_at choices k c ≡ votes e ballots (k + 1) (c + 1)
-  pub under : (k : ℕ) → k < n → get_or unders k 0 ≡ undervotes e ballots (k + 1)
-  pub over : (k : ℕ) → k < n → get_or overs k 0 ≡ overvotes e ballots (k + 1)
-  pub no_rows : (k c : ℕ) → n ≤ k → k < 16 → c < 32 → count_at choices k c ≡ 0
-  pub no_under : (k : ℕ) → n ≤ k → k < 16 → get_or unders k 0 ≡ 0
-  pub no_over : (k : ℕ) → n ≤ k → k < 16 → get_or overs k 0 ≡ 0
-
-pub none_placed : (e : Election) (ballots : List Ballot)
-    → PlacedTo e ballots 0 (replicate 16 (replicate 32 0)) (replicate 16 0) (replicate 16 0)
-none_placed e ballots = record {
-  row_places = refl;
-  under_places = refl;
-  over_places = refl;
-  rows = λ k c before within. absurd (omega arith);
-  under = λ k before. absurd (omega arith);
-  over = λ k before. absurd (omega arith);
-  no_rows = λ k c past known within. ap (λ row. get_or row c 0) (get_or-replicate 16 k (replicate 32 0) [] known)
+-- no ballots have no counts
+pub none_tallied : (e : Election)
+    → IsTallyOf e [] (record { choices = replicate 16 (replicate 32 0); under = replicate 16 0; over = replicate 16 0 })
+none_tallied e = record {
+  choices = λ k c known within. ap (λ row. get_or row c 0) (get_or-replicate 16 k (replicate 32 0) [] known)
       ∙ get_or-replicate 32 c 0 0 within;
-  no_under = λ k past known. get_or-replicate 16 k 0 0 known;
-  no_over = λ k past known. get_or-replicate 16 k 0 0 known;
+  under = λ k known. get_or-replicate 16 k 0 0 known;
+  over = λ k known. get_or-replicate 16 k 0 0 known;
 }
 
--- what stands in the first places, one more of which was written
-first_placed : {X : Type 0} (P : ℕ → X → Type 0) (xs : List X) (n : ℕ) (x d : X) → n < length xs
-    → ((k : ℕ) → k < n → P k (get_or xs k d)) → P n x
-    → (k : ℕ) → k < n + 1 → P k (get_or (set xs n x) k d)
-first_placed P xs n x d within before here k first =
-    elim (cases_eq k n) [
-      | inl same ↦ subst (P k) (sym (get_or-set_at xs n k x d same within)) (subst (λ k. P k x) (sym same) here)
-      | inr other ↦ subst (P k) (sym (get_or-set_other xs n k x d other)) (before k (omega arith))
-    ]
+-- what ballots add up to was added in the first contests, and the counts of the others stay
+pub record AddedTo (e : Election) (ballots : List Ballot) (n : ℕ) (before now : Tally) : Type 0 where
+  pub choices : (k c : ℕ) → k < n → c < 32
+      → choice_count now k c ≡ choice_count before k c + votes e ballots (k + 1) (c + 1)
+  pub under : (k : ℕ) → k < n → get_or now.under k 0 ≡ get_or before.under k 0 + undervotes e ballots (k + 1)
+  pub over : (k : ℕ) → k < n → get_or now.over k 0 ≡ get_or before.over k 0 + overvotes e ballots (k + 1)
+  pub rest_choices : (k : ℕ) → n ≤ k → get_or now.choices k [] ≡ get_or before.choices k []
+  pub rest_under : (k : ℕ) → n ≤ k → get_or now.under k 0 ≡ get_or before.under k 0
+  pub rest_over : (k : ℕ) → n ≤ k → get_or now.over k 0 ≡ get_or before.over k 0
 
--- what stands in the others
-others_kept : {X : Type 0} (P : X → Type 0) (xs : List X) (n : ℕ) (x d : X)
-    → ((k : ℕ) → n ≤ k → k < 16 → P (get_or xs k d))
-    → (k : ℕ) → n + 1 ≤ k → k < 16 → P (get_or (set xs n x) k d)
-others_kept P xs n x d before k past known =
-    subst P (sym (get_or-set_other xs n k x d (omega arith))) (before k (omega arith) known)
+-- so no count is near the end of its type
+pub few_added : (e : Election) (ballots : List Ballot) (n : ℕ) (before now : Tally) → IsElection e
+    → length ballots ≤ 32768 → IsUpTo (2 ^ 62) before → AddedTo e ballots n before now → IsUpTo (2 ^ 63) now
+few_added e ballots n before now election few room added = record {
+  choices = λ k c known within. elim (cases_lt k n) [
+    | inl first ↦ omega (arith, added.choices k c first within, room.choices k c known within, votes_few e ballots (k + 1) c)
+    | inr past ↦ omega (arith, ap (λ row. get_or row c 0) (added.rest_choices k past), room.choices k c known within)
+  ];
+  under = λ k known. elim (cases_lt k n) [
+    | inl first ↦ omega (arith, added.under k first, room.under k known, undervotes_few e ballots (k + 1) election)
+    | inr past ↦ omega (arith, added.rest_under k past, room.under k known)
+  ];
+  over = λ k known. elim (cases_lt k n) [
+    | inl first ↦ omega (arith, added.over k first, room.over k known, overvotes_few e ballots (k + 1))
+    | inr past ↦ omega (arith, added.rest_over k past, room.over k known)
+  ];
+}
 
-pub one_placed : (e : Election) (ballots : List Ballot) (n : ℕ) (rows : List (List ℕ)) (under over : List ℕ)
-    (counts : Counts)
-    → n < 16 → PlacedTo e ballots n rows under over → AreCountsOf e ballots (n + 1) counts
-    → PlacedTo e ballots (n + 1) (set rows n counts.choices) (set under n counts.under) (set over n counts.over)
-one_placed e ballots n rows under over counts known placed are = record {
-  row_places = length-set rows n counts.choices ∙ placed.row_places;
-  under_places = length-set under n counts.under ∙ placed.under_places;
-  over_places = length-set over n counts.over ∙ placed.over_places;
-  rows = λ k c first within. first_placed
-      (λ (k : ℕ) (row : List ℕ). get_or row c 0 ≡ votes e ballots (k + 1) (c + 1)) rows n counts.choices []
-      (omega (arith, placed.row_places)) (λ k first. placed.rows k c first within) (are.choices c within) k first;
-  under = first_placed (λ (k : ℕ) (count : ℕ). count ≡ undervotes e ballots (k + 1)) under n counts.under 0
-      (omega (arith, placed.under_places)) placed.under are.under;
-  over = first_placed (λ (k : ℕ) (count : ℕ). count ≡ overvotes e ballots (k + 1)) over n counts.over 0
-      (omega (arith, placed.over_places)) placed.over are.over;
-  no_rows = λ k c past known within. others_kept (λ (row : List ℕ). get_or row c 0 ≡ 0) rows n counts.choices []
-      (λ k past known. placed.no_rows k c past known within) k past known;
-  no_under = others_kept (λ (count : ℕ). count ≡ 0) under n counts.under 0 placed.no_under;
-  no_over = others_kept (λ (count : ℕ). count ≡ 0) over n counts.over 0 placed.no_over;
+-- what holds of each place in front of one, and of this one, where nothing else was written
+one_more : (P : ℕ → Type 0) (n : ℕ) → ((k : ℕ) → k < n → k ≢ n → P k) → P n → (k : ℕ) → k < n + 1 → P k
+one_more P n front here k less = elim (cases_eq k n) [
+  | inl same ↦ subst P (sym same) here
+  | inr other ↦ front k (omega arith) other
+]
+
+-- the counts of one contest more were added
+pub one_added : (e : Election) (ballots : List Ballot) (n : ℕ) (before was now : Tally) (counts : Counts)
+    → AddedTo e ballots n before was → AreCountsOf e ballots (n + 1) counts → AddsContest n counts was now
+    → AddedTo e ballots (n + 1) before now
+one_added e ballots n before was now counts added are adds = record {
+  choices = λ k c less within. one_more
+      (λ (k : ℕ). choice_count now k c ≡ choice_count before k c + votes e ballots (k + 1) (c + 1)) n
+      (λ k first other. ap (λ row. get_or row c 0) (adds.other_choices k other) ∙ added.choices k c first within)
+      (omega (arith, adds.choices c within, ap (λ row. get_or row c 0) (added.rest_choices n (omega arith)), are.choices c within))
+      k less;
+  under = one_more (λ (k : ℕ). get_or now.under k 0 ≡ get_or before.under k 0 + undervotes e ballots (k + 1)) n
+      (λ k first other. adds.other_under k other ∙ added.under k first)
+      (omega (arith, adds.under, added.rest_under n (omega arith), are.under));
+  over = one_more (λ (k : ℕ). get_or now.over k 0 ≡ get_or before.over k 0 + overvotes e ballots (k + 1)) n
+      (λ k first other. adds.other_over k other ∙ added.over k first)
+      (omega (arith, adds.over, added.rest_over n (omega arith), are.over));
+  rest_choices = λ k past. adds.other_choices k (λ same. omega (arith, same)) ∙ added.rest_choices k (omega arith);
+  rest_under = λ k past. adds.other_under k (λ same. omega (arith, same)) ∙ added.rest_under k (omega arith);
+  rest_over = λ k past. adds.other_over k (λ same. omega (arith, same)) ∙ added.rest_over k (omega arith);
 }
 
 -- no ballot has a contest that the election lacks
@@ -95,21 +90,22 @@ none_with e (b ∷ ballots) k election each past =
     (past_contests e b.style k election style each.0.known_style past)
     ∙ none_with e ballots k election each.1 past
 
--- the counts of all contests stand in their places
-pub all_placed : (e : Election) (ballots : List Ballot) (t : Tally) → IsElection e → All (IsValid e) ballots
-    → PlacedTo e ballots (length e.contests) t.choices t.under t.over → IsTallyOf e ballots t
-all_placed e ballots t election valid placed =
+-- the counts of all contests were added
+pub all_added : (e : Election) (ballots : List Ballot) (before now : Tally) → IsElection e → All (IsValid e) ballots
+    → AddedTo e ballots (length e.contests) before now → AddsBallots e ballots before now
+all_added e ballots before now election valid added =
     let none : (k : ℕ) (f : Ballot → ℕ) → length e.contests ≤ k → 0 ≡ sum_by f (ballots_with e (k + 1) ballots) =
     λ k f past. ap (sum_by f) (sym
     (none_with e ballots (k + 1) election (recursion_from_All (IsValid e) ballots valid) (omega arith))) in
+    let nothing_more : (a b n : ℕ) → a ≡ b → 0 ≡ n → a ≡ b + n = λ a b n same zero. omega arith in
     record {
       choices = λ k c known within.
           elim (cases_lt k (length e.contests)) [
-            | inl first ↦ placed.rows k c first within
-            | inr past ↦ placed.no_rows k c past known within ∙ none k _ past
+            | inl first ↦ added.choices k c first within
+            | inr past ↦ nothing_more _ _ _ (ap (λ row. get_or row c 0) (added.rest_choices k past)) (none k _ past)
           ];
       under = λ k known. elim (cases_lt k (length e.contests))
-          [ inl first ↦ placed.under k first | inr past ↦ placed.no_under k past known ∙ none k _ past ];
+          [ inl first ↦ added.under k first | inr past ↦ nothing_more _ _ _ (added.rest_under k past) (none k _ past) ];
       over = λ k known. elim (cases_lt k (length e.contests))
-          [ inl first ↦ placed.over k first | inr past ↦ placed.no_over k past known ∙ none k _ past ];
+          [ inl first ↦ added.over k first | inr past ↦ nothing_more _ _ _ (added.rest_over k past) (none k _ past) ];
     }

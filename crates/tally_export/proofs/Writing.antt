@@ -1,7 +1,7 @@
 -- What a sink has taken of a text that is written part by part.
 use Rattle.std.proofs.Common.{◌≡◌, ℕ, ◌+◌, ◌≤◌, ◌<◌, inl, inr, List, [], ◌∷◌, ◌++◌, take, drop, get_or, length, Option, Some, None, Result, Ok, Err, refl, sym, ap, subst, ◌∙◌, arith, append_assoc, append-nil, take_at, drop-cons, add-one}
 use Rattle.std.proofs.lemmas.Bool.{cases_lt}
-use Rattle.std.proofs.lemmas.List.{take-append-le, take_all, drop_all, get_or-map, length-map}
+use Rattle.std.proofs.lemmas.List.{take-append-le, take_all, drop_all}
 use Rattle.std.proofs.Math.Seq.{take-append-add}
 use Rattle.std.specs.Option.{option_map}
 use Rattle.std.specs.Prelude.{All, OnErr, map}
@@ -122,16 +122,6 @@ front_written before now gathered left whole written =
 pub no_line_left : (e : Election) (ballots : List Ballot) (i : ℕ) → length ballots ≤ i
     → lines_left e (drop i ballots) ≡ []
 no_line_left e ballots i end = ap (lines_left e) (drop_all i ballots end)
-
--- what is listed for a ballot
-pub listed_at : {X : Type 0} (f : X → Ballot) (listed : List X) (ballots : List Ballot) (i : ℕ) (d : X)
-    → map f listed ≡ ballots → i < length listed
-    → (i < length ballots) × (get_or ballots i (f (get_or listed i d)) ≡ f (get_or listed i d))
-listed_at f listed ballots i d are within =
-    let as_many : length ballots ≡ length listed = ap length (sym are) ∙ length-map listed f in (
-      omega arith,
-      ap (λ bs. get_or bs i (f (get_or listed i d))) (sym are) ∙ get_or-map f listed i d (f (get_or listed i d)) within,
-    )
 
 -- each ballot of a store is valid
 pub valid_at : (e other : Election) (ballots : List Ballot) (i : ℕ) (b : Ballot) → other ≡ e

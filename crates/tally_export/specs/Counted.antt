@@ -1,5 +1,5 @@
 -- Counts of the program, as those of a set of ballots. Choice c + 1 of contest k + 1 stands at places c and k.
-use Rattle.std.specs.Prelude.{◌≡◌, ℕ, ◌+◌, ◌-◌, ◌<◌, ◌≤◌, [], nat_lt, if◌then◌else◌, List, count_ones, slice_index}
+use Rattle.std.specs.Prelude.{◌≡◌, ◌≢◌, ℕ, ◌+◌, ◌-◌, ◌<◌, ◌≤◌, [], nat_lt, if◌then◌else◌, List, count_ones, slice_index}
 use Rattle.std.specs.Int.{bit_at}
 use Rattle.std.specs.List.{slice_index_or}
 use Rattle.store_spec.specs.Ballot.{Ballot}
@@ -54,3 +54,22 @@ pub record CountsSet (allowed set : ℕ) (before now : Counts) : Type 0 where
       ≡ slice_index before.choices c + (if nat_lt allowed (count_ones set) then 0 else bit_at set c)
   pub under : now.under ≡ before.under + (allowed - count_ones set)
   pub over : now.over ≡ before.over + (if nat_lt allowed (count_ones set) then 1 else 0)
+
+-- what ballots add up to in the contest at a place was added there, and the others stay
+pub record AddsContest (place : ℕ) (more : Counts) (before now : Tally) : Type 0 where
+  pub choices : (c : ℕ) → c < CHOICES
+      → choice_count now place c ≡ choice_count before place c + slice_index more.choices c
+  pub under : slice_index now.under place ≡ slice_index before.under place + more.under
+  pub over : slice_index now.over place ≡ slice_index before.over place + more.over
+  pub other_choices : (k : ℕ) → k ≢ place → slice_index_or now.choices k [] ≡ slice_index_or before.choices k []
+  pub other_under : (k : ℕ) → k ≢ place → slice_index now.under k ≡ slice_index before.under k
+  pub other_over : (k : ℕ) → k ≢ place → slice_index now.over k ≡ slice_index before.over k
+
+-- what ballots add up to was added
+pub record AddsBallots (e : Election) (ballots : List Ballot) (before now : Tally) : Type 0 where
+  pub choices : (k c : ℕ) → k < most_contests e → c < most_choices e
+      → choice_count now k c ≡ choice_count before k c + votes e ballots (k + 1) (c + 1)
+  pub under : (k : ℕ) → k < most_contests e
+      → slice_index now.under k ≡ slice_index before.under k + undervotes e ballots (k + 1)
+  pub over : (k : ℕ) → k < most_contests e
+      → slice_index now.over k ≡ slice_index before.over k + overvotes e ballots (k + 1)

@@ -55,7 +55,32 @@ fn add_counts(counts: &mut [u64], more: &[u64])
 }
 
 impl Tally {
-    ghost use Rattle.tally_export.specs.Counted.{AddsUp, IsUpTo};
+    ghost use Rattle.std.specs.Prelude.{[]};
+    ghost use Rattle.store_spec.specs.Election.{Election};
+    ghost use Rattle.tally_export.specs.Counted.{AddsContest, AddsUp, AreAtMost, IsTallyOf, IsUpTo};
+
+    /// What no ballots add up to.
+    pub fn of_none() -> Tally
+        ensures { (e : Election) → IsTallyOf e [] result }
+    {
+        Tally {
+            choices: [[0; CHOICES]; MAX_CONTESTS],
+            under: [0; MAX_CONTESTS],
+            over: [0; MAX_CONTESTS],
+        }
+    }
+
+    /// Adds what ballots add up to in the contest at a place.
+    pub fn add_contest(&mut self, place: usize, more: &Counts)
+        requires within { place < MAX_CONTESTS }
+        requires ours { IsUpTo (2 ^ 63) self.old }
+        requires theirs { AreAtMost (2 ^ 62) more.now }
+        ensures { AddsContest place more.now self.old self.new }
+    {
+        add_counts(&mut self.choices[place], &more.choices);
+        self.under[place] += more.under;
+        self.over[place] += more.over;
+    }
 
     /// Adds what other ballots add up to.
     pub fn add(&mut self, more: &Tally)

@@ -1,9 +1,11 @@
-ghost use Rattle.std.specs.Prelude.{◌≡◌, ◌∷◌, [], ◌++◌, IfOk, OnErr, OnOk, codes};
+ghost use Rattle.std.specs.Prelude.{◌≡◌, ◌∷◌, [], ◌++◌, ◌<◌, IfOk, IsSome, OnErr, OnOk, codes, slice_index};
 ghost use Rattle.ballot_record.specs.Record as seen;
 ghost use Rattle.outside_io.specs.Stream.{TakesAll, TakesSome};
-ghost use Rattle.store_spec.specs.Ballot.{IsValid};
+ghost use Rattle.store_spec.specs.Ballot.{IsValid, ballot_of};
 ghost use Rattle.store_spec.specs.BallotLine.{record_line};
+ghost use Rattle.store_spec.specs.Election.{cell_count};
 ghost use Rattle.store_spec.specs.Fault.{CountsFaultIf};
+ghost use Rattle.store_spec.specs.Image.{cells_of};
 ghost use Rattle.store_spec.specs.Input.{line_end};
 ghost use Rattle.store_spec.specs.Report.{count_line, export_text};
 
@@ -35,6 +37,21 @@ fn put_ballot(ballot: &Record, election: &Election, text: &mut Vec<u8>) -> Resul
     Ok(())
 }
 
+/// The ballot in a cell that has one.
+fn ballot_in(closed: &Closed, cell: usize) -> Record
+    requires within { cell < cell_count closed.now.election }
+    requires some { IsSome (ballot_of closed.now.ballots
+        (slice_index (cells_of closed.now.election closed.now.ballots) cell)) }
+    ensures { ballot_of closed.now.ballots
+        (slice_index (cells_of closed.now.election closed.now.ballots) cell)
+        ≡ Some (seen.ballot result) }
+{
+    match closed.record_in(cell) {
+        Some(record) => record,
+        None => unreachable!(),
+    }
+}
+
 /// Writes how many ballots a store holds, and then the line of each, in ascending order of their numbers. Lines are
 /// gathered, and written once they have more than 64 KiB.
 pub fn export<K: Sink>(alloc: Global, closed: &Closed, out: &mut K) -> Result<(), PutFault>
@@ -46,10 +63,11 @@ pub fn export<K: Sink>(alloc: Global, closed: &Closed, out: &mut K) -> Result<()
         (K.faults out.old) (K.faults out.new) }
 {
     let election = closed.election();
-    let listed = closed.in_order(alloc)?;
-    let mut text = first_line(alloc, listed.len())?;
-    'records: for record in &listed {
-        put_ballot(record, election, &mut text)?;
+    let places = closed.in_order(alloc)?;
+    let mut text = first_line(alloc, places.len())?;
+    'records: for place in &places {
+        let record = ballot_in(closed, place.cell as usize);
+        put_ballot(&record, election, &mut text)?;
         if text.len() > FULL {
             out.write_all(&text)?;
             text.clear();

@@ -1,5 +1,5 @@
 //! Media that were stopped.
-#![tactic(auto, unfolding(store_spec::specs::Election::cell_size))]
+#![tactic(auto, unfolding(store_spec::specs::Election::cell_size, store_spec::specs::Election::header_size))]
 
 ghost use Rattle.std.specs.Prelude.{◌≡◌, ◌<◌, ◌≤◌};
 ghost use Rattle.crash_disk.specs.Recorded.{recorded_calls};
@@ -19,7 +19,7 @@ const TORN: [Torn; 4] = [Torn::Old, Torn::New, Torn::Fill(0x3c), Torn::Fill(0xa7
 /// A disk on which the medium of no ballots became that of three, and how many calls it had made before.
 fn checkpointed(alloc: Global) -> Result<(MemoryDisk, u64), Fail> {
     let election = Election::example();
-    let mut scratch = Scratch::new(alloc, &election)?;
+    let mut scratch = Scratch::new(alloc)?;
     let mut disk = disk_of(alloc, medium(alloc, &empty_bank())?)?;
     recover(alloc, &mut disk, &election, &mut scratch)?;
     let before = disk.calls();

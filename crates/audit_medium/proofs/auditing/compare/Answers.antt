@@ -25,18 +25,18 @@ returns-in-Some-clause-audited g c =
     let e = c.args.closed.now.election in
     let store = c.args.closed.now in
     bank_told e store.ballots c.election-election.ensures.stored.election (bank_named c.args.bank) (bank_named c.other_of-other.result) c.other_of-other.ensures c.in_ok-first.first
-    (g.D.Disk.seen c.args.disk.now) c.in-Some.at c.bank_place.result c.in-Some.is (c.bank_place.ensures.place ∙ ap (λ e. place_of e c.other_of-other.result) c.election-election.ensures.election) c.requires.read (agrees e store.ballots (bank_named c.other_of-other.result) c.args.made.now c.in_ok-first.first (g.D.Disk.seen c.args.disk.now) c.requires.image (under c.args.closed.now.election (g.D.Disk.seen c.args.disk.now) (bank_named c.other_of-other.result) c.args.made.now c.in_ok-first.first c.election-election.result.now c.election-election.ensures.election c.in_ok-first.ensures.difference))
+    (g.D.Disk.seen c.args.disk.now) c.in-Some.at c.bank_place.result c.in-Some.is (c.bank_place.ensures.place ∙ ap (λ e. place_of e c.other_of-other.result) c.election-election.ensures.election) c.requires.read (agrees e store.ballots (bank_named c.other_of-other.result) c.image.result.now c.in_ok-first.first (g.D.Disk.seen c.args.disk.now) c.image.ensures.image (under c.args.closed.now.election (g.D.Disk.seen c.args.disk.now) (bank_named c.other_of-other.result) c.image.result.now c.in_ok-first.first c.election-election.result.now c.election-election.ensures.election c.in_ok-first.ensures.difference))
 
 pub returns-then-open_too-clause-audited : goal.returns-then-open_too-clause-audited
 returns-then-open_too-clause-audited g c =
     let e = c.args.closed.now.election in
     let store = c.args.closed.now in
     canonical_told e store.ballots c.election-election.ensures.stored.election (bank_named c.args.bank) (bank_named c.other_of-other.result) c.other_of-other.ensures c.in_ok-first.first
-    (g.D.Disk.seen c.args.disk.now) c.args.open_too c.len-held.result (none_of c.in_ok-first.first c.in_default.not-Some) c.if-open_too.true c.len-held.ensures.count c.requires.read c.requires.gate (agrees e store.ballots (bank_named c.other_of-other.result) c.args.made.now c.in_ok-first.first (g.D.Disk.seen c.args.disk.now) c.requires.image (under c.args.closed.now.election (g.D.Disk.seen c.args.disk.now) (bank_named c.other_of-other.result) c.args.made.now c.in_ok-first.first c.election-election.result.now c.election-election.ensures.election c.in_ok-first.ensures.difference))
+    (g.D.Disk.seen c.args.disk.now) c.args.open_too c.len-held.result (none_of c.in_ok-first.first c.in_default.not-Some) c.if-open_too.true c.len-held.ensures.count c.requires.read c.requires.gate (agrees e store.ballots (bank_named c.other_of-other.result) c.image.result.now c.in_ok-first.first (g.D.Disk.seen c.args.disk.now) c.image.ensures.image (under c.args.closed.now.election (g.D.Disk.seen c.args.disk.now) (bank_named c.other_of-other.result) c.image.result.now c.in_ok-first.first c.election-election.result.now c.election-election.ensures.election c.in_ok-first.ensures.difference))
 
 pub returns-clause-audited : goal.returns-clause-audited
 returns-clause-audited g c =
     let e = c.args.closed.now.election in
     let store = c.args.closed.now in
     gate_told e store.ballots c.election-election.ensures.stored.election (bank_named c.args.bank) (bank_named c.other_of-other.result) c.other_of-other.ensures c.in_ok-first.first
-    (g.D.Disk.seen c.args.disk.now) c.args.open_too c.gate_place-place.result (none_of c.in_ok-first.first c.in_default.not-Some) c.if-open_too.false (c.gate_place-place.ensures ∙ ap (λ e. gate_of e c.other_of-other.result) c.election-election.ensures.election) c.requires.read c.requires.gate (agrees e store.ballots (bank_named c.other_of-other.result) c.args.made.now c.in_ok-first.first (g.D.Disk.seen c.args.disk.now) c.requires.image (under c.args.closed.now.election (g.D.Disk.seen c.args.disk.now) (bank_named c.other_of-other.result) c.args.made.now c.in_ok-first.first c.election-election.result.now c.election-election.ensures.election c.in_ok-first.ensures.difference))
+    (g.D.Disk.seen c.args.disk.now) c.args.open_too c.gate_place-place.result (none_of c.in_ok-first.first c.in_default.not-Some) c.if-open_too.false (c.gate_place-place.ensures ∙ ap (λ e. gate_of e c.other_of-other.result) c.election-election.ensures.election) c.requires.read c.requires.gate (agrees e store.ballots (bank_named c.other_of-other.result) c.image.result.now c.in_ok-first.first (g.D.Disk.seen c.args.disk.now) c.image.ensures.image (under c.args.closed.now.election (g.D.Disk.seen c.args.disk.now) (bank_named c.other_of-other.result) c.image.result.now c.in_ok-first.first c.election-election.result.now c.election-election.ensures.election c.in_ok-first.ensures.difference))

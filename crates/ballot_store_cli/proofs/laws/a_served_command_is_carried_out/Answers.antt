@@ -1,4 +1,4 @@
-use Rattle.ballot_store_cli.proofs.Complete.{carried_out_whole}
+use Rattle.ballot_store_cli.proofs.Runs.{carried_out_whole}
 use Rattle.store_spec.specs.Disk.{disk_model}
 use Rattle.ballot_store_cli.proofs.laws.a_served_command_is_carried_out.Goals as goal
 

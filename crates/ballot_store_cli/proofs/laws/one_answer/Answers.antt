@@ -1,4 +1,4 @@
-use Rattle.ballot_store_cli.proofs.OneAnswer.{one_answer}
+use Rattle.ballot_store_cli.proofs.Runs.{one_answer}
 use Rattle.store_spec.specs.Disk.{disk_model}
 use Rattle.ballot_store_cli.proofs.laws.one_answer.Goals as goal
 

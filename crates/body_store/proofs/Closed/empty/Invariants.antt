@@ -1,6 +1,5 @@
-use Rattle.body_store.specs.Contents.{ballots_of}
-use Rattle.store_spec.specs.Ballot.{numbers_of}
+use Rattle.std.proofs.Common.{[]}
 use Rattle.body_store.proofs.Closed.empty.Given as goal
 
-abbrev pub ghost-of_all : goal.ghost-of_all
-ghost-of_all a = numbers_of (ballots_of a.records.now)
+abbrev pub ghost-from_image : goal.ghost-from_image
+ghost-from_image a = []

@@ -1,9 +1,13 @@
-use Rattle.std.proofs.Common.{◌≡◌, length, sym, ap, ◌∙◌, rules}
+use Rattle.std.proofs.Common.{length, ap, ◌∙◌}
 use Rattle.body_store.proofs.Closed.len.Goals as goal
-use Rattle.body_store.proofs.Keeping.{as_many}
+use Rattle.body_store.proofs.Keeping.{shown_count}
 use Rattle.body_store.specs.Contents.{Contents}
+use Rattle.body_store.specs.Kept.{contents_of}
 
 pub returns-clause-count : goal.returns-clause-count
 returns-clause-count c =
-    let own : c.len.result ≡ length c.self.inside.records.items = search rules in
-    own ∙ sym (as_many c.self.inside) ∙ ap (λ (store : Contents). length store.ballots) c.self.view_is
+    let a = c.self.inside in
+    let own = contents_of a in
+    c.self.invariant.counted
+    ∙ shown_count own.election own.ballots a.image.items a.cells.items c.self.invariant.shown
+    ∙ ap (λ (store : Contents). length store.ballots) c.self.view_is

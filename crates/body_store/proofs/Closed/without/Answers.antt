@@ -1,94 +1,83 @@
-use Rattle.std.proofs.Common.{◌≡◌, ◌≤◌, ℕ, List, length, refl, sym, ap, ◌∙◌, subst, subst₂}
-use Rattle.std.proofs.lemmas.Result.{IfOk-weaker}
-use Rattle.ballot_record.specs.declared.record.Record.{Record}
+use Rattle.std.proofs.Common.{◌≡◌, ℕ, List, [], drop, length, sym, ap, ◌∙◌, subst, subst₂}
+use Rattle.body_store.proofs.BallotSets.{stored_without}
+use Rattle.body_store.proofs.ByNumber.{by_number-is}
 use Rattle.body_store.proofs.Closed.without.Goals as goal
-use Rattle.body_store.proofs.Keeping.{IsRest, few_numbers, kept_records, none_stands, once_in, rest_is}
-use Rattle.body_store.proofs.BallotSets.{MayHold, numbered}
-use Rattle.body_store.specs.Contents.{Contents, IsStored, ballots_of, ballots_without}
-use Rattle.body_store.specs.ByNumber.{AreNumbered}
+use Rattle.body_store.proofs.Keeping.{kept_as, shown_by_number, shown_held}
+use Rattle.body_store.proofs.Relaying.{IsRest, rest_is, without_closes}
+use Rattle.body_store.proofs.Spelled.{held_among}
+use Rattle.body_store.specs.ByNumber.{by_number}
+use Rattle.body_store.specs.Closing.{IsClose}
+use Rattle.body_store.specs.Contents.{Contents, ballots_without}
+use Rattle.body_store.specs.Held.{Shows, held_in, spelled_in}
 use Rattle.body_store.specs.Kept.{IsKept, contents_of}
-use Rattle.body_store.specs.Places.{HoldsOnce}
 use Rattle.body_store.specs.declared.Closed.TheInside.{Inside}
-use Rattle.store_spec.specs.Ballot.{Ballot, numbers_of}
-use Rattle.store_spec.specs.Election.{Election, IsElection}
+use Rattle.store_spec.specs.Ballot.{Ballot}
+use Rattle.store_spec.specs.Election.{Election, header_size}
 use Rattle.store_spec.specs.Image.{cells_of}
+use Rattle.store_spec.specs.Layout.{numbers_in}
 
-abbrev contents : Election → List Ballot → Contents
-contents e ballots = record { election = e; ballots = ballots }
+abbrev held : List ℕ → Election → List ℕ → List Ballot
+held image e numbers = by_number (spelled_in e numbers (drop header_size image))
 
-own_election : (e : Election) (a : Inside) (store : Contents) → contents_of a ≡ store → e ≡ store.election
-    → a.election.value ≡ e
-own_election e a store view own = ap (λ (store : Contents). store.election) view ∙ sym own
+-- what the close asks, of the same things under other names
+abbrev IsAsked : List ℕ → Election → List ℕ → List ℕ → Type 0
+IsAsked image e numbers cells =
+    let old = held image e numbers in
+    IsClose e [] (record { old = old; all = old; rest = held_in old cells })
+    × (Shows e old image numbers × (cells ≡ cells_of e (held_in old cells)))
 
-leaving : (e : Election) (a : Inside) (store : Contents) (numbers : List ℕ) (first rest : List Record)
-    (cells : List ℕ) → contents_of a ≡ store → e ≡ store.election → IsKept a
-    → first ≡ a.records.items → ballots_of rest ≡ ballots_without (ballots_of first) numbers → cells ≡ cells_of store.election
-    (ballots_without store.ballots numbers)
-    → IsRest e a.records.items numbers rest cells
-leaving e a store numbers first rest cells view own kept same left laid =
-    rest_is e a.records.items numbers rest cells
-    (subst (λ (e : Election). MayHold e (ballots_of a.records.items)) (own_election e a store view own)
-    (kept_records a kept))
-    (left ∙ ap (λ rs. ballots_without (ballots_of rs) numbers) same)
-    (laid ∙ ap (λ e. cells_of e (ballots_without store.ballots numbers)) (sym own)
-    ∙ ap (λ (store : Contents). cells_of e (ballots_without store.ballots numbers)) (sym view))
+-- what is left in the cells, where these numbers went
+left : (a : Inside) (store : Contents) (gone cells : List ℕ) → contents_of a ≡ store → IsKept a → cells ≡ cells_of store.election (ballots_without store.ballots gone) → IsRest a.election.value (contents_of a).ballots gone cells
+left a store gone cells view kept laid =
+    let own = contents_of a in
+    rest_is own.election own.ballots gone cells kept.shown.election (shown_held own.election own.ballots a.image.items a.cells.items kept.shown)
+    (laid ∙ ap (λ (store : Contents). cells_of store.election (ballots_without store.ballots gone)) (sym view))
 
-pub without-requires-clause-some : goal.without-requires-clause-some
-without-requires-clause-some c =
-    subst (λ (records : List Record). AreNumbered (ballots_of records)) (sym c.deref.ensures.value)
-    (numbered c.self.inside.election.value (ballots_of c.self.inside.records.items)
-    (kept_records c.self.inside c.self.invariant))
+pub close-requires : goal.close-requires
+close-requires c =
+    let a = c.self.inside in
+    let own = contents_of a in
+    let image = a.image.items in
+    let shown = c.self.invariant.shown in
+    let rest = left a c.args.self.now c.requires.0 c.args.cells.items c.self.view_is c.self.invariant c.requires.1 in
+    let asked : IsAsked image own.election a.cells.items c.args.cells.items = (
+      without_closes own.election own.ballots (held_in own.ballots c.args.cells.items) shown.election (shown_held own.election own.ballots image a.cells.items shown) rest.held
+          (held_among own.ballots c.args.cells.items),
+      (shown, rest.laid),
+    ) in
+    subst₂ (λ e numbers. IsAsked image e numbers c.deref-3.result.now) (sym c.deref.ensures) (sym c.deref-2.ensures.value)
+    (subst (λ (cells : List ℕ). IsAsked image own.election a.cells.items cells) (sym c.deref-3.ensures.value) asked)
 
-pub without-requires-clause-gone : goal.without-requires-clause-gone
-without-requires-clause-gone c =
-    let store = c.args.self.now in
-    let numbers = c.args.numbers.now in
-    let stored = subst (λ (s : Contents). IsStored s) c.self.view_is c.self.invariant.stored in
-    none_stands store numbers c.deref-2.result.now stored
-    (c.deref-2.ensures.value ∙ c.requires.layout)
+-- what it makes, under the names of the store
+made : (image now : List ℕ) (e own : Election) (numbers given laid cells : List ℕ) → e ≡ own → numbers ≡ given → laid ≡ cells
+    → Shows e (held_in (held image e numbers) laid) now laid → Shows own (held_in (held image own given) cells) now cells
+made image now e own numbers given laid cells same_e same_numbers same_cells shown =
+    subst₂ (λ e numbers. Shows e (held_in (held image e numbers) cells) now cells) same_e same_numbers
+    (subst (λ (laid : List ℕ). Shows e (held_in (held image e numbers) laid) now laid) same_cells shown)
 
-pub of_all-requires : goal.of_all-requires
-of_all-requires c =
-    let e = c.election-election.result.now in
-    let is = leaving e c.self.inside c.args.self.now c.args.numbers.now c.deref.result.now
-    c.in_ok-records.records.items c.args.cells.items c.self.view_is c.election-election.ensures.election c.self.invariant
-    c.deref.ensures.value c.in_ok-records.ensures c.requires.layout in
-    let election : IsElection e = subst (λ (e : Election). IsElection e)
-    (own_election e c.self.inside c.args.self.now c.self.view_is c.election-election.ensures.election) c.self.invariant.stored.election in (
-      subst (λ (rs : List Record). length (numbers_of (ballots_of rs)) ≤ 32768) (sym c.deref-3.ensures.value)
-          (few_numbers e c.in_ok-records.records.items election is.held),
-      (
-        refl,
-        subst₂ (λ rs cells. HoldsOnce (numbers_of (ballots_of rs)) cells) (sym c.deref-3.ensures.value)
-            (sym c.deref-4.ensures.value)
-            (once_in e c.in_ok-records.records.items c.args.cells.items election is.held is.laid),
-      ),
-    )
+pub invariant_of-self-2 : goal.invariant_of-self-2
+invariant_of-self-2 c =
+    let a = c.self.inside in
+    let now : Inside = record { election = a.election; image = c.close.new.image; cells = c.args.cells; held = c.count-held.result } in
+    kept_as now (held_in (contents_of a).ballots c.args.cells.items)
+    (made a.image.items now.image.items c.deref.result.now a.election.value c.deref-2.result.now a.cells.items c.deref-3.result.now c.args.cells.items
+    c.deref.ensures c.deref-2.ensures.value c.deref-3.ensures.value c.in_ok-close.ensures.shown)
+    (c.count-held.ensures ∙ ap (λ cells. length (numbers_in cells)) c.deref-4.ensures.value)
 
-pub kept-requires-clause-listing : goal.kept-requires-clause-listing
-kept-requires-clause-listing c =
-    (leaving c.election-election.result.now c.self.inside c.args.self.now c.args.numbers.now c.deref.result.now
-    c.in_ok-records.records.items c.args.cells.items c.self.view_is c.election-election.ensures.election c.self.invariant
-    c.deref.ensures.value c.in_ok-records.ensures c.requires.layout).held.listing
+pub returns-clause-rest : goal.returns-clause-rest
+returns-clause-rest c gone laid =
+    let a = c.self.inside in
+    let own = contents_of a in
+    let cells = c.args.cells.items in
+    let now = c.close.new.image.items in
+    let contents : List Ballot → Contents = λ ballots. record { election = a.election.value; ballots = ballots } in
+    let shown = made a.image.items now c.deref.result.now a.election.value c.deref-2.result.now a.cells.items c.deref-3.result.now cells
+    c.deref.ensures c.deref-2.ensures.value c.deref-3.ensures.value c.in_ok-close.ensures.shown in
+    let rest = left a c.args.self.now gone cells c.self.view_is c.self.invariant laid in
+    let stays = stored_without own gone c.self.invariant.stored in
+    ap contents (shown_by_number a.election.value (held_in own.ballots cells) now cells shown
+    ∙ by_number-is (held_in own.ballots cells) (ballots_without own.ballots gone) rest.held.listing.distinct stays.set.ascending rest.same)
+    ∙ ap (λ (store : Contents). let rest : Contents = record { election = store.election; ballots = ballots_without store.ballots gone } in rest) c.self.view_is
 
-pub kept-requires-clause-within_limit : goal.kept-requires-clause-within_limit
-kept-requires-clause-within_limit c =
-    (leaving c.election-election.result.now c.self.inside c.args.self.now c.args.numbers.now c.deref.result.now
-    c.in_ok-records.records.items c.args.cells.items c.self.view_is c.election-election.ensures.election c.self.invariant
-    c.deref.ensures.value c.in_ok-records.ensures c.requires.layout).held.within_limit
-
-pub kept-requires-clause-layout : goal.kept-requires-clause-layout
-kept-requires-clause-layout c =
-    (leaving c.election-election.result.now c.self.inside c.args.self.now c.args.numbers.now c.deref.result.now
-    c.in_ok-records.records.items c.args.cells.items c.self.view_is c.election-election.ensures.election c.self.invariant
-    c.deref.ensures.value c.in_ok-records.ensures c.requires.layout).laid
-
-pub returns : goal.returns
-returns c =
-    let e = c.election-election.result.now in
-    let numbers = c.args.numbers.now in
-    let is = leaving e c.self.inside c.args.self.now numbers c.deref.result.now c.in_ok-records.records.items
-    c.args.cells.items c.self.view_is c.election-election.ensures.election c.self.invariant c.deref.ensures.value c.in_ok-records.ensures
-    c.requires.layout in
-    let set = is.set ∙ ap (λ (store : Contents). ballots_without store.ballots numbers) c.self.view_is in
-    IfOk-weaker c.kept.result _ _ (λ store same. same ∙ ap (λ bs. contents e bs) set ∙ ap (λ e. contents e (ballots_without c.args.self.now.ballots numbers)) c.election-election.ensures.election) c.kept.ensures.contents
+pub returns-clause-stored : goal.returns-clause-stored
+returns-clause-stored c = (invariant_of-self-2 c).stored

@@ -1,6 +1,11 @@
-use Rattle.body_store.specs.Contents.{ballots_of}
-use Rattle.store_spec.specs.Ballot.{numbers_of}
+use Rattle.std.proofs.Common.{drop}
 use Rattle.body_store.proofs.Closed.without.Given as goal
+use Rattle.body_store.specs.ByNumber.{by_number}
+use Rattle.body_store.specs.Held.{held_in, spelled_in}
+use Rattle.store_spec.specs.Election.{header_size}
 
-abbrev pub ghost-of_all : goal.ghost-of_all
-ghost-of_all a = numbers_of (ballots_of a.records.now)
+-- the ballots of before, and those of these that stand in the cells
+abbrev pub ghost-close : goal.ghost-close
+ghost-close a =
+    let old = by_number (spelled_in a.election.now a.old_cells.now (drop header_size a.image.now.items)) in
+    record { old = old; all = old; rest = held_in old a.cells.now }

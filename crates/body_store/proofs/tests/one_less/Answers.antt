@@ -17,8 +17,8 @@ without-requires g c =
     let held = blanks_stored store.election (1 ∷ 9 ∷ 14 ∷ []) store.ballots (search rules) stored.set (subst (λ (bs : List Ballot). IsPermutation bs store.ballots) were moved) in
     let laid : c.expect-cells.result.items ≡ cells_of e (ballots_of c.expect-two.result.items) = search rules in
     let two : ballots_of c.expect-two.result.items ≡ map blank (1 ∷ 14 ∷ []) = search rules in
-    let own : store.election ≡ e = search rules in
-    record {
-      layout = laid ∙ ap (cells_of e) two ∙ ap (λ bs. cells_of e (ballots_without bs (9 ∷ []))) (sym held)
-          ∙ ap (λ e. cells_of e (ballots_without store.ballots (9 ∷ []))) (sym own);
-    }
+    let own : store.election ≡ e = search rules in (
+      9 ∷ [],
+      laid ∙ ap (cells_of e) two ∙ ap (λ bs. cells_of e (ballots_without bs (9 ∷ []))) (sym held)
+          ∙ ap (λ e. cells_of e (ballots_without store.ballots (9 ∷ []))) (sym own),
+    )

@@ -44,10 +44,10 @@ open_both_gates-requires-clause-banks g c y is =
     let e = c.args.election.now in
     let store = c.in_ok-closed.closed in
     let own : e ≡ store.election = sym (ap (λ (s : Contents). s.election) c.in_ok-closed.ensures) in
-    let fits = stored_fits e store own c.make.ensures.stored in
+    let fits = stored_fits e store own c.image.ensures.stored in
     let image = image_of e store.ballots in
     let long : length (image ++ image) ≡ 2 * bank_size e = omega (arith, length-append image image, fits.long) in
-    let here = pages_begin (g.D.Disk.seen c.write_banks.new.disk) (g.D.Disk.seen c.look.new.disk) (image ++ image) 0 (2 * bank_size e) long (λ x _. omega arith) (both_made e store.ballots c.deref.result.now (g.D.Disk.seen c.write_banks.new.disk) (g.D.Disk.seen c.look.new.disk) (c.deref.ensures.value ∙ c.make.ensures.image ∙ ap (λ (s : Contents). image_of s.election store.ballots) c.in_ok-closed.ensures) c.in_ok-write_banks.ensures.written) y is in
+    let here = pages_begin (g.D.Disk.seen c.write_banks.new.disk) (g.D.Disk.seen c.look.new.disk) (image ++ image) 0 (2 * bank_size e) long (λ x _. omega arith) (both_made e store.ballots c.image.result.now (g.D.Disk.seen c.write_banks.new.disk) (g.D.Disk.seen c.look.new.disk) (c.image.ensures.image ∙ ap (λ (s : Contents). image_of s.election store.ballots) c.in_ok-closed.ensures) c.in_ok-write_banks.ensures.written) y is in
     omega (arith, here)
 
 pub returns-in_err-open_both_gates-clause-any_moment : goal.returns-in_err-open_both_gates-clause-any_moment
@@ -56,11 +56,11 @@ returns-in_err-open_both_gates-clause-any_moment g c bytes sees =
     let store = c.in_ok-closed.closed in
     let own : e ≡ store.election = sym (ap (λ (s : Contents). s.election) c.in_ok-closed.ensures) in
     let none : store.ballots ≡ [] = ap (λ (s : Contents). s.ballots) c.in_ok-closed.ensures in
-    let fits = stored_fits e store own c.make.ensures.stored in
+    let fits = stored_fits e store own c.image.ensures.stored in
     let image = image_of e store.ballots in
     let synced = c.in_ok-settle.ensures.same_bytes ∙ sees in
     let unused = told_holds (IsUnused e) bytes synced c.in_ok-look.ensures.unused in
-    let written = (both_made e store.ballots c.deref.result.now (g.D.Disk.seen c.write_banks.new.disk) (g.D.Disk.seen c.look.new.disk) (c.deref.ensures.value ∙ c.make.ensures.image ∙ ap (λ (s : Contents). image_of s.election store.ballots) c.in_ok-closed.ensures) c.in_ok-write_banks.ensures.written) ∙ ap (option_map (overwritten 0 (image ++ image))) (c.look.ensures.same_bytes ∙ synced) in
+    let written = (both_made e store.ballots c.image.result.now (g.D.Disk.seen c.write_banks.new.disk) (g.D.Disk.seen c.look.new.disk) (c.image.ensures.image ∙ ap (λ (s : Contents). image_of s.election store.ballots) c.in_ok-closed.ensures) c.in_ok-write_banks.ensures.written) ∙ ap (option_map (overwritten 0 (image ++ image))) (c.look.ensures.same_bytes ∙ synced) in
     inl (synced_first g.D.Disk.calls g.D.Disk.may_leave c.args.disk.now c.settle.new.disk c.open_both_gates.new.disk (IsUntouchedOrNew e bytes) c.settle.ensures.crash_images
     (run_opening g.D.Disk.calls g.D.Disk.may_leave e bytes c.settle.new.disk c.write_banks.new.disk c.open_both_gates.new.disk store.ballots none fits unused
     (run_writing g.D.Disk.calls g.D.Disk.may_leave e bytes c.settle.new.disk c.look.new.disk c.write_banks.new.disk unused
@@ -73,12 +73,12 @@ returns-clause-medium g c =
     let store = c.in_ok-closed.closed in
     let own : e ≡ store.election = sym (ap (λ (s : Contents). s.election) c.in_ok-closed.ensures) in
     let none : store.ballots ≡ [] = ap (λ (s : Contents). s.ballots) c.in_ok-closed.ensures in
-    let fits = stored_fits e store own c.make.ensures.stored in
+    let fits = stored_fits e store own c.image.ensures.stored in
     let image = image_of e store.ballots in
     let same = c.look.ensures.same_bytes ∙ c.in_ok-settle.ensures.same_bytes in
     made_told e (g.D.Disk.seen c.open_both_gates.new.disk) (g.D.Disk.seen c.write_banks.new.disk) (g.D.Disk.seen c.args.disk.now) store.ballots none fits
     (subst (λ o. IfSome o (IsUnused e)) c.in_ok-settle.ensures.same_bytes c.in_ok-look.ensures.unused)
-    ((both_made e store.ballots c.deref.result.now (g.D.Disk.seen c.write_banks.new.disk) (g.D.Disk.seen c.look.new.disk) (c.deref.ensures.value ∙ c.make.ensures.image ∙ ap (λ (s : Contents). image_of s.election store.ballots) c.in_ok-closed.ensures) c.in_ok-write_banks.ensures.written) ∙ ap (option_map (overwritten 0 (image ++ image))) same)
+    ((both_made e store.ballots c.image.result.now (g.D.Disk.seen c.write_banks.new.disk) (g.D.Disk.seen c.look.new.disk) (c.image.ensures.image ∙ ap (λ (s : Contents). image_of s.election store.ballots) c.in_ok-closed.ensures) c.in_ok-write_banks.ensures.written) ∙ ap (option_map (overwritten 0 (image ++ image))) same)
     c.in_ok-open_both_gates.ensures.written
 
 pub returns-clause-any_moment : goal.returns-clause-any_moment
@@ -87,11 +87,11 @@ returns-clause-any_moment g c bytes sees =
     let store = c.in_ok-closed.closed in
     let own : e ≡ store.election = sym (ap (λ (s : Contents). s.election) c.in_ok-closed.ensures) in
     let none : store.ballots ≡ [] = ap (λ (s : Contents). s.ballots) c.in_ok-closed.ensures in
-    let fits = stored_fits e store own c.make.ensures.stored in
+    let fits = stored_fits e store own c.image.ensures.stored in
     let image = image_of e store.ballots in
     let synced = c.in_ok-settle.ensures.same_bytes ∙ sees in
     let unused = told_holds (IsUnused e) bytes synced c.in_ok-look.ensures.unused in
-    let written = (both_made e store.ballots c.deref.result.now (g.D.Disk.seen c.write_banks.new.disk) (g.D.Disk.seen c.look.new.disk) (c.deref.ensures.value ∙ c.make.ensures.image ∙ ap (λ (s : Contents). image_of s.election store.ballots) c.in_ok-closed.ensures) c.in_ok-write_banks.ensures.written) ∙ ap (option_map (overwritten 0 (image ++ image))) (c.look.ensures.same_bytes ∙ synced) in
+    let written = (both_made e store.ballots c.image.result.now (g.D.Disk.seen c.write_banks.new.disk) (g.D.Disk.seen c.look.new.disk) (c.image.ensures.image ∙ ap (λ (s : Contents). image_of s.election store.ballots) c.in_ok-closed.ensures) c.in_ok-write_banks.ensures.written) ∙ ap (option_map (overwritten 0 (image ++ image))) (c.look.ensures.same_bytes ∙ synced) in
     inl (synced_first g.D.Disk.calls g.D.Disk.may_leave c.args.disk.now c.settle.new.disk c.open_both_gates.new.disk (IsUntouchedOrNew e bytes) c.settle.ensures.crash_images
     (run_opening g.D.Disk.calls g.D.Disk.may_leave e bytes c.settle.new.disk c.write_banks.new.disk c.open_both_gates.new.disk store.ballots none fits unused
     (run_writing g.D.Disk.calls g.D.Disk.may_leave e bytes c.settle.new.disk c.look.new.disk c.write_banks.new.disk unused

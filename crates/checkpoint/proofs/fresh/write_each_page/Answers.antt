@@ -1,4 +1,5 @@
-use Rattle.std.proofs.Common.{◌+◌, ◌*◌, ◌≤◌, length, ◌∙◌, arith}
+use Rattle.std.proofs.Common.{◌+◌, ◌*◌, ◌≤◌, length, ◌∙◌, arith, refl, rules}
+use Rattle.std.proofs.lemmas.Grind.{common_steps}
 use Rattle.bank_medium.specs.Banks.{bank_named, place_of}
 use Rattle.std.specs.Prelude.{slice_range}
 use Rattle.checkpoint.proofs.Pages.{page_long, page_next, whole_pages}
@@ -17,6 +18,9 @@ returns-in_err-write_page-clause-any_moment g c =
     let long = page_long c.args.made.now at count (omega (arith, c.min-count.ensures, c.loop-at-test.true)) in
     let within : p + at + k ≤ 2 * bank_size e = omega (arith, long, c.requires.whole, c.min-count.ensures, c.loop-at-test.true, bank_ends e (bank_named c.args.bank)) in
     run_page g.D.Disk.calls g.D.Disk.may_leave e c.args.disk.now c.loop-at.disk c.write_page.new.disk (p + at) k within c.loop-at.invariant.unused c.write_page.ensures.crash_images
+
+pub loop-at-init : goal.loop-at-init
+loop-at-init g c = record { few = omega arith; written = grind (arith, common_steps); unused = search rules; no_fault = refl }
 
 pub loop-at-preserved : goal.loop-at-preserved
 loop-at-preserved g c =

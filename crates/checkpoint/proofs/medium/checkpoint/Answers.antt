@@ -21,19 +21,19 @@ given store e seen own medium = subst (λ (e : Election). ForSome seen (λ bytes
 
 pub renew_bank-requires-clause-size : goal.renew_bank-requires-clause-size
 renew_bank-requires-clause-size g c =
-    let fits = stored_fits c.election-election.result.now c.args.closed.now c.election-election.ensures.election c.make.ensures.stored in
+    let fits = stored_fits c.election-election.result.now c.args.closed.now c.election-election.ensures.election c.election-election.ensures.stored in
     medium_long c.election-election.result.now c.args.closed.now.ballots (g.D.Disk.seen c.args.disk.now) fits (given c.args.closed.now c.election-election.result.now (g.D.Disk.seen c.args.disk.now) c.election-election.ensures.election c.requires.medium)
 
 pub renew_bank-requires-clause-opened : goal.renew_bank-requires-clause-opened
 renew_bank-requires-clause-opened g c =
-    let fits = stored_fits c.election-election.result.now c.args.closed.now c.election-election.ensures.election c.make.ensures.stored in
+    let fits = stored_fits c.election-election.result.now c.args.closed.now c.election-election.ensures.election c.election-election.ensures.stored in
     medium_open c.election-election.result.now c.args.closed.now.ballots (g.D.Disk.seen c.args.disk.now) fits (given c.args.closed.now c.election-election.result.now (g.D.Disk.seen c.args.disk.now) c.election-election.ensures.election c.requires.medium) B
 
 pub returns-in_err-renew_bank-clause-any_moment : goal.returns-in_err-renew_bank-clause-any_moment
 returns-in_err-renew_bank-clause-any_moment g c bytes old sees was =
     let e = c.election-election.result.now in
-    let fits = stored_fits e c.args.closed.now c.election-election.ensures.election c.make.ensures.stored in
-    let is = c.as_slice-made.ensures.value ∙ c.make.ensures.image ∙ ap (λ e. image_of e c.args.closed.now.ballots) (sym c.election-election.ensures.election) in
+    let fits = stored_fits e c.args.closed.now c.election-election.ensures.election c.election-election.ensures.stored in
+    let is = c.image-made.ensures.image ∙ ap (λ e. image_of e c.args.closed.now.ballots) (sym c.election-election.ensures.election) in
     let half = subst (λ (xs : List ℕ). LeavesOnly g.D.Disk.calls g.D.Disk.may_leave c.args.disk.now c.renew_bank.new.disk (IsHalfRenewed e B xs bytes)) is (c.renew_bank.ensures.any_moment bytes sees) in
     let own = c.election-election.ensures.election in
     let Either : Election → List ℕ → Type 0 = λ e now. HoldsSet e now old ⊎ HoldsSet e now c.args.closed.now.ballots in
@@ -43,16 +43,16 @@ returns-in_err-renew_bank-clause-any_moment g c bytes old sees was =
 pub renew_bank-requires-2-clause-size : goal.renew_bank-requires-2-clause-size
 renew_bank-requires-2-clause-size g c =
     let e = c.election-election.result.now in
-    let fits = stored_fits e c.args.closed.now c.election-election.ensures.election c.make.ensures.stored in
-    let is = c.as_slice-made.ensures.value ∙ c.make.ensures.image ∙ ap (λ e. image_of e c.args.closed.now.ballots) (sym c.election-election.ensures.election) in
+    let fits = stored_fits e c.args.closed.now c.election-election.ensures.election c.election-election.ensures.stored in
+    let is = c.image-made.ensures.image ∙ ap (λ e. image_of e c.args.closed.now.ballots) (sym c.election-election.ensures.election) in
     let one = subst (λ (xs : List ℕ). IfTold (g.D.Disk.seen c.args.disk.now) (g.D.Disk.seen c.renew_bank.new.disk) (IsRenewed e B xs)) is c.in_ok-renew_bank.ensures.renewed in
     mid_long e c.args.closed.now.ballots (g.D.Disk.seen c.args.disk.now) fits (given c.args.closed.now c.election-election.result.now (g.D.Disk.seen c.args.disk.now) c.election-election.ensures.election c.requires.medium) (g.D.Disk.seen c.renew_bank.new.disk) one
 
 pub renew_bank-requires-2-clause-opened : goal.renew_bank-requires-2-clause-opened
 renew_bank-requires-2-clause-opened g c =
     let e = c.election-election.result.now in
-    let fits = stored_fits e c.args.closed.now c.election-election.ensures.election c.make.ensures.stored in
-    let is = c.as_slice-made.ensures.value ∙ c.make.ensures.image ∙ ap (λ e. image_of e c.args.closed.now.ballots) (sym c.election-election.ensures.election) in
+    let fits = stored_fits e c.args.closed.now c.election-election.ensures.election c.election-election.ensures.stored in
+    let is = c.image-made.ensures.image ∙ ap (λ e. image_of e c.args.closed.now.ballots) (sym c.election-election.ensures.election) in
     let one = subst (λ (xs : List ℕ). IfTold (g.D.Disk.seen c.args.disk.now) (g.D.Disk.seen c.renew_bank.new.disk) (IsRenewed e B xs)) is c.in_ok-renew_bank.ensures.renewed in
     mid_open e c.args.closed.now.ballots (g.D.Disk.seen c.args.disk.now) fits (given c.args.closed.now c.election-election.result.now (g.D.Disk.seen c.args.disk.now) c.election-election.ensures.election c.requires.medium) (g.D.Disk.seen c.renew_bank.new.disk) one
 
@@ -60,8 +60,8 @@ pub returns-clause-medium : goal.returns-clause-medium
 returns-clause-medium g c =
     let e = c.election-election.result.now in
     let new = c.args.closed.now.ballots in
-    let fits = stored_fits e c.args.closed.now c.election-election.ensures.election c.make.ensures.stored in
-    let is = c.as_slice-made.ensures.value ∙ c.make.ensures.image ∙ ap (λ e. image_of e c.args.closed.now.ballots) (sym c.election-election.ensures.election) in
+    let fits = stored_fits e c.args.closed.now c.election-election.ensures.election c.election-election.ensures.stored in
+    let is = c.image-made.ensures.image ∙ ap (λ e. image_of e c.args.closed.now.ballots) (sym c.election-election.ensures.election) in
     let one = subst (λ (xs : List ℕ). IfTold (g.D.Disk.seen c.args.disk.now) (g.D.Disk.seen c.renew_bank.new.disk) (IsRenewed e B xs)) is c.in_ok-renew_bank.ensures.renewed in
     let two = subst (λ (xs : List ℕ). OnOk c.renew_bank-2.result (IfTold (g.D.Disk.seen c.renew_bank.new.disk) (g.D.Disk.seen c.renew_bank-2.new.disk) (IsRenewed e A xs))) is c.renew_bank-2.ensures.renewed in
     subst (λ (e : Election). OnOk c.renew_bank-2.result (IfTold (g.D.Disk.seen c.args.disk.now) (g.D.Disk.seen c.renew_bank-2.new.disk) (λ _ bytes. IsMediumOf e bytes new))) c.election-election.ensures.election
@@ -72,8 +72,8 @@ pub returns-clause-any_moment : goal.returns-clause-any_moment
 returns-clause-any_moment g c bytes old sees was =
     let e = c.election-election.result.now in
     let new = c.args.closed.now.ballots in
-    let fits = stored_fits e c.args.closed.now c.election-election.ensures.election c.make.ensures.stored in
-    let is = c.as_slice-made.ensures.value ∙ c.make.ensures.image ∙ ap (λ e. image_of e c.args.closed.now.ballots) (sym c.election-election.ensures.election) in
+    let fits = stored_fits e c.args.closed.now c.election-election.ensures.election c.election-election.ensures.stored in
+    let is = c.image-made.ensures.image ∙ ap (λ e. image_of e c.args.closed.now.ballots) (sym c.election-election.ensures.election) in
     let one = subst (λ (xs : List ℕ). IfTold (g.D.Disk.seen c.args.disk.now) (g.D.Disk.seen c.renew_bank.new.disk) (IsRenewed e B xs)) is c.in_ok-renew_bank.ensures.renewed in
     let between = told_back (g.D.Disk.seen c.renew_bank.new.disk) (g.D.Disk.seen c.args.disk.now) bytes (sym one.told) sees in
     let first = subst (λ (xs : List ℕ). LeavesOnly g.D.Disk.calls g.D.Disk.may_leave c.args.disk.now c.renew_bank.new.disk (IsHalfRenewed e B xs bytes)) is (c.renew_bank.ensures.any_moment bytes sees) in

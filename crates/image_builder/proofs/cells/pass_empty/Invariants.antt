@@ -1,15 +1,15 @@
-use Rattle.std.proofs.Common.{◌≡◌, ◌≤◌, ◌++◌, length}
+use Rattle.std.proofs.Common.{◌≡◌, ◌-◌, ◌≤◌, length}
 use Rattle.image_builder.proofs.cells.pass_empty.Given as goal
-use Rattle.image_builder.specs.Cells.{AreKept, HasSpace, kept_front}
+use Rattle.image_builder.specs.Cells.{HasSpace, IsRead, end_read}
 
--- the cells so far, and the bytes behind them
-abbrev pub invariant-loop-rest : goal.invariant-loop-rest
-invariant-loop-rest l = record {
-  kept : AreKept l.election l.cells;
+-- the cells so far, and where they end
+abbrev pub invariant-loop-at : goal.invariant-loop-at
+invariant-loop-at l = record {
+  read : IsRead l.election l.cells l.bank;
   wide : HasSpace l.election l.cells;
-  joined : kept_front l.election l.cells ++ l.rest ≡ kept_front l.election l.fn.cells ++ l.bytes;
-  shorter : length l.rest ≤ length l.bytes;
+  end : l.at ≡ end_read l.election l.cells;
+  onward : end_read l.election l.fn.cells ≤ l.at;
 }
 
-abbrev pub decreases-loop-rest : goal.decreases-loop-rest
-decreases-loop-rest l = length l.rest
+abbrev pub decreases-loop-at : goal.decreases-loop-at
+decreases-loop-at l = length l.bank - l.at

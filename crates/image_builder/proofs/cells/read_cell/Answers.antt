@@ -1,21 +1,28 @@
-use Rattle.std.proofs.Common.{◌≡◌, ℕ, ◌++◌, length, replicate, ap, subst, ◌∙◌, arith}
-use Rattle.image_builder.proofs.FirstCells.{empty_put}
+use Rattle.std.proofs.Common.{◌≡◌, ℕ, ◌+◌, ◌-◌, List, ◌∷◌, [], ◌++◌, length, replicate, take, drop, sym, ap, subst, ◌∙◌, arith}
+use Rattle.std.proofs.lemmas.List.{length_push}
+use Rattle.body_store.proofs.Keeping.{few_cells}
+use Rattle.image_builder.proofs.FirstCells.{empty_next}
+use Rattle.image_builder.proofs.Judged.{first_next, one_is}
 use Rattle.image_builder.proofs.cells.read_cell.Goals as goal
-use Rattle.image_builder.specs.Cells.{IsRefusedAt, kept_front, numbers_read}
-use Rattle.image_builder.specs.declared.read.ImageFault.TheVariants.{Damaged}
+use Rattle.image_builder.specs.Cells.{AreFirst, ballots_at, numbers_read}
+use Rattle.store_spec.specs.Election.{cell_size}
 
-pub returns-then-is_empty-clause-kept : goal.returns-then-is_empty-clause-kept
-returns-then-is_empty-clause-kept c =
-    let next = empty_put c.args.election.now c.args.cells.now c.push_reserved.new.self.items c.args.bytes.now c.requires.election c.requires.kept (c.is_empty.ensures c.if-is_empty.true ∙ ap (λ n. replicate n 0) c.requires.size) c.push_reserved.ensures.items in
-    next.cells
-
-pub returns-then-is_empty-clause-fed : goal.returns-then-is_empty-clause-fed
-returns-then-is_empty-clause-fed c =
-    let next = empty_put c.args.election.now c.args.cells.now c.push_reserved.new.self.items c.args.bytes.now c.requires.election c.requires.kept (c.is_empty.ensures c.if-is_empty.true ∙ ap (λ n. replicate n 0) c.requires.size) c.push_reserved.ensures.items in
-    next.fed
-
-pub returns-else-read_right_cell-clause-refused : goal.returns-else-read_right_cell-clause-refused
-returns-else-read_right_cell-clause-refused c =
+pub returns-then-is_empty-clause-read : goal.returns-then-is_empty-clause-read
+returns-then-is_empty-clause-read c =
     let e = c.args.election.now in
-    let at : length (numbers_read c.args.cells.now) ≡ c.len-place.result = omega (arith, c.len-place.ensures) in
-    subst (λ (place : ℕ). IsRefusedAt e (kept_front e c.args.cells.now ++ c.args.bytes.now) (Damaged place)) at (c.read_right_cell.ensures.refused c.if-read_right_cell.false)
+    let bank = c.args.bank.now in
+    let numbers = numbers_read c.args.cells.now in
+    let reaches = c.args.cells.now.reaches.items in
+    let ballots = ballots_at e numbers bank in
+    let bytes = take (c.args.at + c.cell_bytes.result - c.args.at) (drop c.args.at bank) in
+    let is = one_is e numbers reaches bank c.args.at c.cell_bytes.result c.requires.read c.requires.at c.requires.whole c.requires.within c.cell_bytes.ensures.size in
+    let long : length bytes ≡ cell_size e = omega (arith, is.long) in
+    let next = empty_next e numbers reaches ballots bytes c.requires.election c.requires.read.cells long (c.is_empty.ensures c.if-is_empty.true ∙ ap (λ n. replicate n 0) long) in
+    subst (λ (ns : List ℕ). AreFirst e ns reaches bank) (sym c.push_reserved.ensures.items)
+    (first_next e numbers reaches bank bytes (numbers ++ 0 ∷ []) reaches ballots 1 c.requires.election c.requires.read is (omega (arith, c.requires.whole, c.requires.at)) (length_push numbers 0) next)
+
+pub overflow_cast-result : goal.overflow_cast-result
+overflow_cast-result c =
+    let e = c.args.election.now in
+    let is = one_is e (numbers_read c.args.cells.now) c.args.cells.now.reaches.items c.args.bank.now c.args.at c.cell_bytes.result c.requires.read c.requires.at c.requires.whole c.requires.within c.cell_bytes.ensures.size in
+    omega (arith, is.room, few_cells e c.requires.election, c.len-place.ensures)

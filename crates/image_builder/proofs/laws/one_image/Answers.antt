@@ -1,4 +1,4 @@
-use Rattle.image_builder.proofs.Listings.{image_of-members}
+use Rattle.body_store.proofs.Listings.{image_of-members}
 use Rattle.image_builder.proofs.laws.one_image.Goals as goal
 
 pub returns : goal.returns

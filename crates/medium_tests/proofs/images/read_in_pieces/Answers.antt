@@ -1,11 +1,15 @@
-use Rattle.std.proofs.Common.{◌≡◌, ◌++◌, List, ℕ, length, take, sym, ap, subst, ◌∙◌, refl, arith}
+use Rattle.std.proofs.Common.{◌≡◌, ◌++◌, List, ℕ, length, drop, take, sym, ap, subst, ◌∙◌, refl, arith}
 use Rattle.std.proofs.lemmas.Grind.{common_steps}
-use Rattle.std.proofs.lemmas.List.{append-nil, length-append, take_all, take_at}
+use Rattle.std.proofs.lemmas.List.{append-nil, append_assoc, length-append, take-append-drop, take_all, take_at}
 use Rattle.std.proofs.lemmas.Result.{err_from_is_err_and}
-use Rattle.image_builder.proofs.FirstCells.{parted}
 use Rattle.medium_tests.proofs.images.read_in_pieces.Goals as goal
 use Rattle.image_builder.specs.Reading.{IsRefusedBank}
 use Rattle.store_spec.specs.Image.{IsImageOf}
+
+-- a list that is parted in two
+parted : (front rest first last : List ℕ) (n : ℕ) → first ≡ take n rest → last ≡ drop n rest → (front ++ first) ++ last ≡ front ++ rest
+parted front rest first last n is_first is_last =
+    append_assoc front first last ∙ ap (λ bytes. front ++ (bytes ++ last)) is_first ∙ ap (λ bytes. front ++ (take n rest ++ bytes)) is_last ∙ ap (λ bytes. front ++ bytes) (take-append-drop n rest)
 
 pub returns-in_err-reader-3-clause-refused : goal.returns-in_err-reader-3-clause-refused
 returns-in_err-reader-3-clause-refused c =

@@ -1,5 +1,4 @@
-use Rattle.std.proofs.Common.{◌≡◌, ℕ, List, Option, Some, drop, length, sym, subst, ◌∙◌}
-use Rattle.std.proofs.lemmas.List.{take_at}
+use Rattle.std.proofs.Common.{◌≡◌, ℕ, List, Option, Some, sym, subst, ap, ◌∙◌}
 use Rattle.bank_medium.specs.Banks.{bank_named}
 use Rattle.outside_io.proofs.Told.{told_holds}
 use Rattle.outside_io.specs.Told.{IfTold}
@@ -13,14 +12,19 @@ use Rattle.recovery.proofs.Paging.{stored_election}
 use Rattle.recovery.proofs.Runs.{looked, restored_told}
 use Rattle.recovery.proofs.restoring.restore.Goals as goal
 use Rattle.recovery.specs.Canonical.{IsReadAs}
-use Rattle.store_spec.specs.Ballot.{Ballot}
+use Rattle.body_store.specs.Contents.{Contents, IsStored}
+use Rattle.store_spec.specs.Ballot.{IsBallotSet, IsWithinLimit}
 use Rattle.store_spec.specs.Election.{Election}
-use Rattle.store_spec.specs.Image.{IsImageOf}
+use Rattle.store_spec.specs.Image.{IsImageOf, image_of}
 use Rattle.store_spec.specs.Medium.{IsMediumOf}
 
--- the bytes that were read are kept
-kept_image : (e : Election) (set : List Ballot) (made kept : List ℕ) → kept ≡ made → IsImageOf e made set → IsImageOf e kept set
-kept_image e set made kept same image = subst (λ (xs : List ℕ). IsImageOf e xs set) (sym same) image
+-- what a store shows is the image of its set
+shown_image : (e : Election) (store : Contents) (image : List ℕ) → store.election ≡ e → IsStored store → image ≡ image_of store.election store.ballots → IsImageOf e image store.ballots
+shown_image e store image same stored is = record {
+  set = subst (λ (e : Election). IsBallotSet e store.ballots) same stored.set;
+  within_limit = subst (λ (e : Election). IsWithinLimit e store.ballots) same stored.within_limit;
+  bytes = is ∙ ap (λ e. image_of e store.ballots) same;
+}
 
 pub make_canonical-requires-clause-election : goal.make_canonical-requires-clause-election
 make_canonical-requires-clause-election g c = stored_election c.args.election.now c.in_ok-closed.closed (sym c.in_ok-closed.ensures.election) c.in_ok-closed.ensures.stored
@@ -34,14 +38,14 @@ pub make_canonical-requires-clause-bytes : goal.make_canonical-requires-clause-b
 make_canonical-requires-clause-bytes g c bytes is =
     let bank = bank_named c.in_ok-bank.bank in
     let read = told_holds (λ x. IsReadAs c.args.election.now x bank c.in_ok-closed.closed.ballots) bytes (sym c.read_bank.ensures.reads.same_bytes ∙ is) c.in_ok-closed.ensures.read in
-    read.image.bytes ∙ sym c.in_ok-closed.ensures.image.bytes ∙ sym (c.deref.ensures.value ∙ take_at c.read_bank.new.made (drop (length c.read_bank.new.made) c.fit.new.self.made.items) c.fit.new.self.made.len (c.read_bank.auto.made ∙ c.deref_mut.ensures.len))
+    read.image.bytes ∙ ap (λ e. image_of e c.in_ok-closed.closed.ballots) (sym c.in_ok-closed.ensures.election) ∙ sym c.image.ensures.image
 
 pub returns-in_err-make_canonical-clause-any_moment : goal.returns-in_err-make_canonical-clause-any_moment
 returns-in_err-make_canonical-clause-any_moment g c bytes sees =
     let e = c.args.election.now in
     let election = stored_election e c.in_ok-closed.closed (sym c.in_ok-closed.ensures.election) c.in_ok-closed.ensures.stored in
     restored_told g.D.Disk.seen g.D.Disk.calls g.D.Disk.may_leave e c.in_ok-closed.closed.ballots election c.args.disk.now c.choose.new.disk c.read_bank.new.disk c.make_canonical.new.disk (bank_named c.in_ok-bank.bank) bytes
-    c.requires c.choose.ensures.reads c.read_bank.ensures.reads sees c.in_ok-closed.ensures.read (λ x is. c.make_canonical.ensures.any_moment x c.in_ok-closed.closed.ballots is (kept_image c.args.election.now c.in_ok-closed.closed.ballots c.read_bank.new.made c.deref.result.now (c.deref.ensures.value ∙ take_at c.read_bank.new.made (drop (length c.read_bank.new.made) c.fit.new.self.made.items) c.fit.new.self.made.len (c.read_bank.auto.made ∙ c.deref_mut.ensures.len)) c.in_ok-closed.ensures.image))
+    c.requires c.choose.ensures.reads c.read_bank.ensures.reads sees c.in_ok-closed.ensures.read (λ x is. c.make_canonical.ensures.any_moment x c.in_ok-closed.closed.ballots is (shown_image c.args.election.now c.in_ok-closed.closed c.image.result.now c.in_ok-closed.ensures.election c.in_ok-closed.ensures.stored c.image.ensures.image))
 
 pub returns-in_err-make_canonical-clause-canonical : goal.returns-in_err-make_canonical-clause-canonical
 returns-in_err-make_canonical-clause-canonical g c bytes set sees medium =
@@ -52,14 +56,14 @@ pub returns-clause-medium : goal.returns-clause-medium
 returns-clause-medium g c =
     let e = c.args.election.now in
     let reads = looked g.D.Disk.seen g.D.Disk.calls g.D.Disk.may_leave c.args.disk.now c.choose.new.disk c.read_bank.new.disk c.requires c.choose.ensures.reads c.read_bank.ensures.reads in
-    subst (λ (o : Option (List ℕ)). IfTold o (g.D.Disk.seen c.make_canonical.new.disk) (λ _ y. IsMediumOf e y c.in_ok-closed.closed.ballots)) reads.same_bytes (c.in_ok-make_canonical.ensures.medium c.in_ok-closed.closed.ballots (kept_image e c.in_ok-closed.closed.ballots c.read_bank.new.made c.deref.result.now (c.deref.ensures.value ∙ take_at c.read_bank.new.made (drop (length c.read_bank.new.made) c.fit.new.self.made.items) c.fit.new.self.made.len (c.read_bank.auto.made ∙ c.deref_mut.ensures.len)) c.in_ok-closed.ensures.image))
+    subst (λ (o : Option (List ℕ)). IfTold o (g.D.Disk.seen c.make_canonical.new.disk) (λ _ y. IsMediumOf e y c.in_ok-closed.closed.ballots)) reads.same_bytes (c.in_ok-make_canonical.ensures.medium c.in_ok-closed.closed.ballots (shown_image e c.in_ok-closed.closed c.image.result.now c.in_ok-closed.ensures.election c.in_ok-closed.ensures.stored c.image.ensures.image))
 
 pub returns-clause-any_moment : goal.returns-clause-any_moment
 returns-clause-any_moment g c bytes sees =
     let e = c.args.election.now in
     let election = stored_election e c.in_ok-closed.closed (sym c.in_ok-closed.ensures.election) c.in_ok-closed.ensures.stored in
     restored_told g.D.Disk.seen g.D.Disk.calls g.D.Disk.may_leave e c.in_ok-closed.closed.ballots election c.args.disk.now c.choose.new.disk c.read_bank.new.disk c.make_canonical.new.disk (bank_named c.in_ok-bank.bank) bytes
-    c.requires c.choose.ensures.reads c.read_bank.ensures.reads sees c.in_ok-closed.ensures.read (λ x is. c.make_canonical.ensures.any_moment x c.in_ok-closed.closed.ballots is (kept_image c.args.election.now c.in_ok-closed.closed.ballots c.read_bank.new.made c.deref.result.now (c.deref.ensures.value ∙ take_at c.read_bank.new.made (drop (length c.read_bank.new.made) c.fit.new.self.made.items) c.fit.new.self.made.len (c.read_bank.auto.made ∙ c.deref_mut.ensures.len)) c.in_ok-closed.ensures.image))
+    c.requires c.choose.ensures.reads c.read_bank.ensures.reads sees c.in_ok-closed.ensures.read (λ x is. c.make_canonical.ensures.any_moment x c.in_ok-closed.closed.ballots is (shown_image c.args.election.now c.in_ok-closed.closed c.image.result.now c.in_ok-closed.ensures.election c.in_ok-closed.ensures.stored c.image.ensures.image))
 
 pub returns-clause-canonical : goal.returns-clause-canonical
 returns-clause-canonical g c bytes set sees medium =
@@ -87,4 +91,4 @@ returns-in_err-make_canonical-clause-unharmed g c =
     DiskFault c.from_residual-in_err-make_canonical.ensures.1
     (λ bytes sees. half_restored model e bytes c.in_ok-closed.closed.ballots c.args.disk.now c.choose.new.disk c.read_bank.new.disk c.make_canonical.new.disk (bank_named c.in_ok-bank.bank)
     c.choose.ensures.reads c.read_bank.ensures.reads sees c.in_ok-closed.ensures.read (λ x is. c.make_canonical.ensures.any_moment x c.in_ok-closed.closed.ballots is
-    (kept_image e c.in_ok-closed.closed.ballots c.read_bank.new.made c.deref.result.now (c.deref.ensures.value ∙ take_at c.read_bank.new.made (drop (length c.read_bank.new.made) c.fit.new.self.made.items) c.fit.new.self.made.len (c.read_bank.auto.made ∙ c.deref_mut.ensures.len)) c.in_ok-closed.ensures.image)))
+    (shown_image e c.in_ok-closed.closed c.image.result.now c.in_ok-closed.ensures.election c.in_ok-closed.ensures.stored c.image.ensures.image)))

@@ -1,38 +1,58 @@
-use Rattle.std.proofs.Common.{◌≡◌, ℕ, ◌+◌, ◌<◌, List, [], ◌∷◌, ◌++◌, Bor, drop, get_or, length, map, Option, ap, subst, sym, ◌∙◌, arith}
-use Rattle.std.proofs.lemmas.List.{length-map}
+use Rattle.std.proofs.Common.{◌≡◌, ℕ, ◌+◌, List, [], ◌∷◌, ◌++◌, drop, map, Option, ap, subst, sym, ◌∙◌, arith}
 use Rattle.ballot_record.specs.Record.{ballot}
-use Rattle.ballot_record.specs.declared.record.Record.{Record}
+use Rattle.body_store.specs.Contents.{Contents, IsStored}
+use Rattle.body_store.specs.Places.{AreAt}
+use Rattle.body_store.specs.declared.lookup.Place.{Place}
 use Rattle.outside_io.specs.Stream.{TakesAll, TakesSome}
-use Rattle.store_spec.specs.Ballot.{Ballot}
+use Rattle.store_spec.specs.Ballot.{Ballot, numbers_of}
+use Rattle.store_spec.specs.BallotLine.{record_line}
+use Rattle.store_spec.specs.Election.{Election}
+use Rattle.store_spec.specs.Image.{cells_of}
+use Rattle.store_spec.specs.Input.{line_end}
 use Rattle.store_spec.specs.Report.{export_text}
-use Rattle.tally_export.proofs.Writing.{IsWritten, all_written, ballot_gathered, front_written, gathered_written, lines_left, listed_at, no_line_left, on_failure, some_written, valid_at}
+use Rattle.tally_export.proofs.Listed.{IsListed, as_many, cell_within, next_found, some_found}
+use Rattle.tally_export.proofs.Writing.{IsWritten, all_written, ballot_gathered, front_written, gathered_written, lines_left, no_line_left, on_failure, some_written, valid_at}
 use Rattle.tally_export.proofs.lines.export.Goals as goal
 use Rattle.tally_export.proofs.lines.export.Goals.{then-len-gt-FULL+in_ok-write_all, else-len-gt-FULL}
-use Rattle.store_spec.specs.BallotLine.{record_line}
-use Rattle.store_spec.specs.Input.{line_end}
 
-abbrev nobody : Bor Record
-nobody = record { ref_ptr = (0, 0); now = record { number = 0; style = 0; marks = [] } }
+-- the places are listed as they were returned
+listed : (store : Contents) (places : List Place) (held : List Place) → places ≡ held → IsStored store
+    → map (λ place. place.number) held ≡ numbers_of store.ballots → AreAt (cells_of store.election store.ballots) held
+    → IsListed store places
+listed store places held same stored numbers cells =
+    subst (λ (places : List Place). IsListed store places) (sym same) (record { stored = stored; numbers = numbers; cells = cells })
 
--- the ballot of the record at a place in the list
-abbrev ballot_at : List (Bor Record) → ℕ → Ballot
-ballot_at listed i = ballot (get_or listed i nobody).now
+-- the line of a ballot was put, as the store's election has it
+line_put : (own e : Election) (text more : List ℕ) (b : Ballot) → own ≡ e → more ≡ text ++ (record_line own b ++ line_end ∷ [])
+    → more ≡ text ++ (record_line e b ++ line_end ∷ [])
+line_put own e text more b same put = put ∙ ap (λ e. text ++ (record_line e b ++ line_end ∷ [])) same
 
-next_ballot : (listed held : List (Bor Record)) (ballots : List Ballot) (i : ℕ) → listed ≡ held
-    → map (λ held. ballot held.now) held ≡ ballots → i < length listed
-    → (i < length ballots) × (get_or ballots i (ballot_at listed i) ≡ ballot_at listed i)
-next_ballot listed held ballots i same are within =
-    listed_at (λ held. ballot held.now) listed ballots i nobody (ap (map (λ held. ballot held.now)) same ∙ are) within
+pub ballot_in-record-requires-clause-within : goal.ballot_in-record-requires-clause-within
+ballot_in-record-requires-clause-within g c =
+    let store = c.args.closed.now in
+    let places = c.deref-place-items.result.now in
+    let known = c.in_ok-places.ensures in
+    let is = listed store places c.in_ok-places.places.items c.deref-place-items.ensures.value known.stored known.numbers known.cells in
+    cell_within store places c.records.place-index is (omega arith)
+
+pub ballot_in-record-requires-clause-some : goal.ballot_in-record-requires-clause-some
+ballot_in-record-requires-clause-some g c =
+    let store = c.args.closed.now in
+    let places = c.deref-place-items.result.now in
+    let known = c.in_ok-places.ensures in
+    let is = listed store places c.in_ok-places.places.items c.deref-place-items.ensures.value known.stored known.numbers known.cells in
+    some_found store places c.records.place-index is (omega arith)
 
 pub put_ballot-requires : goal.put_ballot-requires
 put_ballot-requires g c =
-    let closed = c.args.closed.now in
-    let listed = c.deref-record-items.result.now in
-    valid_at c.election-election.result.now closed.election closed.ballots c.records.record-index
-    (ballot_at listed c.records.record-index)
-    (sym c.election-election.ensures.election) c.in_ok-listed.ensures.stored.set.valid
-    (next_ballot listed c.in_ok-listed.listed.items closed.ballots c.records.record-index
-    c.deref-record-items.ensures.value c.in_ok-listed.ensures.ballots (omega arith))
+    let store = c.args.closed.now in
+    let places = c.deref-place-items.result.now in
+    let known = c.in_ok-places.ensures in
+    let is = listed store places c.in_ok-places.places.items c.deref-place-items.ensures.value known.stored known.numbers known.cells in
+    let b = ballot c.ballot_in-record.result in
+    valid_at c.election-election.result.now store.election store.ballots c.records.place-index b
+    (sym c.election-election.ensures.election) known.stored.set.valid
+    (next_found store places c.records.place-index b is (omega arith) c.ballot_in-record.ensures)
 
 pub returns-in_err-put_ballot-clause-some : goal.returns-in_err-put_ballot-clause-some
 returns-in_err-put_ballot-clause-some g c =
@@ -42,25 +62,28 @@ returns-in_err-put_ballot-clause-some g c =
     let l = c.records in
     on_failure c.from_residual-in_err-put_ballot.result (TakesSome (taken c.args.out.now) whole (taken l.out))
     (front_written (taken c.args.out.now) (taken l.out) l.text.items
-    (lines_left e (drop l.record-index c.args.closed.now.ballots)) whole l.invariant.written)
+    (lines_left e (drop l.place-index c.args.closed.now.ballots)) whole l.invariant.written)
 
 pub returns-in_err-write_all-clause-some : goal.returns-in_err-write_all-clause-some
 returns-in_err-write_all-clause-some g c =
     let e = c.args.closed.now.election in
     let ballots = c.args.closed.now.ballots in
-    let listed = c.deref-record-items.result.now in
+    let store = c.args.closed.now in
+    let places = c.deref-place-items.result.now in
+    let known = c.in_ok-places.ensures in
+    let is = listed store places c.in_ok-places.places.items c.deref-place-items.ensures.value known.stored known.numbers known.cells in
+    let b = ballot c.ballot_in-record.result in
     let taken = g.K.Sink.taken in
     let whole = export_text e c.args.closed.now.ballots in
     let l = c.records in
     let text = c.put_ballot.new.text.items in
     let after = taken c.write_all.new.self in
-    let at = next_ballot listed c.in_ok-listed.listed.items ballots l.record-index c.deref-record-items.ensures.value
-    c.in_ok-listed.ensures.ballots (omega arith) in
-    let gathered = ballot_gathered e ballots l.record-index (ballot_at listed l.record-index) (taken c.args.out.now)
-    (taken l.out) l.text.items text whole at.0 at.1 l.invariant.written (c.in_ok-put_ballot.ensures ∙ ap (λ e. l.text.items ++ (record_line e (ballot_at listed l.record-index) ++ line_end ∷ [])) c.election-election.ensures.election) in
+    let at = next_found store places l.place-index b is (omega arith) c.ballot_in-record.ensures in
+    let gathered = ballot_gathered e ballots l.place-index b (taken c.args.out.now)
+    (taken l.out) l.text.items text whole at.0 at.1 l.invariant.written (line_put c.election-election.result.now e l.text.items text b c.election-election.ensures.election c.in_ok-put_ballot.ensures) in
     on_failure c.from_residual-in_err-write_all.result (TakesSome (taken c.args.out.now) whole after)
     (some_written (taken c.args.out.now) (taken l.out) after text
-    (lines_left e (drop (l.record-index + 1) ballots)) whole gathered
+    (lines_left e (drop (l.place-index + 1) ballots)) whole gathered
     (subst (λ (bytes : List ℕ). TakesSome (taken l.out) bytes after) c.deref.ensures.value
     c.in_err-write_all.ensures.some))
 
@@ -68,19 +91,22 @@ pub records-preserved : goal.records-preserved
 records-preserved g c =
     let e = c.args.closed.now.election in
     let ballots = c.args.closed.now.ballots in
-    let listed = c.deref-record-items.result.now in
+    let store = c.args.closed.now in
+    let places = c.deref-place-items.result.now in
+    let known = c.in_ok-places.ensures in
+    let is = listed store places c.in_ok-places.places.items c.deref-place-items.ensures.value known.stored known.numbers known.cells in
+    let b = ballot c.ballot_in-record.result in
     let taken = g.K.Sink.taken in
     let whole = export_text e c.args.closed.now.ballots in
     let l = c.records in
     let next = c.if-len-gt-FULL in
     let before = taken c.args.out.now in
     let text = c.put_ballot.new.text.items in
-    let left = lines_left e (drop (l.record-index + 1) ballots) in
-    let at = next_ballot listed c.in_ok-listed.listed.items ballots l.record-index c.deref-record-items.ensures.value
-    c.in_ok-listed.ensures.ballots (omega arith) in
-    let gathered = ballot_gathered e ballots l.record-index (ballot_at listed l.record-index) before
+    let left = lines_left e (drop (l.place-index + 1) ballots) in
+    let at = next_found store places l.place-index b is (omega arith) c.ballot_in-record.ensures in
+    let gathered = ballot_gathered e ballots l.place-index b before
     (taken l.out) l.text.items text whole
-    at.0 at.1 l.invariant.written (c.in_ok-put_ballot.ensures ∙ ap (λ e. l.text.items ++ (record_line e (ballot_at listed l.record-index) ++ line_end ∷ [])) c.election-election.ensures.election) in
+    at.0 at.1 l.invariant.written (line_put c.election-election.result.now e l.text.items text b c.election-election.ensures.election c.in_ok-put_ballot.ensures) in
     elim c.if-len-gt-FULL.branch [
       | then-len-gt-FULL+in_ok-write_all w ↦
           let after = taken w.write_all.new.self in
@@ -111,7 +137,7 @@ returns-in_err-write_all-2-clause-some g c =
     let after = taken c.write_all-2.new.self in
     on_failure c.from_residual-in_err-write_all-2.result (TakesSome (taken c.args.out.now) whole after)
     (some_written (taken c.args.out.now) (taken l.out) after l.text.items
-    (lines_left e (drop l.record-index c.args.closed.now.ballots)) whole l.invariant.written
+    (lines_left e (drop l.place-index c.args.closed.now.ballots)) whole l.invariant.written
     (subst (λ (bytes : List ℕ). TakesSome (taken l.out) bytes after) c.deref-2.ensures.value
     c.in_err-write_all-2.ensures.some))
 
@@ -122,11 +148,12 @@ returns-clause-all g c =
     let taken = g.K.Sink.taken in
     let l = c.records in
     let after = taken c.write_all-2.new.self in
-    let as_many : length ballots ≡ length c.deref-record-items.result.now =
-    ap length (sym c.in_ok-listed.ensures.ballots) ∙ length-map c.in_ok-listed.listed.items (λ held. ballot held.now)
-    ∙ ap length (sym c.deref-record-items.ensures.value) in
-    all_written (taken c.args.out.now) (taken l.out) after l.text.items (lines_left e (drop l.record-index ballots))
+    let places = c.deref-place-items.result.now in
+    let known = c.in_ok-places.ensures in
+    let is = listed c.args.closed.now places c.in_ok-places.places.items c.deref-place-items.ensures.value known.stored known.numbers known.cells in
+    let size = as_many c.args.closed.now places is in
+    all_written (taken c.args.out.now) (taken l.out) after l.text.items (lines_left e (drop l.place-index ballots))
     (export_text e ballots) l.invariant.written
-    (no_line_left e ballots l.record-index (omega arith))
+    (no_line_left e ballots l.place-index (omega arith))
     (subst (λ (bytes : List ℕ). TakesAll
     (taken l.out) bytes after) c.deref-2.ensures.value c.in_ok-write_all-2.ensures.all)

@@ -1,0 +1,82 @@
+-- The rows of all commands: their laws, and that their words tell them apart.
+use Rattle.std.proofs.Common.{◌≡◌, ℕ, ◌+◌, ◌*◌, List, [], ◌∷◌, Result, Ok, Err, ap, arith, refl, ◌∙◌}
+use Rattle.std.specs.Prelude.{IfErr, codes, length}
+use Rattle.ballot_store_cli.specs.Command.{row}
+use Rattle.ballot_store_cli.specs.declared.command.Command.{Command}
+use Rattle.ballot_store_cli.specs.declared.command.Command.TheVariants.{Build, Init, Session, Audit, Replay, Large}
+use Rattle.large_options.proofs.Orders.{one_reading, ordered}
+use Rattle.large_options.specs.Options.{AreOptions, IsOptions}
+use Rattle.large_options.specs.declared.options.Options.{Options}
+use Rattle.medium_commands.proofs.AuditLaws.{audit_laws}
+use Rattle.medium_commands.proofs.InitLaws.{init_laws}
+use Rattle.run_outcome.proofs.Laws.{Laws}
+use Rattle.run_outcome.specs.Row.{IsNamed}
+use Rattle.script_commands.proofs.BuildLaws.{build_laws}
+use Rattle.script_commands.proofs.ReplayLaws.{replay_laws}
+use Rattle.session_commands.proofs.LargeLaws.{large_laws}
+use Rattle.session_commands.proofs.SessionLaws.{session_laws}
+
+-- the laws of each row
+pub laws : (c : Command) → Laws (row c)
+laws Build = build_laws
+laws Init = init_laws
+laws Session = session_laws
+laws Audit = audit_laws
+laws Replay = replay_laws
+laws (Large o) = large_laws o
+
+-- ---- commands are told apart by their words
+
+one_large : (words : List (List ℕ)) (o p : Options) → IsOptions words o.seed o.count o.tabs → IsOptions words p.seed p.count p.tabs → Large o ≡ Large p
+one_large words o p x y =
+    let one = one_reading words o.seed o.count o.tabs p.seed p.count p.tabs x y in
+    ap (λ (seed : ℕ). Large (record { seed = seed; count = o.count; tabs = o.tabs })) one.0
+    ∙ ap (λ (count : ℕ). Large (record { seed = p.seed; count = count; tabs = o.tabs })) one.1
+    ∙ ap (λ (tabs : ℕ). Large (record { seed = p.seed; count = p.count; tabs = tabs })) one.2
+
+-- a word as a number
+abbrev number_of : List ℕ → ℕ
+number_of [] = 0
+number_of (byte ∷ bytes) = byte + 256 * number_of bytes
+
+pub one_row : (a b : Command) (words : List (List ℕ)) → (row a).word ≡ (row b).word → (row a).further words → (row b).further words → a ≡ b
+one_row Build Build words same x y = refl
+one_row Init Init words same x y = refl
+one_row Session Session words same x y = refl
+one_row Audit Audit words same x y = refl
+one_row Replay Replay words same x y = refl
+one_row (Large o) (Large p) words same x y = one_large words o p x y
+one_row a b words same x y = absurd (omega (arith, ap number_of same))
+
+-- ---- a word alone
+
+-- no words are no options
+none_given : (words : List (List ℕ)) → words ≡ [] → AreOptions words → ⊥
+none_given words none o =
+    let order = ordered words o.0 o.1 o.2 o.3 in
+    let few : length words ≡ 0 = ap length none in
+    let many : length words ≡ 6 = ap length order.spelled in
+    omega (arith, few, many)
+
+-- it is the word of no command that takes no further words
+pub record IsOther (word : List ℕ) : Type 0 where
+  pub build : word ≡ codes "build" → ⊥
+  pub init : word ≡ codes "init" → ⊥
+  pub session : word ≡ codes "session" → ⊥
+  pub audit : word ≡ codes "audit" → ⊥
+  pub replay : word ≡ codes "replay" → ⊥
+
+pub names_none : (word : List ℕ) → IsOther word → (c : Command) (medium : List ℕ) → IsNamed (row c) medium word [] → ⊥
+names_none word other Build medium is = other.build is.word
+names_none word other Init medium is = other.init is.word
+names_none word other Session medium is = other.session is.word
+names_none word other Audit medium is = other.audit is.word
+names_none word other Replay medium is = other.replay is.word
+names_none word other (Large o) medium is = none_given [] refl (o.seed, o.count, o.tabs, is.further)
+
+-- ---- a word with others behind it
+
+-- where there was no memory for options, they name a large run
+pub names_large : {T E : Type 0} (word : List ℕ) (words : List (List ℕ)) (r : Result T E) → word ≡ codes "large" → IfErr r (λ x. AreOptions words) → IfErr r (λ x. (c : Command) × ((medium : List ℕ) → IsNamed (row c) medium word words))
+names_large word words (Ok value) is o = tt
+names_large word words (Err fault) is o = (Large (record { seed = o.0; count = o.1; tabs = o.2 }), λ medium. record { word = is; further = o.3; media = tt })

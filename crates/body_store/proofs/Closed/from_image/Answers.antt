@@ -1,0 +1,34 @@
+use Rattle.std.proofs.Common.{List, length, sym, ap, ◌∙◌, subst}
+use Rattle.std.specs.List.Sorted.{IsPermutation}
+use Rattle.body_store.proofs.ByNumber.{by_number-IsPermutation}
+use Rattle.body_store.proofs.Closed.from_image.Goals as goal
+use Rattle.body_store.proofs.Keeping.{kept_as, shown_by_number, shown_under}
+use Rattle.body_store.specs.ByNumber.{by_number}
+use Rattle.body_store.specs.Contents.{Contents}
+use Rattle.body_store.specs.declared.Closed.TheInside.{Inside}
+use Rattle.store_spec.specs.Ballot.{Ballot}
+use Rattle.store_spec.specs.Election.{Election}
+use Rattle.store_spec.specs.Layout.{numbers_in}
+
+pub invariant_of-result : goal.invariant_of-result
+invariant_of-result g c =
+    let a : Inside = record { election = c.in_ok-own.own; image = c.args.image; cells = c.args.cells; held = c.count-held.result } in
+    kept_as a g.ballots (shown_under c.args.election.now a.election.value g.ballots a.image.items a.cells.items (sym c.in_ok-own.ensures.ok) c.requires)
+    (c.count-held.ensures ∙ ap (λ cells. length (numbers_in cells)) c.deref.ensures.value)
+
+pub returns-clause-contents : goal.returns-clause-contents
+returns-clause-contents g c =
+    let contents : Election → List Ballot → Contents = λ e ballots. record { election = e; ballots = ballots } in
+    let own = c.in_ok-own.own.value in
+    let shown = shown_under c.args.election.now own g.ballots c.args.image.items c.args.cells.items (sym c.in_ok-own.ensures.ok) c.requires in
+    ap (contents own) (shown_by_number own g.ballots c.args.image.items c.args.cells.items shown)
+    ∙ ap (λ e. contents e (by_number g.ballots)) c.in_ok-own.ensures.ok
+
+pub returns-clause-same : goal.returns-clause-same
+returns-clause-same g c =
+    let own = c.in_ok-own.own.value in
+    let shown = shown_under c.args.election.now own g.ballots c.args.image.items c.args.cells.items (sym c.in_ok-own.ensures.ok) c.requires in
+    subst (λ (bs : List Ballot). IsPermutation g.ballots bs) (sym (shown_by_number own g.ballots c.args.image.items c.args.cells.items shown)) (by_number-IsPermutation g.ballots)
+
+pub returns-clause-stored : goal.returns-clause-stored
+returns-clause-stored g c = (invariant_of-result g c).stored

@@ -1,0 +1,135 @@
+-- The bytes of an image, cell by cell.
+use Rattle.std.proofs.Common.{◌≡◌, ◌≢◌, ℕ, zero, suc, ◌+◌, ◌*◌, ◌<◌, ◌≤◌, ⊎_elim, List, [], ◌∷◌, ◌++◌, length, get_or, take, drop, sym, ap, ◌∙◌, arith, length-append, length-drop, mul-le-mul_right, take-append-drop}
+use Rattle.std.proofs.lemmas.Bool.{cases_order}
+use Rattle.std.proofs.lemmas.List.{drop-drop, drop-take, drop_at, length-take-le, nil_from_length, take_at}
+use Rattle.std.proofs.lemmas.List.Concat.{flat_map-cons}
+use Rattle.std.proofs.lemmas.Slice.{take-put_mid, take-put_mid_below, drop-put_mid}
+use Rattle.std.specs.List.{flat_map}
+use Rattle.body_store.specs.Moves.{AreCells, cell_in}
+use Rattle.store_spec.specs.Damage.{cell_at}
+use Rattle.store_spec.specs.Election.{Election, cell_size, header_size}
+use borrow.Rule.Slice.PartMut.{put_mid}
+
+-- a cell ends before a later one begins
+pub ends_before : (cell later size : ℕ) → cell < later → cell * size + size ≤ later * size
+ends_before cell later size before =
+    let next : (cell + 1) * size ≡ cell * size + size = omega arith in
+    let fits : (cell + 1) * size ≤ later * size = mul-le-mul_right size (let le : cell + 1 ≤ later = omega arith in le) in
+    omega (arith, next, fits)
+
+-- where one cell is written, it has what was written
+pub this_put : (size cell at k : ℕ) (image bytes : List ℕ) → at ≡ header_size + cell * size → length bytes ≡ size
+    → header_size + cell * size + size ≤ length image → cell_in size cell (put_mid at k image bytes) ≡ bytes
+this_put size cell at k image bytes place long room =
+    let now = put_mid at k image bytes in
+    ap (λ from. take size (drop from now)) (sym place)
+    ∙ sym (drop-take at size now)
+    ∙ ap (drop at) (take-put_mid at k image bytes (at + size) (omega arith) (omega arith))
+    ∙ drop_at (take at image) bytes at (length-take-le at image (omega arith))
+
+-- where one cell is written, the others are as before
+pub others_same : (size cell other at k : ℕ) (image bytes : List ℕ) → at ≡ header_size + cell * size → k ≡ size
+    → length bytes ≡ size → header_size + cell * size + size ≤ length image → other ≢ cell
+    → cell_in size other (put_mid at k image bytes) ≡ cell_in size other image
+others_same size cell other at k image bytes place same long room apart =
+    let from = header_size + other * size in
+    let now = put_mid at k image bytes in
+    ⊎_elim
+    (λ (equal : other ≡ cell). absurd (apart equal))
+    (λ order. ⊎_elim
+    (λ (before : other < cell).
+    sym (drop-take from size now)
+    ∙ ap (drop from) (take-put_mid_below at k image bytes (from + size)
+    (omega (arith, ends_before other cell size before)) (omega arith))
+    ∙ drop-take from size image)
+    (λ (after : cell < other).
+    ap (take size) (drop-put_mid at k image bytes from
+    (omega (arith, ends_before cell other size after)) (omega arith) (long ∙ sym same)))
+    order)
+    (cases_order other cell)
+
+-- ---- lists of pieces of one width
+
+pub drop_pieces : (f : ℕ → List ℕ) (width : ℕ) (xs : List ℕ) (i : ℕ) → ((x : ℕ) → length (f x) ≡ width) → i < length xs
+    → drop (i * width) (flat_map f xs) ≡ f (get_or xs i 0) ++ flat_map f (drop (suc i) xs)
+drop_pieces f width [] i each lt = absurd (omega arith)
+drop_pieces f width (x ∷ xs) zero each lt =
+    ap (λ k. drop k (flat_map f (x ∷ xs))) (let e : 0 * width ≡ 0 = omega arith in e) ∙ flat_map-cons f x xs
+drop_pieces f width (x ∷ xs) (suc i) each lt =
+    ap (λ k. drop k (flat_map f (x ∷ xs))) (let e : suc i * width ≡ width + i * width = omega arith in e)
+    ∙ ap (drop (width + i * width)) (flat_map-cons f x xs)
+    ∙ sym (drop-drop (i * width) width (f x ++ flat_map f xs))
+    ∙ ap (drop (i * width)) (drop_at (f x) (flat_map f xs) width (each x))
+    ∙ drop_pieces f width xs i each (omega arith)
+
+pub length_pieces : (f : ℕ → List ℕ) (width : ℕ) (xs : List ℕ) → ((x : ℕ) → length (f x) ≡ width)
+    → length (flat_map f xs) ≡ length xs * width
+length_pieces f width [] each = let none : 0 ≡ 0 * width = omega arith in none
+length_pieces f width (x ∷ xs) each =
+    omega
+    (arith, ap length (flat_map-cons f x xs), length-append (f x) (flat_map f xs), each x, length_pieces f width xs each)
+
+pub piece_at : (f : ℕ → List ℕ) (width : ℕ) (xs : List ℕ) (i : ℕ) → ((x : ℕ) → length (f x) ≡ width) → i < length xs
+    → take width (drop (i * width) (flat_map f xs)) ≡ f (get_or xs i 0)
+piece_at f width xs i each lt =
+    ap (take width) (drop_pieces f width xs i each lt)
+    ∙ take_at (f (get_or xs i 0)) (flat_map f (drop (suc i) xs)) width (each (get_or xs i 0))
+
+-- bytes are pieces, if those at each place are
+pub pieces_from : (f : ℕ → List ℕ) (width : ℕ) (xs bytes : List ℕ) → length bytes ≡ length xs * width
+    → ((i : ℕ) → i < length xs → take width (drop (i * width) bytes) ≡ f (get_or xs i 0)) → bytes ≡ flat_map f xs
+pieces_from f width [] bytes long each =
+    nil_from_length bytes (let none : 0 * width ≡ 0 = omega arith in long ∙ none)
+pieces_from f width (x ∷ xs) bytes long each =
+    let none : 0 * width ≡ 0 = omega arith in
+    let more : suc (length xs) * width ≡ width + length xs * width = omega arith in
+    let first : take width bytes ≡ f x = ap (λ k. take width (drop k bytes)) (sym none) ∙ each 0 (omega arith) in
+    let behind = drop width bytes in
+    sym (take-append-drop width bytes)
+    ∙ ap (λ front. front ++ behind) first
+    ∙ ap (λ rest. f x ++ rest)
+    (pieces_from f width xs behind (omega (arith, length-drop width bytes, long, more))
+    (λ i lt.
+    let next : suc i * width ≡ width + i * width = omega arith in
+    ap (take width) (drop-drop (i * width) width bytes)
+    ∙ ap (λ k. take width (drop k bytes)) (sym next)
+    ∙ each (suc i) (omega arith)))
+    ∙ sym (flat_map-cons f x xs)
+
+-- ---- images
+
+cell_behind : (e : Election) (cell : ℕ) (image : List ℕ)
+    → cell_at e cell image ≡ take (cell_size e) (drop (cell * cell_size e) (drop header_size image))
+cell_behind e cell image = ap (take (cell_size e)) (sym (drop-drop (cell * cell_size e) header_size image))
+
+-- the cells of a header and pieces
+pub cells_from_pieces : (e : Election) (f : ℕ → List ℕ) (cells header : List ℕ)
+    → ((number : ℕ) → length (f number) ≡ cell_size e) → length header ≡ header_size
+    → AreCells e f cells (header ++ flat_map f cells)
+cells_from_pieces e f cells header wide front = record {
+  long = omega (arith, length-append header (flat_map f cells), length_pieces f (cell_size e) cells wide);
+  each = λ cell lt.
+      cell_behind e cell (header ++ flat_map f cells)
+      ∙ ap (λ bytes. take (cell_size e) (drop (cell * cell_size e) bytes))
+      (drop_at header (flat_map f cells) header_size front)
+      ∙ piece_at f (cell_size e) cells cell wide lt;
+}
+
+-- an image is its header and pieces
+pub pieces_of_cells : (e : Election) (f : ℕ → List ℕ) (cells image : List ℕ) → AreCells e f cells image
+    → image ≡ take header_size image ++ flat_map f cells
+pieces_of_cells e f cells image h =
+    let long = h.long in
+    sym (take-append-drop header_size image)
+    ∙ ap (λ rest. take header_size image ++ rest)
+    (pieces_from f (cell_size e) cells (drop header_size image) (omega (arith, length-drop header_size image))
+    (λ cell lt. sym (cell_behind e cell image) ∙ h.each cell lt))
+
+-- the same cells, where their numbers have the same bytes
+pub cells_same : (e : Election) (f g : ℕ → List ℕ) (cells image : List ℕ)
+    → ((cell : ℕ) → cell < length cells → f (get_or cells cell 0) ≡ g (get_or cells cell 0))
+    → AreCells e f cells image → AreCells e g cells image
+cells_same e f g cells image same h = record {
+  long = h.long;
+  each = λ cell lt. h.each cell lt ∙ same cell lt;
+}

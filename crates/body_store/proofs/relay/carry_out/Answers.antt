@@ -1,0 +1,69 @@
+use Rattle.std.proofs.Common.{◌≡◌, ◌≢◌, ◌⊎◌, ◌+◌, ◌-◌, ◌<◌, inl, inr, List, drop, get_or, length, take, subst, sym, ap, ◌∙◌, arith}
+use Rattle.std.proofs.lemmas.Bool.{cases_eq}
+use Rattle.std.proofs.lemmas.List.{take_all, take_more}
+use Rattle.body_store.proofs.Planning.{among_cases}
+use Rattle.body_store.specs.Moves.{Moves, cell_in}
+use Rattle.body_store.specs.declared.moves.Move.{Move}
+use Rattle.body_store.proofs.relay.carry_out.Goals as goal
+
+abbrev none : Move
+none = record { from = 0; cell = 0 }
+
+-- where one more cell was written, all that are known to be right are
+pub loop-one-preserved : goal.loop-one-preserved
+loop-one-preserved g c =
+    let old = c.args.old_cells.now in
+    let cells = c.args.cells.now in
+    let size = c.args.size in
+    let bytes = c.args.plan.now.bytes.items in
+    let moves = c.args.plan.now.moves.items in
+    let listed : c.deref-one-items.result.now ≡ moves = c.deref-one-items.ensures.value in
+    let at = c.loop-one.one-index in
+    let within : at < length moves = omega (arith, c.loop-one-test.true, ap length listed) in
+    let move = get_or moves at none in
+    let same : get_or c.deref-one-items.result.now at none ≡ move = ap (λ (moves : List Move). get_or moves at none) listed in
+    let right = c.requires.1.1.1.0.each_move at none within in
+    let number = get_or cells move.cell 0 in
+    let wide = c.requires.0 number in
+    let image = c.put_cell_at.new.image in
+    let waits : take (move.from + size - move.from) (drop move.from bytes) ≡ g.f number =
+    ap (λ n. take n (drop move.from bytes)) (let all : move.from + size - move.from ≡ length (g.f number) = omega arith in all)
+    ∙ right.waits.same in
+    let written : cell_in size move.cell image ≡ g.f number =
+    ap (λ (move : Move). cell_in size move.cell image) (sym same)
+    ∙ c.put_cell_at.ensures.here
+    ∙ ap (λ (move : Move). take (move.from + size - move.from) (drop move.from c.deref.result.now)) same
+    ∙ ap (λ bytes. take (move.from + size - move.from) (drop move.from bytes)) c.deref.ensures.value
+    ∙ waits in
+    record {
+      after = λ cell lt known.
+          elim (cases_eq cell move.cell) [
+            | inl here ↦ subst (λ k. cell_in size k image ≡ g.f (get_or cells k 0)) (sym here) written
+            | inr other ↦
+                let apart : cell ≢ (get_or c.deref-one-items.result.now at none).cell = λ e.
+                other (e ∙ ap (λ (move : Move). move.cell) same) in
+                let before : (get_or old cell 0 ≡ get_or cells cell 0) ⊎ Moves (take at moves) cell = elim known [
+                  | inl stays ↦ inl stays
+                  | inr moved ↦ elim (among_cases (λ (move : Move). move.cell) (take at moves) move cell
+                      (subst (λ (moves : List Move). Moves moves cell) (take_more moves at none within) moved)) [
+                        | inl early ↦ inr early
+                        | inr last ↦ absurd (other (sym last))
+                      ]
+                ] in
+                c.put_cell_at.ensures.others cell apart ∙ c.loop-one.invariant.after cell lt before
+          ];
+      header = c.put_cell_at.ensures.header ∙ c.loop-one.invariant.header;
+    }
+
+pub returns-clause-after : goal.returns-clause-after
+returns-clause-after g c cell lt =
+    let old = c.args.old_cells.now in
+    let cells = c.args.cells.now in
+    let moves = c.args.plan.now.moves.items in
+    let at = c.loop-one.one-index in
+    let whole : take at moves ≡ moves = take_all at moves (omega (arith, ap length c.deref-one-items.ensures.value)) in
+    elim (cases_eq (get_or old cell 0) (get_or cells cell 0)) [
+      | inl same ↦ c.loop-one.invariant.after cell lt (inl same)
+      | inr changed ↦ c.loop-one.invariant.after cell lt
+          (inr (subst (λ (moves : List Move). Moves moves cell) (sym whole) (c.requires.1.1.1.1 cell lt changed)))
+    ]

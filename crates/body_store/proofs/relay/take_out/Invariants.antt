@@ -1,0 +1,25 @@
+use Rattle.std.proofs.Common.{◌≢◌, ◌+◌, ◌*◌, ◌-◌, ◌<◌, ◌≤◌, length, slice_index}
+use Rattle.ballot_record.specs.Format.{largest_cell}
+use Rattle.body_store.specs.Moves.{IsLeftUpTo, IsRight, StayNoted}
+use Rattle.store_spec.specs.Election.{most_ballots}
+use Rattle.body_store.proofs.relay.take_out.Given as goal
+
+abbrev pub ghost-add : goal.ghost-add
+ghost-add g a = g.f
+
+abbrev pub ghost-empty : goal.ghost-empty
+ghost-empty g a = g.f
+
+-- what is known up to a cell, which changed
+abbrev pub invariant-loop-cell : goal.invariant-loop-cell
+invariant-loop-cell g l = record {
+  right : IsRight g.f l.cells l.plan;
+  left : IsLeftUpTo l.old_cells l.cells l.plan l.cell;
+  still : StayNoted l.cells l.initial.plan l.plan;
+  short : length l.plan.bytes.items ≤ (most_ballots + 1 + l.cell) * largest_cell;
+  within : l.cell ≤ length l.cells;
+  changed : l.cell < length l.cells → slice_index l.old_cells l.cell ≢ slice_index l.cells l.cell;
+}
+
+abbrev pub decreases-loop-cell : goal.decreases-loop-cell
+decreases-loop-cell g l = length l.cells - l.cell

@@ -1,0 +1,89 @@
+-- How the bytes of an image are changed in place: which bytes wait, and in which cells they belong.
+use Rattle.std.specs.Prelude.{◌≡◌, ◌≢◌, ◌⊎◌, ℕ, ◌+◌, ◌*◌, ◌<◌, ◌≤◌, List, All, Contains, drop, length, map, replicate, slice_index, take}
+use Rattle.body_store.specs.declared.moves.Move.{Move}
+use Rattle.body_store.specs.declared.moves.Near.{Near}
+use Rattle.body_store.specs.declared.moves.Near.TheVariants.{At, Nowhere, Far}
+use Rattle.body_store.specs.declared.moves.Plan.{Plan}
+use Rattle.body_store.specs.declared.moves.Waiting.{Waiting}
+use Rattle.store_spec.specs.Ballot.{Ballot, IsValid, numbers_of}
+use Rattle.store_spec.specs.Damage.{cell_at}
+use Rattle.store_spec.specs.Election.{Election, cell_size, header_size, most_ballots, most_cells}
+use Rattle.store_spec.specs.Image.{ballot_bytes}
+use Rattle.store_spec.specs.Layout.{IsOrdered}
+
+-- what a search near its home says of a number
+abbrev pub IsNear : List ℕ → ℕ → Near → Type 0
+IsNear cells number (At cell) = (cell < length cells) × (slice_index cells cell ≡ number)
+IsNear cells number Nowhere = ¬ Contains cells number
+IsNear cells number Far = Unit {0}
+
+-- the bytes of a number's cell wait from one of the bytes on
+pub record Waits (f : ℕ → List ℕ) (bytes : List ℕ) (from number : ℕ) : Type 0 where
+  pub within : from + length (f number) ≤ length bytes
+  pub same : take (length (f number)) (drop from bytes) ≡ f number
+
+-- what waits for a cell is the bytes of the number that it is to have
+pub record IsRightMove (f : ℕ → List ℕ) (cells bytes : List ℕ) (move : Move) : Type 0 where
+  pub within : move.cell < length cells
+  pub waits : Waits f bytes move.from (slice_index cells move.cell)
+
+-- what waits for cells, for numbers that are far from their homes, and for cells that are to be empty
+pub record AreRight (f : ℕ → List ℕ) (cells bytes : List ℕ) (moves : List Move) (far : List Waiting) : Type 0 where
+  pub empty : Waits f bytes 0 0
+  pub each_move : All (IsRightMove f cells bytes) moves
+  pub each_far : All (λ one. Waits f bytes one.from one.number) far
+
+abbrev pub IsRight : (ℕ → List ℕ) → List ℕ → Plan → Type 0
+IsRight f cells plan = AreRight f cells plan.bytes.items plan.moves.items plan.far.items
+
+-- something is to be written in a cell
+abbrev pub Moves : List Move → ℕ → Type 0
+Moves moves cell = Contains (map (λ move. move.cell) moves) cell
+
+-- a number is one of those that are far from their homes
+abbrev pub AwaitsCell : List Waiting → ℕ → Type 0
+AwaitsCell far number = Contains (map (λ one. one.number) far) number
+
+-- something is to be written in a cell, or its number is far from its home
+abbrev pub IsNoted : List ℕ → Plan → ℕ → Type 0
+IsNoted cells plan cell = Moves plan.moves.items cell ⊎ AwaitsCell plan.far.items (slice_index cells cell)
+
+-- cells that were noted are noted still
+abbrev pub StayNoted : List ℕ → Plan → Plan → Type 0
+StayNoted cells old new = (cell : ℕ) → IsNoted cells old cell → IsNoted cells new cell
+
+-- the cells with a number are noted
+abbrev pub IsSought : List ℕ → Plan → ℕ → Type 0
+IsSought cells plan number = (cell : ℕ) → slice_index cells cell ≡ number → IsNoted cells plan cell
+
+-- Of so many first cells, those that changed: the cells where their numbers stand now are noted, and they are too if they
+-- are empty now.
+pub record IsLeftUpTo (old_cells cells : List ℕ) (plan : Plan) (count : ℕ) : Type 0 where
+  pub sought : (cell : ℕ) → cell < count → slice_index old_cells cell ≢ 0
+      → slice_index old_cells cell ≢ slice_index cells cell → IsSought cells plan (slice_index old_cells cell)
+  pub emptied : (cell : ℕ) → cell < count → slice_index old_cells cell ≢ slice_index cells cell
+      → slice_index cells cell ≡ 0 → IsNoted cells plan cell
+
+-- the bytes of one cell, where each has so many
+abbrev pub cell_in : ℕ → ℕ → List ℕ → List ℕ
+cell_in size cell image = take size (drop (header_size + cell * size) image)
+
+-- the cells of an image have the bytes of their numbers
+pub record AreCells (e : Election) (f : ℕ → List ℕ) (cells image : List ℕ) : Type 0 where
+  pub long : length image ≡ header_size + length cells * cell_size e
+  pub each : (cell : ℕ) → cell < length cells → cell_at e cell image ≡ f (slice_index cells cell)
+
+-- The bytes of an image's cells are those of their numbers, and other cells are to be written over them: each number in
+-- these stands in one of the old cells, or is that of a new ballot.
+pub record IsRelay (e : Election) (f : ℕ → List ℕ) (home : ℕ → ℕ) (ballots : List Ballot)
+    (old_cells cells image : List ℕ) : Type 0 where
+  pub wide : (number : ℕ) → length (f number) ≡ cell_size e
+  pub blank : f 0 ≡ replicate (cell_size e) 0
+  pub new_ballots : All (λ b. IsValid e b × (ballot_bytes e b ≡ f b.number)) ballots
+  pub as_many : length old_cells ≡ length cells
+  pub before : AreCells e f old_cells image
+  pub known : (cell : ℕ) → slice_index cells cell ≢ 0
+      → Contains old_cells (slice_index cells cell) ⊎ Contains (numbers_of ballots) (slice_index cells cell)
+  pub ordered : IsOrdered home cells
+  pub few_cells : length cells ≤ most_cells
+  pub few_ballots : length ballots ≤ most_ballots

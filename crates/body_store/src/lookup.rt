@@ -1,0 +1,168 @@
+//! What the bytes of a store tell of its ballots: the one in a cell or with a number, those of some cells, and all in
+//! order.
+
+ghost use Rattle.ballot_record.specs.Record.{ballot};
+ghost use Rattle.body_store.specs.Contents.{ballots_of};
+ghost use Rattle.body_store.specs.Held.{Shows, held_in};
+ghost use Rattle.body_store.specs.Places.{AreAt};
+ghost use Rattle.std.specs.Prelude.{◌≡◌, ◌≢◌, ℕ, ◌+◌, ◌-◌, ◌<◌, ◌≤◌, List, All, IfOk, drop, length, map, option_map, slice_index, take};
+ghost use Rattle.store_spec.specs.Ballot.{Ballot, IsListing, IsWithinLimit, ballot_of, numbers_of};
+ghost use Rattle.store_spec.specs.Election.{IsElection, cell_count, most_cells};
+ghost use Rattle.store_spec.specs.Image.{cells_of};
+ghost use Rattle.store_spec.specs.Layout.{ascending, numbers_in};
+
+use ballot_record::{Election, HEADER_BYTES, Record};
+use layout_def::{build, place_of};
+use outside_io::Memory;
+use std::alloc::Global;
+
+/// How many empty cells are passed at once.
+const EIGHT: usize = 8;
+
+const EIGHT_EMPTY: [u64; EIGHT] = [0; EIGHT];
+
+/// A number, and the cell in which it stands.
+#[derive(Clone, Copy)]
+pub struct Place {
+    pub number: u64,
+    pub cell: u32,
+}
+
+/// The cells of a store that holds these ballots.
+pub fn layout(alloc: Global, election: &Election, records: &[Record]) -> Result<Vec<u64>, Memory>
+    requires listing { IsListing election.now (ballots_of records.now) }
+    requires within_limit { IsWithinLimit election.now (ballots_of records.now) }
+    ensures cells { IfOk result
+        (λ cells. cells.items ≡ cells_of election.now (ballots_of records.now)) }
+    ensures election { IsElection election.now }
+{
+    let order = election.order();
+    let numbers = numbers(alloc, records)?;
+    Ok(build(alloc, &order, election.cells(), &numbers)?)
+}
+
+fn numbers(alloc: Global, records: &[Record]) -> Result<Vec<u64>, Memory>
+    ensures { IfOk result (λ numbers. numbers.items ≡ numbers_of (ballots_of records.now)) }
+{
+    Ok(records.iter().map(|record| record.number).collect(alloc)?)
+}
+
+/// How many of these cells have a number.
+pub fn count(cells: &[u64]) -> usize
+    ensures { result ≡ length (numbers_in cells.now) }
+{
+    let mut filled = 0;
+    for cell in cells {
+        if *cell != 0 {
+            filled += 1;
+        }
+    }
+    filled
+}
+
+/// The record whose number stands in a cell. `None` where the cell is empty.
+pub fn in_cell(election: &Election, image: &[u8], cells: &[u64], cell: usize) -> Option<Record>
+    ghost ballots: { List Ballot }
+    requires shown { Shows election.now ballots image.now cells.now }
+    requires within { cell < cell_count election.now }
+    ensures { option_map ballot result ≡ ballot_of ballots (slice_index cells.now cell) }
+{
+    if cells[cell] == 0 {
+        return None;
+    }
+    let size = election.cell_bytes();
+    let at = HEADER_BYTES + cell * size;
+    Some(Record::of_cell(&image[at..at + size], election))
+}
+
+/// The record with this number, which is looked for in the cells.
+pub fn with_number(election: &Election, image: &[u8], cells: &[u64], number: u64) -> Option<Record>
+    ghost ballots: { List Ballot }
+    requires { Shows election.now ballots image.now cells.now }
+    ensures { option_map ballot result ≡ ballot_of ballots number }
+{
+    if number == 0 {
+        return None;
+    }
+    let cell = place_of(&election.order(), cells, number)?;
+    in_cell(election, image, cells, cell)
+}
+
+/// The numbers in these cells in ascending order, each with its cell.
+pub fn in_order(alloc: Global, cells: &[u64]) -> Result<Vec<Place>, Memory>
+    requires few { length cells.now ≤ most_cells }
+    ensures numbers { IfOk result
+        (λ places. map (λ place. place.number) places.items ≡ ascending (numbers_in cells.now)) }
+    ensures cells { IfOk result (λ places. AreAt cells.now places.items) }
+{
+    let mut places = Vec::with_capacity(alloc, count(cells))?;
+    for (cell, number) in cells.iter().enumerate() {
+        if *number != 0 {
+            places.push(Place {
+                number: *number,
+                cell: cell as u32,
+            })?;
+        }
+    }
+    places.sort_unstable_by_key(|place| place.number);
+    Ok(places)
+}
+
+/// Puts the ballots of cells from one on in place of these records, up to `end` or as far as there is room. It answers
+/// how many it put, and the first cell that it did not look at.
+pub fn put_records(
+    election: &Election,
+    image: &[u8],
+    cells: &[u64],
+    from: usize,
+    end: usize,
+    out: &mut [Record],
+) -> (usize, usize)
+    ghost ballots: { List Ballot }
+    requires shown { Shows election.now ballots image.now cells.now }
+    requires within { (from ≤ end) × (end ≤ cell_count election.now) }
+    ensures room { result.0 ≤ length out.new }
+    ensures onward { (from ≤ result.1) × (result.1 ≤ end) }
+    ensures progress { from < end → 0 < length out.new → from < result.1 }
+    ensures records { ballots_of (take result.0 out.new)
+        ≡ held_in ballots (take (result.1 - from) (drop from cells.now)) }
+{
+    let size = election.cell_bytes();
+    let mut filled = 0;
+    let mut cell = past_empty(cells, from, end);
+    'cells: while cell < end && filled < out.len() {
+        let at = HEADER_BYTES + cell * size;
+        out[filled] = Record::of_cell(&image[at..at + size], election);
+        filled += 1;
+        cell = past_empty(cells, cell + 1, end);
+    }
+    (filled, cell)
+}
+
+/// The first cell from one on that has a number, or `end`.
+fn past_empty(cells: &[u64], from: usize, end: usize) -> usize
+    requires within { (from ≤ end) × (end ≤ length cells.now) }
+    ensures onward { (from ≤ result) × (result ≤ end) }
+    ensures empty { (k : ℕ) → from ≤ k → k < result → slice_index cells.now k ≡ 0 }
+    ensures some { result < end → slice_index cells.now result ≢ 0 }
+{
+    let mut cell = from;
+    'cells: while cell < end && cells[cell] == 0 {
+        cell += empty_onward(cells, cell, end);
+    }
+    cell
+}
+
+/// How many cells are known to be empty from one on that is: eight, or this one.
+fn empty_onward(cells: &[u64], cell: usize, end: usize) -> usize
+    requires within { (cell < end) × (end ≤ length cells.now) }
+    requires empty { slice_index cells.now cell ≡ 0 }
+    ensures some { 0 < result }
+    ensures within { cell + result ≤ end }
+    ensures empty { (k : ℕ) → cell ≤ k → k < cell + result → slice_index cells.now k ≡ 0 }
+{
+    if cell % EIGHT == 0 && cell + EIGHT <= end && cells[cell..cell + EIGHT] == EIGHT_EMPTY[..] {
+        return EIGHT;
+    }
+    1
+}

@@ -1,0 +1,212 @@
+//! In which cells the ballots of an image belong, and the bytes of those that are to be written.
+
+ghost use Rattle.body_store.specs.Moves.{AwaitsCell, IsNear, IsNoted, IsRight, IsRightMove, IsSought, Moves, StayNoted, Waits};
+ghost use Rattle.std.specs.List.Sorted.{IsNonDecreasingBy};
+ghost use Rattle.std.specs.Prelude.{◌≡◌, ◌≢◌, ℕ, ◌+◌, ◌*◌, ◌^◌, ◌<◌, ◌≤◌, [], List, All, Contains, IfOk, MatchOption, OnOk, length, replicate, slice_index};
+ghost use Rattle.store_spec.specs.Election.{most_cells};
+ghost use Rattle.store_spec.specs.Home.{home_of};
+ghost use Rattle.store_spec.specs.Layout.{IsOrdered};
+
+use crate::changed::next_changed;
+use outside_io::Memory;
+use probe_order::{Order, Salted};
+use std::alloc::Global;
+
+/// How many cells from its home on a number is looked for. Nearly all stand so near, and the time stays linear where
+/// many have one home.
+const NEAR: usize = 32;
+
+/// The bytes that wait from one on belong in this cell.
+#[derive(Clone, Copy)]
+pub struct Move {
+    pub from: u32,
+    pub cell: u32,
+}
+
+/// A number, and from where on the bytes of its cell wait.
+#[derive(Clone, Copy)]
+pub struct Waiting {
+    pub number: u64,
+    pub from: u32,
+}
+
+/// Where a number stands.
+enum Near {
+    /// In this cell, near its home.
+    At(usize),
+    /// In none.
+    Nowhere,
+    /// Not near its home.
+    Far,
+}
+
+/// What is to be written in an image, and where.
+#[derive(Drop)]
+pub struct Plan {
+    /// The bytes of cells, one behind another: an empty one, and those of ballots.
+    pub bytes: Vec<u8>,
+    pub moves: Vec<Move>,
+    /// The numbers that are far from their homes, whose cells are not known yet.
+    pub far: Vec<Waiting>,
+}
+
+impl Plan {
+    /// Nothing is to be written. There is room for so many cells.
+    pub fn new(alloc: Global, size: usize, room: usize) -> Result<Plan, Memory>
+        ghost f: { ℕ → List ℕ }
+        requires fits { room * size < 2 ^ 32 }
+        requires blank { f 0 ≡ replicate size 0 }
+        ensures right { IfOk result (IsRight f []) }
+        ensures long { IfOk result (λ plan. length plan.bytes.items ≡ size) }
+    {
+        let mut bytes = vec![in alloc; 0; size]?;
+        bytes.reserve(room * size)?;
+        Ok(Plan {
+            bytes,
+            moves: Vec::with_capacity(alloc, room)?,
+            far: Vec::new(alloc),
+        })
+    }
+
+    /// Lets the bytes of a number's cell wait, and notes in which cell they belong. A number that stands in none is left
+    /// out.
+    pub fn add(
+        &mut self,
+        order: &Salted,
+        cells: &[u64],
+        number: u64,
+        bytes: &[u8],
+    ) -> Result<(), Memory>
+        ghost f: { ℕ → List ℕ }
+        requires some { number ≢ 0 }
+        requires ordered { IsOrdered (home_of order.now.bits order.now.salt) cells.now }
+        requires few_cells { length cells.now ≤ most_cells }
+        requires right { IsRight f cells.now self.old }
+        requires bytes { bytes.now ≡ f number }
+        requires short { length self.old.bytes.items < 2 ^ 32 }
+        ensures right { OnOk result (IsRight f cells.now self.new) }
+        ensures sought { OnOk result (IsSought cells.now self.new number) }
+        ensures still { OnOk result (StayNoted cells.now self.old self.new) }
+        ensures longer { OnOk result
+            (length self.new.bytes.items ≤ length self.old.bytes.items + length bytes.now) }
+    {
+        let from = self.bytes.len() as u32;
+        match find_near(order, cells, number) {
+            Near::At(cell) => {
+                self.moves.push(Move {
+                    from,
+                    cell: cell as u32,
+                })?;
+            }
+            Near::Nowhere => return Ok(()),
+            Near::Far => self.far.push(Waiting { number, from })?,
+        }
+        self.bytes.extend_from_slice(bytes)?;
+        Ok(())
+    }
+
+    /// Notes that a cell is to be empty.
+    pub fn empty(&mut self, cells: &[u64], cell: usize) -> Result<(), Memory>
+        ghost f: { ℕ → List ℕ }
+        requires within { cell < length cells.now }
+        requires none { slice_index cells.now cell ≡ 0 }
+        requires few_cells { length cells.now ≤ most_cells }
+        requires right { IsRight f cells.now self.old }
+        ensures right { OnOk result (IsRight f cells.now self.new) }
+        ensures noted { OnOk result (IsNoted cells.now self.new cell) }
+        ensures still { OnOk result (StayNoted cells.now self.old self.new) }
+        ensures bytes { OnOk result (self.new.bytes.items ≡ self.old.bytes.items) }
+    {
+        self.moves.push(Move {
+            from: 0,
+            cell: cell as u32,
+        })?;
+        Ok(())
+    }
+
+    /// Finds the cells of the numbers that are far from their homes, among those that changed.
+    pub fn find_far(&mut self, old_cells: &[u64], cells: &[u64]) -> Result<(), Memory>
+        ghost f: { ℕ → List ℕ }
+        requires as_many { length old_cells.now ≡ length cells.now }
+        requires few_cells { length cells.now ≤ most_cells }
+        requires right { IsRight f cells.now self.old }
+        requires noted { (cell : ℕ) → cell < length cells.now
+            → slice_index old_cells.now cell ≢ slice_index cells.now cell
+            → IsNoted cells.now self.old cell }
+        ensures right { OnOk result (IsRight f cells.now self.new) }
+        ensures noted { OnOk result ((cell : ℕ) → cell < length cells.now
+            → slice_index old_cells.now cell ≢ slice_index cells.now cell
+            → Moves self.new.moves.items cell) }
+    {
+        if !self.far.is_empty() {
+            self.far.sort_unstable_by_key(|one| one.number);
+            move_far(old_cells, cells, &self.far, &mut self.moves)?;
+        }
+        Ok(())
+    }
+}
+
+/// Where a number stands, if that is near its home. A smaller number or an empty cell ends the search: in ordered cells
+/// the number stands behind neither.
+fn find_near(order: &Salted, cells: &[u64], number: u64) -> Near
+    requires some { number ≢ 0 }
+    requires ordered { IsOrdered (home_of order.now.bits order.now.salt) cells.now }
+    ensures { IsNear cells.now number result }
+{
+    let home = order.home(number);
+    let end = cells.len().min(home.saturating_add(NEAR));
+    for cell in home..end {
+        if cells[cell] <= number {
+            return if cells[cell] == number {
+                Near::At(cell)
+            } else {
+                Near::Nowhere
+            };
+        }
+    }
+    Near::Far
+}
+
+/// Appends the moves to those changed cells whose numbers are among these, which are in order.
+fn move_far(
+    old_cells: &[u64],
+    cells: &[u64],
+    far: &[Waiting],
+    moves: &mut Vec<Move>,
+) -> Result<(), Memory>
+    requires as_many { length old_cells.now ≡ length cells.now }
+    requires few_cells { length cells.now ≤ most_cells }
+    requires rising { IsNonDecreasingBy (λ one. one.number) far.now }
+    ensures right { OnOk result ((f : ℕ → List ℕ) (bytes : List ℕ)
+        → All (λ one. Waits f bytes one.from one.number) far.now
+        → All (IsRightMove f cells.now bytes) moves.old.items
+        → All (IsRightMove f cells.now bytes) moves.new.items) }
+    ensures still { OnOk result ((cell : ℕ) → Moves moves.old.items cell → Moves moves.new.items cell) }
+    ensures moved { OnOk result ((cell : ℕ) → cell < length cells.now
+        → slice_index old_cells.now cell ≢ slice_index cells.now cell
+        → AwaitsCell far.now (slice_index cells.now cell) → Moves moves.new.items cell) }
+{
+    let mut cell = next_changed(old_cells, cells, 0);
+    while cell < cells.len() {
+        if let Some(from) = waits_from(far, cells[cell]) {
+            moves.push(Move {
+                from,
+                cell: cell as u32,
+            })?;
+        }
+        cell = next_changed(old_cells, cells, cell + 1);
+    }
+    Ok(())
+}
+
+/// From where on the bytes of a number's cell wait, if it is one of these.
+fn waits_from(far: &[Waiting], number: u64) -> Option<u32>
+    requires { IsNonDecreasingBy (λ one. one.number) far.now }
+    ensures { MatchOption result (¬ AwaitsCell far.now number)
+        (λ from. Contains far.now (record { number = number; from = from })) }
+{
+    match far.binary_search_by_key(&number, |one| one.number) {
+        Ok(at) => Some(far[at].from),
+        Err(_) => None,
+    }
+}

@@ -1,0 +1,178 @@
+//! The bytes of an image, changed in place where a ballot belongs in another cell.
+
+ghost use Rattle.ballot_record.specs.Format.{largest_cell};
+ghost use Rattle.body_store.specs.Contents.{ballots_of};
+ghost use Rattle.body_store.specs.Moves.{AreCells, IsLeftUpTo, IsRelay, IsRight, IsSought, Moves, StayNoted, cell_in};
+ghost use Rattle.std.specs.Prelude.{◌≡◌, ◌≢◌, ℕ, ◌+◌, ◌*◌, ◌<◌, ◌≤◌, List, All, IfOk, OnErr, OnOk, length, slice_index, take};
+ghost use Rattle.store_spec.specs.Ballot.{IsValid, numbers_of};
+ghost use Rattle.store_spec.specs.Election.{header_size, most_ballots, most_cells};
+ghost use Rattle.store_spec.specs.Home.{home_of};
+ghost use Rattle.store_spec.specs.Image.{ballot_bytes};
+ghost use Rattle.store_spec.specs.Layout.{IsOrdered};
+
+use crate::changed::next_changed;
+use crate::moves::Plan;
+use ballot_record::{Election, HEADER_BYTES, MAX_CELL_BYTES, Record};
+use outside_io::Memory;
+use probe_order::Salted;
+use std::alloc::Global;
+
+/// Changes the bytes of an image from those of the old cells to those of the new ones, in which each ballot of the image
+/// stands that is not withdrawn, and these new ballots. Cells whose number is the same stay. It takes all memory before
+/// the first byte changes, and time near n log n of the ballots that move, whatever their homes.
+pub fn relay(
+    alloc: Global,
+    order: &Salted,
+    election: &Election,
+    ballots: &[Record],
+    old_cells: &[u64],
+    cells: &[u64],
+    image: &mut [u8],
+) -> Result<(), Memory>
+    ghost f: { ℕ → List ℕ }
+    requires { IsRelay election.now f (home_of order.now.bits order.now.salt) (ballots_of ballots.now)
+        old_cells.now cells.now image.old }
+    ensures after { OnOk result (AreCells election.now f cells.now image.new) }
+    ensures header { take header_size image.new ≡ take header_size image.old }
+    ensures unchanged { OnErr result (image.new ≡ image.old) }
+{
+    let plan = make_plan(alloc, order, election, ballots, old_cells, cells, image)?;
+    carry_out(&plan, old_cells, cells, election.cell_bytes(), image);
+    Ok(())
+}
+
+/// What is to be written in each cell that changes.
+fn make_plan(
+    alloc: Global,
+    order: &Salted,
+    election: &Election,
+    ballots: &[Record],
+    old_cells: &[u64],
+    cells: &[u64],
+    image: &[u8],
+) -> Result<Plan, Memory>
+    ghost f: { ℕ → List ℕ }
+    requires { IsRelay election.now f (home_of order.now.bits order.now.salt) (ballots_of ballots.now)
+        old_cells.now cells.now image.now }
+    ensures right { IfOk result (IsRight f cells.now) }
+    ensures noted { IfOk result (λ plan. (cell : ℕ) → cell < length cells.now
+        → slice_index old_cells.now cell ≢ slice_index cells.now cell
+        → Moves plan.moves.items cell) }
+{
+    let size = election.cell_bytes();
+    let mut plan = Plan::new(alloc, size, ballots.len())?;
+    take_in(&mut plan, order, election, ballots, cells)?;
+    take_out(&mut plan, order, size, old_cells, cells, image)?;
+    plan.find_far(old_cells, cells)?;
+    Ok(plan)
+}
+
+/// Lets the bytes of new ballots wait.
+#[tactic(auto, using(ballot_record::proofs::CellFormat::largest_cell_width, std::proofs::lemmas::Grind::common_steps))]
+fn take_in(
+    plan: &mut Plan,
+    order: &Salted,
+    election: &Election,
+    ballots: &[Record],
+    cells: &[u64],
+) -> Result<(), Memory>
+    ghost f: { ℕ → List ℕ }
+    requires ordered { IsOrdered (home_of order.now.bits order.now.salt) cells.now }
+    requires few_cells { length cells.now ≤ most_cells }
+    requires few_ballots { length ballots.now ≤ most_ballots }
+    requires new_ballots { All (λ b. IsValid election.now b × (ballot_bytes election.now b ≡ f b.number))
+        (ballots_of ballots.now) }
+    requires right { IsRight f cells.now plan.old }
+    requires short { length plan.old.bytes.items ≤ largest_cell }
+    ensures right { OnOk result (IsRight f cells.now plan.new) }
+    ensures sought { OnOk result ((k : ℕ) → k < length ballots.now
+        → IsSought cells.now plan.new (slice_index (numbers_of (ballots_of ballots.now)) k)) }
+    ensures short { OnOk result
+        (length plan.new.bytes.items ≤ (most_ballots + 1) * largest_cell) }
+{
+    let size = election.cell_bytes();
+    let mut room = [0; MAX_CELL_BYTES];
+    let bytes = &mut room[..size];
+    for ballot in ballots {
+        ballot.put_cell(election, bytes);
+        plan.add(order, cells, ballot.number, bytes)?;
+    }
+    Ok(())
+}
+
+/// Lets the bytes of the ballots wait that stand in cells that changed, and notes which of these cells are to be empty.
+#[tactic(auto, using(ballot_record::proofs::CellFormat::header_width))]
+fn take_out(
+    plan: &mut Plan,
+    order: &Salted,
+    size: usize,
+    old_cells: &[u64],
+    cells: &[u64],
+    image: &[u8],
+) -> Result<(), Memory>
+    ghost f: { ℕ → List ℕ }
+    requires ordered { IsOrdered (home_of order.now.bits order.now.salt) cells.now }
+    requires few_cells { length cells.now ≤ most_cells }
+    requires as_many { length old_cells.now ≡ length cells.now }
+    requires long { length image.now ≡ header_size + length old_cells.now * size }
+    requires before { (cell : ℕ) → cell < length cells.now
+        → cell_in size cell image.now ≡ f (slice_index old_cells.now cell) }
+    requires narrow { size ≤ largest_cell }
+    requires right { IsRight f cells.now plan.old }
+    requires short { length plan.old.bytes.items ≤ (most_ballots + 1) * largest_cell }
+    ensures right { OnOk result (IsRight f cells.now plan.new) }
+    ensures left { OnOk result (IsLeftUpTo old_cells.now cells.now plan.new (length cells.now)) }
+    ensures still { OnOk result (StayNoted cells.now plan.old plan.new) }
+{
+    let mut cell = next_changed(old_cells, cells, 0);
+    while cell < cells.len() {
+        if old_cells[cell] != 0 {
+            let at = HEADER_BYTES + cell * size;
+            plan.add(order, cells, old_cells[cell], &image[at..at + size])?;
+        }
+        if cells[cell] == 0 {
+            plan.empty(cells, cell)?;
+        }
+        cell = next_changed(old_cells, cells, cell + 1);
+    }
+    Ok(())
+}
+
+/// Writes what waits where it belongs.
+fn carry_out(plan: &Plan, old_cells: &[u64], cells: &[u64], size: usize, image: &mut [u8])
+    ghost f: { ℕ → List ℕ }
+    requires wide { (number : ℕ) → length (f number) ≡ size }
+    requires long { length image.old ≡ header_size + length cells.now * size }
+    requires before { (cell : ℕ) → cell < length cells.now
+        → cell_in size cell image.old ≡ f (slice_index old_cells.now cell) }
+    requires right { IsRight f cells.now plan.now }
+    requires noted { (cell : ℕ) → cell < length cells.now
+        → slice_index old_cells.now cell ≢ slice_index cells.now cell
+        → Moves plan.now.moves.items cell }
+    ensures after { (cell : ℕ) → cell < length cells.now
+        → cell_in size cell image.new ≡ f (slice_index cells.now cell) }
+    ensures header { take header_size image.new ≡ take header_size image.old }
+{
+    for one in &plan.moves {
+        let from = one.from as usize;
+        put_cell_at(
+            image,
+            size,
+            one.cell as usize,
+            &plan.bytes[from..from + size],
+        );
+    }
+}
+
+/// Writes the bytes of one cell.
+#[tactic(auto, using(ballot_record::proofs::CellFormat::header_width))]
+fn put_cell_at(image: &mut [u8], size: usize, cell: usize, bytes: &[u8])
+    requires within { header_size + cell * size + size ≤ length image.old }
+    requires size { length bytes.now ≡ size }
+    ensures here { cell_in size cell image.new ≡ bytes.now }
+    ensures others { (other : ℕ) → other ≢ cell → cell_in size other image.new ≡ cell_in size other image.old }
+    ensures header { take header_size image.new ≡ take header_size image.old }
+{
+    let at = HEADER_BYTES + cell * size;
+    image[at..at + size].copy_from_slice(bytes);
+}

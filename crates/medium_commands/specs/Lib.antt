@@ -1,0 +1,3 @@
+pub mod Audit
+pub mod Init
+pub mod Refused

@@ -1,0 +1,60 @@
+-- How the program ends: its exit status, and the text on standard error where that is not 0.
+use Rattle.std.specs.Prelude.{ℕ, List, ◌++◌, codes, Result, Ok as Fine, Err}
+use Rattle.std.specs.Fmt.{decimal}
+use Rattle.run_outcome.specs.declared.status.Status.{Status}
+use Rattle.run_outcome.specs.declared.status.Status.TheVariants.{Ok, Usage, BadElection, TooLong, DiskFault, ReadFault, WriteFault, Memory, NoStore, Damaged, OtherElection, Exists, WrongSize, NotCanonical, BadLine}
+use Rattle.run_outcome.specs.declared.status.Which.TheVariants.{Election, Script}
+
+abbrev pub exit_status : Status → ℕ
+exit_status Ok = 0
+exit_status Usage = 2
+exit_status BadElection = 3
+exit_status (TooLong which) = 4
+exit_status DiskFault = 5
+exit_status (ReadFault which) = 6
+exit_status WriteFault = 7
+exit_status Memory = 8
+exit_status NoStore = 9
+exit_status (Damaged cell) = 10
+exit_status (OtherElection header) = 11
+exit_status Exists = 12
+exit_status (WrongSize size) = 13
+exit_status (NotCanonical place) = 14
+exit_status (BadLine line why) = 15
+
+abbrev pub status_text : Status → List ℕ
+status_text Ok = codes "ok"
+status_text Usage = codes "usage"
+status_text BadElection = codes "bad election"
+status_text (TooLong Election) = codes "election too long"
+status_text (TooLong Script) = codes "script too long"
+status_text DiskFault = codes "disk fault"
+status_text (ReadFault Election) = codes "election read fault"
+status_text (ReadFault Script) = codes "script read fault"
+status_text WriteFault = codes "write fault"
+status_text Memory = codes "out of memory"
+status_text NoStore = codes "no store"
+status_text (Damaged cell) = codes "damaged cell " ++ decimal cell
+status_text (OtherElection header) = codes "other election"
+status_text Exists = codes "store exists"
+status_text (WrongSize size) = codes "wrong size " ++ decimal size
+status_text (NotCanonical place) = codes "not canonical at " ++ decimal place
+status_text (BadLine line why) = codes "bad line " ++ decimal line
+
+-- the status is neither a fault of the outside nor want of memory
+abbrev pub IsDecided : Status → Type 0
+IsDecided DiskFault = ⊥
+IsDecided (ReadFault which) = ⊥
+IsDecided WriteFault = ⊥
+IsDecided Memory = ⊥
+IsDecided status = Unit {0}
+
+-- the status of what a command answered
+abbrev pub ended : Result (Unit {0}) Status → Status
+ended (Fine done) = Ok
+ended (Err status) = status
+
+-- the same of a call whose faults have these statuses
+abbrev pub ended_as : {F : Type 0} → (F → Status) → Result (Unit {0}) F → Status
+ended_as fault_status (Fine done) = Ok
+ended_as fault_status (Err fault) = fault_status fault

@@ -1,0 +1,8 @@
+//! How a run of the program ends: its status, and what every command's row says.
+#![tactic(auto)]
+
+mod status;
+mod telling;
+
+pub use status::{Status, Which};
+pub use telling::tell;

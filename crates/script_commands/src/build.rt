@@ -1,0 +1,52 @@
+//! The command `build`: the image of the set of the script's record lines.
+
+ghost use Rattle.outside_io.specs.Outside.{input, output, outside};
+ghost use Rattle.run_outcome.specs.Status.{ended};
+ghost use Rattle.script_commands.specs.Build.{BuildEnds};
+ghost use Rattle.script_commands.specs.Script.{script_status};
+ghost use Rattle.std.specs.Prelude.{◌≡◌};
+
+mod ballots;
+mod index;
+mod script;
+
+use ballot_record::Election;
+use body_store::Closed;
+use outside_io::{Sink, Source};
+use run_outcome::{Status, Which, tell};
+use script::{ScriptFault, read_ballots};
+use std::alloc::Global;
+
+fn status_of(fault: ScriptFault) -> Status
+    ensures { result ≡ script_status fault }
+{
+    match fault {
+        ScriptFault::BadLine { line, why } => Status::BadLine { line, why },
+        ScriptFault::TooLong => Status::TooLong {
+            which: Which::Script,
+        },
+        ScriptFault::ReadFault => Status::ReadFault {
+            which: Which::Script,
+        },
+        ScriptFault::Memory => Status::Memory,
+    }
+}
+
+/// Writes the image of the set of the script's record lines. The first bad line ends the run, and nothing is written.
+pub fn build<S: Source, K: Sink>(
+    alloc: Global,
+    election: &Election,
+    script: &mut S,
+    out: &mut K,
+) -> Result<(), Status>
+    ensures { BuildEnds election.now (ended result)
+        (outside (input S.left S.faults script.old) (output K.taken K.faults out.old))
+        (outside (input S.left S.faults script.new) (output K.taken K.faults out.new)) }
+{
+    let records = match read_ballots(alloc, election, script) {
+        Ok(records) => records,
+        Err(fault) => return Err(status_of(fault)),
+    };
+    let store = Closed::from_records(alloc, election, records)?;
+    tell(out, store.image())
+}

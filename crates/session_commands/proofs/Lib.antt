@@ -1,0 +1,3 @@
+mod Generating
+pub mod LargeLaws
+pub mod SessionLaws

@@ -1,0 +1,139 @@
+-- The laws of `session`: a script and the bytes of a disk decide how it ends, but for faults and want of memory.
+use Rattle.std.proofs.Common.{◌≡◌, ◌≢◌, ◌⊎◌, ℕ, ◌<◌, ◌≤◌, List, length, Some, Result, Ok, Err, inl, inr, ⊎_elim, refl, arith, ap, sym, subst, ◌∙◌}
+use Rattle.outside_io.proofs.Told.{told_at}
+use Rattle.outside_io.specs.Outside.{Input}
+use Rattle.phase_gate.specs.Around.{Around}
+use Rattle.recovery.proofs.Refusals.{one_refusal, refused_holds}
+use Rattle.recovery.specs.Refused.{IsRefusedMedium}
+use Rattle.recovery.specs.declared.fault.RecoverFault.{RecoverFault}
+use Rattle.recovery.specs.declared.fault.RecoverFault.TheVariants as recover
+use Rattle.run_outcome.proofs.Laws.{Laws, at_told, not_risen}
+use Rattle.run_outcome.specs.Status.{IsDecided, ended_as}
+use Rattle.run_outcome.specs.World.{IsSteady}
+use Rattle.run_outcome.specs.declared.status.Status.{Status}
+use Rattle.run_outcome.specs.declared.status.Status.TheVariants as status
+use Rattle.run_outcome.specs.declared.status.Which.TheVariants as which
+use Rattle.session_commands.specs.Session.{HoldsSome, run_status, session_row}
+use Rattle.session_run.specs.Ends.{Begun, SessionEnds}
+use Rattle.session_run.specs.Faults.{recover_fault}
+use Rattle.session_run.specs.declared.fault.RunFault.{RunFault}
+use Rattle.session_run.specs.declared.fault.RunFault.TheVariants as run
+use Rattle.store_spec.specs.Disk.{DiskModel}
+use Rattle.store_spec.specs.Election.{Election, IsElection}
+use Rattle.store_spec.specs.Input.{script_limit}
+use Rattle.store_spec.specs.Medium.{HoldsSet}
+
+-- a medium is refused for this reason, which bytes tell
+pub record Refuses (e : Election) (bytes : List ℕ) (status : Status) : Type 0 where
+  pub why : RecoverFault
+  pub is : status ≡ run_status (recover_fault why)
+  pub no_fault : why ≢ recover.DiskFault
+  pub memory : why ≢ recover.Memory
+  pub refused : IsRefusedMedium e bytes why
+
+-- the status that a script and a disk decide, and why
+abbrev pub SessionDecides : Election → List ℕ → List ℕ → Status → Type 0
+SessionDecides e text bytes a =
+    ((a ≡ status.Ok) × HoldsSome e bytes × (length text ≤ script_limit))
+    ⊎ (((a ≡ status.TooLong which.Script) × HoldsSome e bytes × (script_limit < length text)) ⊎ Refuses e bytes a)
+
+-- a decided refusal is neither a fault nor want of memory
+decided_why : (why : RecoverFault) → IsDecided (run_status (recover_fault why)) → (why ≢ recover.DiskFault) × (why ≢ recover.Memory)
+decided_why recover.NoStore decided = (λ is. cc, λ is. cc)
+decided_why (recover.OtherElection header) decided = (λ is. cc, λ is. cc)
+decided_why (recover.Damaged cell) decided = (λ is. cc, λ is. cc)
+decided_why recover.DiskFault decided = absurd decided
+decided_why recover.Memory decided = absurd decided
+
+-- a session that began, and how it ended
+began_decides : {T K D : Type 0} (model : DiskModel D) (tell : List ℕ → List ℕ) (e : Election) (fault : RunFault) (old new : Input T) (before after : Around K D) (text bytes : List ℕ) → old.left ≡ Some text → model.seen before.disk ≡ Some bytes
+    → IsDecided (run_status fault) → Begun model tell e (Err fault) old new before after → SessionDecides e text bytes (run_status fault)
+began_decides model tell e run.TooLong old new before after text bytes told seen decided ends =
+    inr (inl (refl, (ends.set, at_told (model.seen before.disk) bytes (λ x. HoldsSet e x ends.set) seen ends.held), (told_at text told ends.ends.0).1.0))
+began_decides model tell e run.NoStore old new before after text bytes told seen decided ends = absurd ends.ends
+began_decides model tell e (run.OtherElection header) old new before after text bytes told seen decided ends = absurd ends.ends
+began_decides model tell e (run.Damaged cell) old new before after text bytes told seen decided ends = absurd ends.ends
+began_decides model tell e other old new before after text bytes told seen decided ends = absurd decided
+
+pub answer_decides : {T K D : Type 0} (model : DiskModel D) (tell : List ℕ → List ℕ) (e : Election) (answer : Result (Unit {0}) RunFault) (a : Status) (old new : Input T) (before after : Around K D) (text bytes : List ℕ) → old.left ≡ Some text → model.seen before.disk ≡ Some bytes
+    → IsDecided a → a ≡ ended_as run_status answer → SessionEnds model tell e answer old new before after → SessionDecides e text bytes a
+answer_decides model tell e (Ok done) a old new before after text bytes told seen decided is ends =
+    inl (is, (ends.set, at_told (model.seen before.disk) bytes (λ x. HoldsSet e x ends.set) seen ends.held), (told_at text told ends.ends.0).1.0)
+answer_decides model tell e (Err fault) a old new before after text bytes told seen decided is ends = ⊎_elim
+    (λ none.
+    let same : a ≡ run_status (recover_fault none.0) = is ∙ ap run_status none.1 in
+    let which = decided_why none.0 (subst IsDecided same decided) in
+    inr (inr (record { why = none.0; is = same; no_fault = which.0; memory = which.1; refused = at_told (model.seen before.disk) bytes (λ x. IsRefusedMedium e x none.0) seen none.2.refused })))
+    (λ began. subst (SessionDecides e text bytes) (sym is) (began_decides model tell e fault old new before after text bytes told seen (subst IsDecided is decided) began))
+    ends
+
+-- bytes that are refused hold nothing
+not_both : (e : Election) (bytes : List ℕ) (a : Status) → IsElection e → HoldsSome e bytes → Refuses e bytes a → ⊥
+not_both e bytes a valid holds refuses = refused_holds e bytes refuses.why valid refuses.no_fault refuses.memory refuses.refused holds.0 holds.1
+
+pub one_session : (e : Election) (text bytes : List ℕ) (a b : Status) → IsElection e → SessionDecides e text bytes a → SessionDecides e text bytes b → a ≡ b
+one_session e text bytes a b valid x y = ⊎_elim
+    (λ ok. ⊎_elim
+    (λ other. ok.0 ∙ sym other.0)
+    (λ rest. ⊎_elim (λ long. absurd (omega (arith, ok.2, long.2))) (λ refuses. absurd (not_both e bytes b valid ok.1 refuses)) rest)
+    y)
+    (λ others. ⊎_elim
+    (λ long. ⊎_elim
+    (λ ok. absurd (omega (arith, ok.2, long.2)))
+    (λ rest. ⊎_elim (λ too. long.0 ∙ sym too.0) (λ refuses. absurd (not_both e bytes b valid long.1 refuses)) rest)
+    y)
+    (λ refused. ⊎_elim
+    (λ ok. absurd (not_both e bytes a valid ok.1 refused))
+    (λ rest. ⊎_elim
+    (λ long. absurd (not_both e bytes a valid long.1 refused))
+    (λ other. refused.is ∙ ap (λ why. run_status (recover_fault why)) (one_refusal e bytes refused.why other.why refused.no_fault refused.memory other.no_fault other.memory refused.refused other.refused) ∙ sym other.is)
+    rest)
+    y)
+    others)
+    x
+
+-- ---- where nothing failed
+
+-- the statuses of faults are told apart
+recovery_settled : (why : RecoverFault) (fault : RunFault) → fault ≡ recover_fault why → (why ≡ recover.DiskFault → ⊥) → (fault ≡ run.DiskFault → ⊥) × (fault ≡ run.ReadFault → ⊥) × (fault ≡ run.WriteFault → ⊥)
+recovery_settled recover.DiskFault fault is other = absurd (other refl)
+recovery_settled why fault is other = (λ x. let clash = sym is ∙ x in cc, λ x. let clash = sym is ∙ x in cc, λ x. let clash = sym is ∙ x in cc)
+
+pub answer_settled : {T K D : Type 0} (model : DiskModel D) (tell : List ℕ → List ℕ) (e : Election) (answer : Result (Unit {0}) RunFault) (old new : Input T) (before after : Around K D)
+    → IsSteady old.faults new.faults → IsSteady before.sink.faults after.sink.faults → IsSteady (model.faults before.disk) (model.faults after.disk)
+    → SessionEnds model tell e answer old new before after → IsDecided (ended_as run_status answer) ⊎ (ended_as run_status answer ≡ status.Memory)
+answer_settled model tell e (Err run.ReadFault) old new before after script sink disk ends = absurd (⊎_elim
+    (λ none. (recovery_settled none.0 run.ReadFault none.1 (λ is. not_risen (model.faults before.disk) (model.faults after.disk) disk (none.2.fault.rose is))).1 refl)
+    (λ began. not_risen old.faults new.faults script began.ends.3)
+    ends)
+answer_settled model tell e (Err run.DiskFault) old new before after script sink disk ends = absurd (⊎_elim
+    (λ none. (recovery_settled none.0 run.DiskFault none.1 (λ is. not_risen (model.faults before.disk) (model.faults after.disk) disk (none.2.fault.rose is))).0 refl)
+    (λ began. not_risen (model.faults before.disk) (model.faults after.disk) disk began.ends.0.rose)
+    ends)
+answer_settled model tell e (Err run.WriteFault) old new before after script sink disk ends = absurd (⊎_elim
+    (λ none. (recovery_settled none.0 run.WriteFault none.1 (λ is. not_risen (model.faults before.disk) (model.faults after.disk) disk (none.2.fault.rose is))).2 refl)
+    (λ began. not_risen before.sink.faults after.sink.faults sink began.ends.2)
+    ends)
+answer_settled model tell e (Err run.Memory) old new before after script sink disk ends = inr refl
+answer_settled model tell e other old new before after script sink disk ends = inl tt
+
+pub settled_as : (a b : Status) → a ≡ b → IsDecided b ⊎ (b ≡ status.Memory) → IsDecided a ⊎ (a ≡ status.Memory)
+settled_as a b is settled = subst (λ (x : Status). IsDecided x ⊎ (x ≡ status.Memory)) (sym is) settled
+
+pub never_usage : (answer : Result (Unit {0}) RunFault) → status.Usage ≡ ended_as run_status answer → ⊥
+never_usage (Err run.Memory) is = cc
+never_usage other is = cc
+
+-- ---- the row
+
+pub session_laws : Laws session_row
+session_laws = record {
+  Cause = λ e content. SessionDecides e content.script content.disk;
+  caused = λ model e a report before after content tells decided ends.
+      answer_decides model (λ text. text) e ends.answer a before.streams.script after.streams.script _ _ content.script content.disk tells.script tells.disk decided ends.told ends.ends;
+  one = λ e content a b valid x y. one_session e content.script content.disk a b valid x y;
+  settled = λ model e a report before after none ends.
+      settled_as a (ended_as run_status ends.answer) ends.told (answer_settled model (λ text. text) e ends.answer before.streams.script after.streams.script _ _ none.script none.sink none.disk ends.ends);
+  served = λ e content a words valid none has decides. one_session e content.script content.disk a status.Ok valid decides (inl (refl, has.0, has.1));
+  no_usage = λ model e report before after ends. never_usage ends.answer ends.told;
+}

@@ -1,0 +1,67 @@
+-- The ballots of a store, listed by their places.
+use Rattle.std.proofs.Common.{◌≡◌, ℕ, ◌<◌, List, [], Option, Some, IsSome, is_some, get_or, length, map, sym, ap, ◌∙◌, arith}
+use Rattle.std.proofs.lemmas.List.{get_or-map, get_or_default, length-map}
+use Rattle.std.proofs.lemmas.List.Elements.{Contains-get_or}
+use Rattle.ballot_record.proofs.BallotNumbers.{length-numbers_of}
+use Rattle.ballot_record.proofs.Lookups.{found_once}
+use Rattle.body_store.proofs.BallotSets.{held_layout, may_hold_set}
+use Rattle.body_store.specs.Contents.{Contents, IsStored}
+use Rattle.body_store.specs.Places.{AreAt}
+use Rattle.body_store.specs.declared.lookup.Place.{Place}
+use Rattle.store_spec.specs.Ballot.{Ballot, ballot_of, numbers_of}
+use Rattle.store_spec.specs.Election.{cell_count}
+use Rattle.store_spec.specs.Image.{cells_of}
+
+abbrev nobody : Ballot
+nobody = record { number = 0; style = 0; marks = [] }
+
+-- the cell of the place listed there
+abbrev pub cell_at : List Place → ℕ → ℕ
+cell_at listed i = (get_or listed i (record { number = 0; cell = 0 })).cell
+
+-- the ballot that is found by the number in that cell
+abbrev pub found_at : Contents → List Place → ℕ → Option Ballot
+found_at store listed i = ballot_of store.ballots (get_or (cells_of store.election store.ballots) (cell_at listed i) 0)
+
+-- the places of a store's ballots, in their order
+pub record IsListed (store : Contents) (listed : List Place) : Type 0 where
+  pub stored : IsStored store
+  pub numbers : map (λ place. place.number) listed ≡ numbers_of store.ballots
+  pub cells : AreAt (cells_of store.election store.ballots) listed
+
+pub as_many : (store : Contents) (listed : List Place) → IsListed store listed → length listed ≡ length store.ballots
+as_many store listed is =
+    sym (length-map listed (λ place. place.number)) ∙ ap length is.numbers ∙ length-numbers_of store.ballots
+
+pub cell_within : (store : Contents) (listed : List Place) (i : ℕ) → IsListed store listed → i < length listed
+    → cell_at listed i < cell_count store.election
+cell_within store listed i is lt =
+    let held = may_hold_set store.election store.ballots is.stored.set is.stored.within_limit in
+    omega (arith, (is.cells i (record { number = 0; cell = 0 }) lt).0, (held_layout store.election store.ballots is.stored.election held).size)
+
+ballot_found : (store : Contents) (listed : List Place) (i : ℕ) → IsListed store listed → i < length listed
+    → found_at store listed i ≡ Some (get_or store.ballots i nobody)
+ballot_found store listed i is lt =
+    let held = may_hold_set store.election store.ballots is.stored.set is.stored.within_limit in
+    let within : i < length store.ballots = omega (arith, lt, as_many store listed is) in
+    let place : Place = record { number = 0; cell = 0 } in
+    let number : get_or (cells_of store.election store.ballots) (cell_at listed i) 0 ≡ (get_or store.ballots i nobody).number =
+    (is.cells i place lt).1
+    ∙ sym (get_or-map (λ (place : Place). place.number) listed i place 0 lt)
+    ∙ ap (λ ns. get_or ns i 0) is.numbers
+    ∙ get_or-map (λ (b : Ballot). b.number) store.ballots i nobody 0 within in
+    found_once store.ballots (get_or (cells_of store.election store.ballots) (cell_at listed i) 0) (get_or store.ballots i nobody)
+    held.listing.distinct (Contains-get_or store.ballots i nobody within) (sym number)
+
+pub some_found : (store : Contents) (listed : List Place) (i : ℕ) → IsListed store listed → i < length listed
+    → IsSome (found_at store listed i)
+some_found store listed i is lt = ap is_some (ballot_found store listed i is lt)
+
+-- what is found there is the next ballot
+pub next_found : (store : Contents) (listed : List Place) (i : ℕ) (b : Ballot) → IsListed store listed → i < length listed
+    → found_at store listed i ≡ Some b → (i < length store.ballots) × (get_or store.ballots i b ≡ b)
+next_found store listed i b is lt found =
+    let within : i < length store.ballots = omega (arith, lt, as_many store listed is) in
+    let same : Some (get_or store.ballots i nobody) ≡ Some b = sym (ballot_found store listed i is lt) ∙ found in
+    let next : get_or store.ballots i nobody ≡ b = cc in
+    (within, get_or_default store.ballots i b nobody within ∙ next)

@@ -1,0 +1,78 @@
+-- The ballots in ranges of the cells of a store: which they are, and how few.
+use Rattle.std.proofs.Common.{◌≡◌, ℕ, ◌+◌, ◌-◌, ◌≤◌, List, ◌++◌, drop, length, take, sym, ap, subst, ◌∙◌, arith, length-append}
+use Rattle.std.proofs.Math.Seq.{take-add}
+use Rattle.std.proofs.lemmas.List.{drop-drop, take_all, take-append-drop}
+use Rattle.std.proofs.lemmas.List.Sorted.{IsPermutation-sym, length_permutation}
+use Rattle.std.specs.List.{All}
+use Rattle.std.specs.List.Sorted.{IsPermutation}
+use Rattle.body_store.proofs.BallotSets.{MayHold, held_layout, may_hold_set}
+use Rattle.body_store.proofs.Spelled.{held_append, held_in_layout, held_valid}
+use Rattle.body_store.specs.Contents.{Contents, IsStored}
+use Rattle.body_store.specs.Held.{held_in}
+use Rattle.store_spec.specs.Ballot.{Ballot, IsValid}
+use Rattle.store_spec.specs.Election.{cell_count}
+use Rattle.store_spec.specs.Image.{cells_of}
+use Rattle.tally_export.specs.Ranges.{ballots_in}
+
+abbrev cells_in : Contents → List ℕ
+cells_in store = cells_of store.election store.ballots
+
+stored_set : (store : Contents) → IsStored store → MayHold store.election store.ballots
+stored_set store stored = may_hold_set store.election store.ballots stored.set stored.within_limit
+
+-- a range is its front and what is behind it
+pub both_in : (store : Contents) (from middle end : ℕ) → from ≤ middle → middle ≤ end
+    → ballots_in store from middle ++ ballots_in store middle end ≡ ballots_in store from end
+both_in store from middle end front back =
+    let behind = drop from (cells_in store) in
+    let more = end - middle in
+    let on : drop (middle - from) behind ≡ drop middle (cells_in store) = drop-drop (middle - from) from (cells_in store)
+    ∙ ap (λ n. drop n (cells_in store)) (let same : from + (middle - from) ≡ middle = omega arith in same) in
+    sym (ap (λ n. held_in store.ballots (take n behind)) (let both : end - from ≡ (middle - from) + more = omega arith in both)
+    ∙ ap (held_in store.ballots) (take-add (middle - from) more behind)
+    ∙ ap (λ cells. held_in store.ballots (take (middle - from) behind ++ take more cells)) on
+    ∙ held_append store.ballots (take (middle - from) behind) (take more (drop middle (cells_in store))))
+
+-- all cells hold the ballots of the store
+pub all_in : (store : Contents) (end : ℕ) → IsStored store → end ≡ cell_count store.election
+    → IsPermutation (ballots_in store 0 end) store.ballots
+all_in store end stored is =
+    let held = stored_set store stored in
+    let size = (held_layout store.election store.ballots stored.election held).size in
+    let whole : take (end - 0) (cells_in store) ≡ cells_in store = take_all (end - 0) (cells_in store) (omega arith) in
+    subst (λ (cells : List ℕ). IsPermutation (held_in store.ballots cells) store.ballots) (sym whole)
+    (IsPermutation-sym store.ballots (held_in store.ballots (cells_in store)) (held_in_layout store.election store.ballots stored.election held))
+
+pub valid_in : (store : Contents) (from end : ℕ) → IsStored store → All (IsValid store.election) (ballots_in store from end)
+valid_in store from end stored =
+    held_valid store.election store.ballots (take (end - from) (drop from (cells_in store))) stored.set.valid
+
+fewer_in_front : (ballots : List Ballot) (n : ℕ) (cells : List ℕ) → length (held_in ballots (take n cells)) ≤ length (held_in ballots cells)
+fewer_in_front ballots n cells =
+    omega (
+      arith,
+      length-append (held_in ballots (take n cells)) (held_in ballots (drop n cells)),
+      ap length (sym (held_append ballots (take n cells) (drop n cells)) ∙ ap (held_in ballots) (take-append-drop n cells)),
+    )
+
+fewer_behind : (ballots : List Ballot) (n : ℕ) (cells : List ℕ) → length (held_in ballots (drop n cells)) ≤ length (held_in ballots cells)
+fewer_behind ballots n cells =
+    omega (
+      arith,
+      length-append (held_in ballots (take n cells)) (held_in ballots (drop n cells)),
+      ap length (sym (held_append ballots (take n cells) (drop n cells)) ∙ ap (held_in ballots) (take-append-drop n cells)),
+    )
+
+-- no range holds more than a store may
+pub few_in : (store : Contents) (from end : ℕ) → IsStored store → length (ballots_in store from end) ≤ 32768
+few_in store from end stored =
+    let held = stored_set store stored in
+    let there = length_permutation store.ballots (held_in store.ballots (cells_in store)) (held_in_layout store.election store.ballots stored.election held) in
+    omega (
+      arith,
+      there,
+      stored.within_limit,
+      stored.election.few_ballots,
+      fewer_in_front store.ballots (end - from) (drop from (cells_in store)),
+      fewer_behind store.ballots from (cells_in store),
+    )

@@ -1,0 +1,15 @@
+use Rattle.std.proofs.Common.{◌-◌, ◌≤◌}
+use Rattle.tally_export.specs.Counted.{IsTallyOf}
+use Rattle.tally_export.specs.Ranges.{ballots_in}
+use Rattle.tally_export.proofs.contests.tally_cells.Given as goal
+
+-- the ballots of the first cells are counted
+abbrev pub invariant-cells : goal.invariant-cells
+invariant-cells l = record {
+  onward : l.from ≤ l.cell;
+  within : l.cell ≤ l.end;
+  counted : IsTallyOf l.closed.election (ballots_in l.closed l.from l.cell) l.all;
+}
+
+abbrev pub decreases-cells : goal.decreases-cells
+decreases-cells l = l.end - l.cell
