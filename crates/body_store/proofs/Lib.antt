@@ -8,6 +8,7 @@ pub mod ByNumber
 pub mod Images
 pub mod Listings
 pub mod Lookups
+mod NewBallots
 pub mod Numbers
 pub mod Pieces
 pub mod Spelled

@@ -1,5 +1,5 @@
 -- What waits to be written in an image, and for which cells, as more is added.
-use Rattle.std.proofs.Common.{◌≡◌, ◌≢◌, ◌⊎◌, ℕ, ◌+◌, ◌<◌, ◌≤◌, inl, inr, ⊎_elim, List, [], ◌∷◌, ◌++◌, length, get_or, take, drop, map, sym, ap, ◌∙◌, subst, arith, length-append, length-drop}
+use Rattle.std.proofs.Common.{◌≡◌, ◌≢◌, ◌⊎◌, ℕ, ◌+◌, ◌-◌, ◌<◌, ◌≤◌, inl, inr, ⊎_elim, List, [], ◌∷◌, ◌++◌, length, get_or, take, drop, map, sym, ap, ◌∙◌, subst, arith, length-append, length-drop}
 use Rattle.std.proofs.lemmas.Bool.{cases_eq, cases_lt}
 use Rattle.std.proofs.lemmas.List.{drop-append-le, drop_at, get_or-map, length-map, map_push, take-append-le, take_all}
 use Rattle.std.proofs.lemmas.List.Elements.{All-contains, All-push, All-weaker, Contains-append_left, Contains-push, Contains-push_cases}
@@ -8,7 +8,7 @@ use Rattle.std.specs.List.{All, Contains}
 use Rattle.std.specs.List.Sorted.{IsPermutation}
 use Rattle.ballot_record.specs.Format.{largest_cell}
 use Rattle.body_store.proofs.CellPlaces.{stands_once}
-use Rattle.body_store.specs.Moves.{AreRight, AwaitsCell, IsLeftUpTo, IsNoted, IsRight, IsRightMove, IsSought, Moves, StayNoted, Waits}
+use Rattle.body_store.specs.Moves.{AreRight, AwaitsCell, IsLeftUpTo, IsNoted, IsRight, IsRightMove, IsSought, Moves, StayNoted, Waits, WaitsIn}
 use Rattle.body_store.specs.declared.moves.Move.{Move}
 use Rattle.body_store.specs.declared.moves.Plan.{Plan}
 use Rattle.body_store.specs.declared.moves.Waiting.{Waiting}
@@ -67,59 +67,65 @@ waits_last f bytes more from number last same =
           ∙ same;
     }
 
-right_move_still : (f : ℕ → List ℕ) (cells bytes more : List ℕ) (move : Move) → IsRightMove f cells bytes move
-    → IsRightMove f cells (bytes ++ more) move
-right_move_still f cells bytes more move h = record {
+waits_in_still : (f : ℕ → List ℕ) (front bytes more : List ℕ) (from number : ℕ) → WaitsIn f front bytes from number
+    → WaitsIn f front (bytes ++ more) from number
+waits_in_still f front bytes more from number = elim [
+  | inl in_front ↦ inl in_front
+  | inr behind ↦ inr (behind.0, waits_still f bytes more (from - length front) number behind.1)
+]
+
+right_move_still : (f : ℕ → List ℕ) (cells front bytes more : List ℕ) (move : Move) → IsRightMove f cells front bytes move
+    → IsRightMove f cells front (bytes ++ more) move
+right_move_still f cells front bytes more move h = record {
   within = h.within;
-  waits = waits_still f bytes more move.from (get_or cells move.cell 0) h.waits;
+  waits = waits_in_still f front bytes more move.from (get_or cells move.cell 0) h.waits;
 }
 
-right_still : (f : ℕ → List ℕ) (cells bytes more : List ℕ) (moves : List Move) (far : List Waiting)
-    → AreRight f cells bytes moves far → AreRight f cells (bytes ++ more) moves far
-right_still f cells bytes more moves far h = record {
+-- more bytes change nothing
+pub right_still : (f : ℕ → List ℕ) (cells front bytes more : List ℕ) (moves : List Move) (far : List Waiting)
+    → AreRight f cells front bytes moves far → AreRight f cells front (bytes ++ more) moves far
+right_still f cells front bytes more moves far h = record {
   empty = waits_still f bytes more 0 0 h.empty;
-  each_move = All-weaker (IsRightMove f cells bytes) (IsRightMove f cells (bytes ++ more))
-      (right_move_still f cells bytes more) moves h.each_move;
-  each_far = All-weaker (λ one. Waits f bytes one.from one.number) (λ one. Waits f (bytes ++ more) one.from one.number)
-      (λ one. waits_still f bytes more one.from one.number) far h.each_far;
+  each_move = All-weaker (IsRightMove f cells front bytes) (IsRightMove f cells front (bytes ++ more))
+      (right_move_still f cells front bytes more) moves h.each_move;
+  each_far = All-weaker (λ one. WaitsIn f front bytes one.from one.number)
+      (λ one. WaitsIn f front (bytes ++ more) one.from one.number)
+      (λ one. waits_in_still f front bytes more one.from one.number) far h.each_far;
 }
 
-pub same_right : (f : ℕ → List ℕ) (cells was_bytes bytes : List ℕ) (was_moves moves : List Move)
-    (was_far far : List Waiting) → AreRight f cells was_bytes was_moves was_far
-    → bytes ≡ was_bytes → moves ≡ was_moves → far ≡ was_far → AreRight f cells bytes moves far
-same_right f cells was_bytes bytes was_moves moves was_far far h same_bytes same_moves same_far =
-    subst (λ (bytes : List ℕ). AreRight f cells bytes moves far) (sym same_bytes)
-    (subst (λ (moves : List Move). AreRight f cells was_bytes moves far) (sym same_moves)
-    (subst (λ (far : List Waiting). AreRight f cells was_bytes was_moves far) (sym same_far) h))
+pub same_right : (f : ℕ → List ℕ) (cells front was_bytes bytes : List ℕ) (was_moves moves : List Move)
+    (was_far far : List Waiting) → AreRight f cells front was_bytes was_moves was_far
+    → bytes ≡ was_bytes → moves ≡ was_moves → far ≡ was_far → AreRight f cells front bytes moves far
+same_right f cells front was_bytes bytes was_moves moves was_far far h same_bytes same_moves same_far =
+    subst (λ (bytes : List ℕ). AreRight f cells front bytes moves far) (sym same_bytes)
+    (subst (λ (moves : List Move). AreRight f cells front was_bytes moves far) (sym same_moves)
+    (subst (λ (far : List Waiting). AreRight f cells front was_bytes was_moves far) (sym same_far) h))
 
--- bytes more, which wait for a cell
-pub right_moved : (f : ℕ → List ℕ) (cells bytes more : List ℕ) (moves : List Move) (far : List Waiting) (move : Move)
-    → AreRight f cells bytes moves far → move.from ≡ length bytes → move.cell < length cells
-    → more ≡ f (get_or cells move.cell 0) → AreRight f cells (bytes ++ more) (moves ++ move ∷ []) far
-right_moved f cells bytes more moves far move h last within same =
-    let still = right_still f cells bytes more moves far h in
-    let here : IsRightMove f cells (bytes ++ more) move = record {
-      within = within;
-      waits = waits_last f bytes more move.from (get_or cells move.cell 0) last same;
-    } in
-    record {
-      empty = still.empty;
-      each_move = All-push (IsRightMove f cells (bytes ++ more)) moves move still.each_move here;
-      each_far = still.each_far;
-    }
+-- one move more
+pub right_moved : (f : ℕ → List ℕ) (cells front bytes : List ℕ) (moves : List Move) (far : List Waiting) (move : Move)
+    → AreRight f cells front bytes moves far → move.cell < length cells
+    → WaitsIn f front bytes move.from (get_or cells move.cell 0) → AreRight f cells front bytes (moves ++ move ∷ []) far
+right_moved f cells front bytes moves far move h within waits = record {
+  empty = h.empty;
+  each_move = All-push (IsRightMove f cells front bytes) moves move h.each_move (record { within = within; waits = waits });
+  each_far = h.each_far;
+}
 
--- bytes more, which wait for the cell of a number that is far from its home
-pub right_far : (f : ℕ → List ℕ) (cells bytes more : List ℕ) (moves : List Move) (far : List Waiting) (one : Waiting)
-    → AreRight f cells bytes moves far → one.from ≡ length bytes → more ≡ f one.number
-    → AreRight f cells (bytes ++ more) moves (far ++ one ∷ [])
-right_far f cells bytes more moves far one h last same =
-    let still = right_still f cells bytes more moves far h in
-    record {
-      empty = still.empty;
-      each_move = still.each_move;
-      each_far = All-push (λ one. Waits f (bytes ++ more) one.from one.number) far one still.each_far
-          (waits_last f bytes more one.from one.number last same);
-    }
+-- one number more that is far from its home
+pub right_far : (f : ℕ → List ℕ) (cells front bytes : List ℕ) (moves : List Move) (far : List Waiting) (one : Waiting)
+    → AreRight f cells front bytes moves far → WaitsIn f front bytes one.from one.number
+    → AreRight f cells front bytes moves (far ++ one ∷ [])
+right_far f cells front bytes moves far one h waits = record {
+  empty = h.empty;
+  each_move = h.each_move;
+  each_far = All-push (λ one. WaitsIn f front bytes one.from one.number) far one h.each_far waits;
+}
+
+-- bytes that were put behind wait there
+pub waits_behind : (f : ℕ → List ℕ) (front bytes more : List ℕ) (from number : ℕ) → from ≡ length front + length bytes
+    → more ≡ f number → WaitsIn f front (bytes ++ more) from number
+waits_behind f front bytes more from number last same =
+    inr (omega arith, waits_last f bytes more (from - length front) number (omega arith) same)
 
 -- ---- cells that are noted
 
@@ -147,8 +153,8 @@ noted_far cells was_moves moves was_far far one cell same pushed = elim [
 -- ---- the cells of numbers that are far from their homes, found among the cells that changed
 
 pub record FarUpTo (old cells : List ℕ) (far : List Waiting) (was moves : List Move) (n : ℕ) : Type 0 where
-  pub right : (f : ℕ → List ℕ) (bytes : List ℕ) → All (λ one. Waits f bytes one.from one.number) far
-      → All (IsRightMove f cells bytes) was → All (IsRightMove f cells bytes) moves
+  pub right : (f : ℕ → List ℕ) (front bytes : List ℕ) → All (λ one. WaitsIn f front bytes one.from one.number) far
+      → All (IsRightMove f cells front bytes) was → All (IsRightMove f cells front bytes) moves
   pub still : (cell : ℕ) → Moves was cell → Moves moves cell
   pub moved : (cell : ℕ) → cell < n → get_or old cell 0 ≢ get_or cells cell 0 → AwaitsCell far (get_or cells cell 0)
       → Moves moves cell
@@ -161,10 +167,10 @@ far_found old cells far was moves n from h within found =
     let move : Move = record { from = from; cell = n } in
     let one : Waiting = record { number = get_or cells n 0; from = from } in
     record {
-      right = λ f bytes each before.
-          All-push (IsRightMove f cells bytes) moves move (h.right f bytes each before) (record {
+      right = λ f front bytes each before.
+          All-push (IsRightMove f cells front bytes) moves move (h.right f front bytes each before) (record {
             within = within;
-            waits = All-contains (λ one. Waits f bytes one.from one.number) far one each found;
+            waits = All-contains (λ one. WaitsIn f front bytes one.from one.number) far one each found;
           });
       still = λ cell there. among_still (λ (move : Move). move.cell) moves move cell (h.still cell there);
       moved = λ cell lt changed waits.
@@ -194,15 +200,15 @@ far_on old cells far was moves n m h none = record {
 -- ---- what stood in the cells that changed, up to one of them
 
 -- the ballot of a cell is added to a plan, if there is one
-pub record IsAdded (f : ℕ → List ℕ) (cells : List ℕ) (was plan : Plan) (number : ℕ) : Type 0 where
-  pub right : IsRight f cells plan
+pub record IsAdded (f : ℕ → List ℕ) (cells front : List ℕ) (was plan : Plan) (number : ℕ) : Type 0 where
+  pub right : IsRight f cells front plan
   pub still : StayNoted cells was plan
   pub sought : number ≢ 0 → IsSought cells plan number
   pub short : length plan.bytes.items ≤ length was.bytes.items + largest_cell
 
 -- a cell is noted, if it is to be empty
-pub record IsEmptied (f : ℕ → List ℕ) (cells : List ℕ) (was plan : Plan) (cell : ℕ) : Type 0 where
-  pub right : IsRight f cells plan
+pub record IsEmptied (f : ℕ → List ℕ) (cells front : List ℕ) (was plan : Plan) (cell : ℕ) : Type 0 where
+  pub right : IsRight f cells front plan
   pub still : StayNoted cells was plan
   pub noted : get_or cells cell 0 ≡ 0 → IsNoted cells plan cell
   pub same : plan.bytes.items ≡ was.bytes.items

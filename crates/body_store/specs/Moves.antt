@@ -1,5 +1,5 @@
 -- How the bytes of an image are changed in place: which bytes wait, and in which cells they belong.
-use Rattle.std.specs.Prelude.{◌≡◌, ◌≢◌, ◌⊎◌, ℕ, ◌+◌, ◌*◌, ◌<◌, ◌≤◌, List, All, Contains, drop, length, map, replicate, slice_index, take}
+use Rattle.std.specs.Prelude.{◌≡◌, ◌≢◌, ◌⊎◌, ℕ, ◌+◌, ◌-◌, ◌*◌, ◌<◌, ◌≤◌, List, All, Contains, drop, length, map, replicate, slice_index, take}
 use Rattle.body_store.specs.declared.moves.Move.{Move}
 use Rattle.body_store.specs.declared.moves.Near.{Near}
 use Rattle.body_store.specs.declared.moves.Near.TheVariants.{At, Nowhere, Far}
@@ -22,19 +22,24 @@ pub record Waits (f : ℕ → List ℕ) (bytes : List ℕ) (from number : ℕ) :
   pub within : from + length (f number) ≤ length bytes
   pub same : take (length (f number)) (drop from bytes) ≡ f number
 
+-- they wait among the bytes of new ballots, which stand in front, or behind these
+abbrev pub WaitsIn : (ℕ → List ℕ) → List ℕ → List ℕ → ℕ → ℕ → Type 0
+WaitsIn f front bytes from number =
+    Waits f front from number ⊎ ((length front ≤ from) × Waits f bytes (from - length front) number)
+
 -- what waits for a cell is the bytes of the number that it is to have
-pub record IsRightMove (f : ℕ → List ℕ) (cells bytes : List ℕ) (move : Move) : Type 0 where
+pub record IsRightMove (f : ℕ → List ℕ) (cells front bytes : List ℕ) (move : Move) : Type 0 where
   pub within : move.cell < length cells
-  pub waits : Waits f bytes move.from (slice_index cells move.cell)
+  pub waits : WaitsIn f front bytes move.from (slice_index cells move.cell)
 
 -- what waits for cells, for numbers that are far from their homes, and for cells that are to be empty
-pub record AreRight (f : ℕ → List ℕ) (cells bytes : List ℕ) (moves : List Move) (far : List Waiting) : Type 0 where
+pub record AreRight (f : ℕ → List ℕ) (cells front bytes : List ℕ) (moves : List Move) (far : List Waiting) : Type 0 where
   pub empty : Waits f bytes 0 0
-  pub each_move : All (IsRightMove f cells bytes) moves
-  pub each_far : All (λ one. Waits f bytes one.from one.number) far
+  pub each_move : All (IsRightMove f cells front bytes) moves
+  pub each_far : All (λ one. WaitsIn f front bytes one.from one.number) far
 
-abbrev pub IsRight : (ℕ → List ℕ) → List ℕ → Plan → Type 0
-IsRight f cells plan = AreRight f cells plan.bytes.items plan.moves.items plan.far.items
+abbrev pub IsRight : (ℕ → List ℕ) → List ℕ → List ℕ → Plan → Type 0
+IsRight f cells front plan = AreRight f cells front plan.bytes.items plan.moves.items plan.far.items
 
 -- something is to be written in a cell
 abbrev pub Moves : List Move → ℕ → Type 0

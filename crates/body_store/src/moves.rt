@@ -1,6 +1,6 @@
 //! In which cells the ballots of an image belong, and the bytes of those that are to be written.
 
-ghost use Rattle.body_store.specs.Moves.{AwaitsCell, IsNear, IsNoted, IsRight, IsRightMove, IsSought, Moves, StayNoted, Waits};
+ghost use Rattle.body_store.specs.Moves.{AwaitsCell, IsNear, IsNoted, IsRight, IsRightMove, IsSought, Moves, StayNoted, WaitsIn};
 ghost use Rattle.std.specs.List.Sorted.{IsNonDecreasingBy};
 ghost use Rattle.std.specs.Prelude.{◌≡◌, ◌≢◌, ℕ, ◌+◌, ◌*◌, ◌^◌, ◌<◌, ◌≤◌, [], List, All, Contains, IfOk, MatchOption, OnOk, length, replicate, slice_index};
 ghost use Rattle.store_spec.specs.Election.{most_cells};
@@ -40,10 +40,10 @@ enum Near {
     Far,
 }
 
-/// What is to be written in an image, and where.
+/// What is to be written in an image, and where. The bytes that wait are those of new ballots, and behind them its own.
 #[derive(Drop)]
 pub struct Plan {
-    /// The bytes of cells, one behind another: an empty one, and those of ballots.
+    /// The bytes of cells, one behind another: an empty one, and those of ballots that move.
     pub bytes: Vec<u8>,
     pub moves: Vec<Move>,
     /// The numbers that are far from their homes, whose cells are not known yet.
@@ -51,46 +51,40 @@ pub struct Plan {
 }
 
 impl Plan {
-    /// Nothing is to be written. There is room for so many cells.
+    /// Nothing is to be written. There is room for so many moves.
     pub fn new(alloc: Global, size: usize, room: usize) -> Result<Plan, Memory>
-        ghost f: { ℕ → List ℕ }
-        requires fits { room * size < 2 ^ 32 }
-        requires blank { f 0 ≡ replicate size 0 }
-        ensures right { IfOk result (IsRight f []) }
+        ensures right { IfOk result (λ plan. (f : ℕ → List ℕ) (cells front : List ℕ)
+            → f 0 ≡ replicate size 0 → IsRight f cells front plan) }
         ensures long { IfOk result (λ plan. length plan.bytes.items ≡ size) }
     {
-        let mut bytes = vec![in alloc; 0; size]?;
-        bytes.reserve(room * size)?;
         Ok(Plan {
-            bytes,
+            bytes: vec![in alloc; 0; size]?,
             moves: Vec::with_capacity(alloc, room)?,
             far: Vec::new(alloc),
         })
     }
 
-    /// Lets the bytes of a number's cell wait, and notes in which cell they belong. A number that stands in none is left
+    /// Notes in which cell the bytes of a number's cell belong, which wait from one on. A number that stands in none is left
     /// out.
-    pub fn add(
+    pub fn note(
         &mut self,
         order: &Salted,
         cells: &[u64],
         number: u64,
-        bytes: &[u8],
+        from: usize,
     ) -> Result<(), Memory>
-        ghost f: { ℕ → List ℕ }
         requires some { number ≢ 0 }
         requires ordered { IsOrdered (home_of order.now.bits order.now.salt) cells.now }
         requires few_cells { length cells.now ≤ most_cells }
-        requires right { IsRight f cells.now self.old }
-        requires bytes { bytes.now ≡ f number }
-        requires short { length self.old.bytes.items < 2 ^ 32 }
-        ensures right { OnOk result (IsRight f cells.now self.new) }
+        requires short { from < 2 ^ 32 }
+        ensures right { OnOk result ((f : ℕ → List ℕ) (front : List ℕ)
+            → WaitsIn f front self.old.bytes.items from number
+            → IsRight f cells.now front self.old → IsRight f cells.now front self.new) }
         ensures sought { OnOk result (IsSought cells.now self.new number) }
         ensures still { OnOk result (StayNoted cells.now self.old self.new) }
-        ensures longer { OnOk result
-            (length self.new.bytes.items ≤ length self.old.bytes.items + length bytes.now) }
+        ensures bytes { self.new.bytes.items ≡ self.old.bytes.items }
     {
-        let from = self.bytes.len() as u32;
+        let from = from as u32;
         match find_near(order, cells, number) {
             Near::At(cell) => {
                 self.moves.push(Move {
@@ -98,27 +92,52 @@ impl Plan {
                     cell: cell as u32,
                 })?;
             }
-            Near::Nowhere => return Ok(()),
+            Near::Nowhere => {}
             Near::Far => self.far.push(Waiting { number, from })?,
         }
-        self.bytes.extend_from_slice(bytes)?;
         Ok(())
     }
 
-    /// Notes that a cell is to be empty.
-    pub fn empty(&mut self, cells: &[u64], cell: usize) -> Result<(), Memory>
-        ghost f: { ℕ → List ℕ }
+    /// Copies the bytes of a number's cell, and notes in which cell they belong. Those of new ballots are so many.
+    pub fn add(
+        &mut self,
+        order: &Salted,
+        cells: &[u64],
+        front: usize,
+        number: u64,
+        bytes: &[u8],
+    ) -> Result<(), Memory>
+        requires some { number ≢ 0 }
+        requires ordered { IsOrdered (home_of order.now.bits order.now.salt) cells.now }
+        requires few_cells { length cells.now ≤ most_cells }
+        requires short { front + length self.old.bytes.items < 2 ^ 32 }
+        ensures right { OnOk result ((f : ℕ → List ℕ) (new : List ℕ)
+            → length new ≡ front → bytes.now ≡ f number
+            → IsRight f cells.now new self.old → IsRight f cells.now new self.new) }
+        ensures sought { OnOk result (IsSought cells.now self.new number) }
+        ensures still { OnOk result (StayNoted cells.now self.old self.new) }
+        ensures longer { OnOk result
+            (length self.new.bytes.items ≤ length self.old.bytes.items + length bytes.now) }
+    {
+        let from = front + self.bytes.len();
+        self.bytes.extend_from_slice(bytes)?;
+        self.note(order, cells, number, from)
+    }
+
+    /// Notes that a cell is to be empty. The bytes of new ballots are so many.
+    pub fn empty(&mut self, cells: &[u64], front: usize, cell: usize) -> Result<(), Memory>
         requires within { cell < length cells.now }
         requires none { slice_index cells.now cell ≡ 0 }
         requires few_cells { length cells.now ≤ most_cells }
-        requires right { IsRight f cells.now self.old }
-        ensures right { OnOk result (IsRight f cells.now self.new) }
+        requires short { front < 2 ^ 32 }
+        ensures right { OnOk result ((f : ℕ → List ℕ) (new : List ℕ) → length new ≡ front
+            → IsRight f cells.now new self.old → IsRight f cells.now new self.new) }
         ensures noted { OnOk result (IsNoted cells.now self.new cell) }
         ensures still { OnOk result (StayNoted cells.now self.old self.new) }
         ensures bytes { OnOk result (self.new.bytes.items ≡ self.old.bytes.items) }
     {
         self.moves.push(Move {
-            from: 0,
+            from: front as u32,
             cell: cell as u32,
         })?;
         Ok(())
@@ -126,14 +145,13 @@ impl Plan {
 
     /// Finds the cells of the numbers that are far from their homes, among those that changed.
     pub fn find_far(&mut self, old_cells: &[u64], cells: &[u64]) -> Result<(), Memory>
-        ghost f: { ℕ → List ℕ }
         requires as_many { length old_cells.now ≡ length cells.now }
         requires few_cells { length cells.now ≤ most_cells }
-        requires right { IsRight f cells.now self.old }
         requires noted { (cell : ℕ) → cell < length cells.now
             → slice_index old_cells.now cell ≢ slice_index cells.now cell
             → IsNoted cells.now self.old cell }
-        ensures right { OnOk result (IsRight f cells.now self.new) }
+        ensures right { OnOk result ((f : ℕ → List ℕ) (front : List ℕ)
+            → IsRight f cells.now front self.old → IsRight f cells.now front self.new) }
         ensures noted { OnOk result ((cell : ℕ) → cell < length cells.now
             → slice_index old_cells.now cell ≢ slice_index cells.now cell
             → Moves self.new.moves.items cell) }
@@ -177,10 +195,10 @@ fn move_far(
     requires as_many { length old_cells.now ≡ length cells.now }
     requires few_cells { length cells.now ≤ most_cells }
     requires rising { IsNonDecreasingBy (λ one. one.number) far.now }
-    ensures right { OnOk result ((f : ℕ → List ℕ) (bytes : List ℕ)
-        → All (λ one. Waits f bytes one.from one.number) far.now
-        → All (IsRightMove f cells.now bytes) moves.old.items
-        → All (IsRightMove f cells.now bytes) moves.new.items) }
+    ensures right { OnOk result ((f : ℕ → List ℕ) (front bytes : List ℕ)
+        → All (λ one. WaitsIn f front bytes one.from one.number) far.now
+        → All (IsRightMove f cells.now front bytes) moves.old.items
+        → All (IsRightMove f cells.now front bytes) moves.new.items) }
     ensures still { OnOk result ((cell : ℕ) → Moves moves.old.items cell → Moves moves.new.items cell) }
     ensures moved { OnOk result ((cell : ℕ) → cell < length cells.now
         → slice_index old_cells.now cell ≢ slice_index cells.now cell

@@ -1,10 +1,10 @@
 //! The bytes of an image, changed in place where a ballot belongs in another cell.
 
 ghost use Rattle.ballot_record.specs.Format.{largest_cell};
-ghost use Rattle.body_store.specs.Moves.{AreCells, IsLeftUpTo, IsRelay, IsRight, IsSought, Moves, StayNoted, cell_in};
-ghost use Rattle.std.specs.Prelude.{◌≡◌, ◌≢◌, ℕ, ◌+◌, ◌*◌, ◌<◌, ◌≤◌, List, All, IfOk, OnErr, OnOk, length, slice_index, take};
+ghost use Rattle.body_store.specs.Moves.{AreCells, IsLeftUpTo, IsRelay, IsRight, IsSought, Moves, StayNoted, WaitsIn, cell_in};
+ghost use Rattle.std.specs.Prelude.{◌≡◌, ◌≢◌, ℕ, ◌+◌, ◌*◌, ◌<◌, ◌≤◌, List, All, IfOk, OnErr, OnOk, flat_map, length, slice_index, take};
 ghost use Rattle.store_spec.specs.Ballot.{numbers_of};
-ghost use Rattle.store_spec.specs.Election.{header_size, most_ballots, most_cells};
+ghost use Rattle.store_spec.specs.Election.{cell_size, header_size, most_ballots, most_cells};
 ghost use Rattle.store_spec.specs.Home.{home_of};
 ghost use Rattle.store_spec.specs.Image.{ballot_bytes};
 ghost use Rattle.store_spec.specs.Layout.{IsOrdered};
@@ -37,7 +37,8 @@ pub fn relay(
     ensures unchanged { OnErr result (image.new ≡ image.old) }
 {
     let plan = make_plan(alloc, order, election, ballots, old_cells, cells, image)?;
-    carry_out(&plan, old_cells, cells, election.cell_bytes(), image);
+    let size = election.cell_bytes();
+    carry_out(&plan, ballots.bytes(), old_cells, cells, size, image);
     Ok(())
 }
 
@@ -55,23 +56,25 @@ fn make_plan(
     requires election { ballots.now.election ≡ election.now }
     requires cells { IsRelay election.now f (home_of order.now.bits order.now.salt) ballots.now.ballots
         old_cells.now cells.now image.now }
-    ensures right { IfOk result (IsRight f cells.now) }
+    ensures right { IfOk result (IsRight f cells.now
+        (flat_map (ballot_bytes ballots.now.election) ballots.now.ballots)) }
     ensures noted { IfOk result (λ plan. (cell : ℕ) → cell < length cells.now
         → slice_index old_cells.now cell ≢ slice_index cells.now cell
         → Moves plan.moves.items cell) }
 {
     let size = election.cell_bytes();
     let mut plan = Plan::new(alloc, size, ballots.len())?;
-    take_in(&mut plan, order, ballots, cells)?;
-    take_out(&mut plan, order, size, old_cells, cells, image)?;
+    take_in(&mut plan, order, size, ballots, cells)?;
+    take_out(&mut plan, order, size, ballots.bytes(), old_cells, cells, image)?;
     plan.find_far(old_cells, cells)?;
     Ok(plan)
 }
 
-/// Lets the bytes of new ballots wait.
+/// Notes where new ballots belong.
 fn take_in(
     plan: &mut Plan,
     order: &Salted,
+    size: usize,
     ballots: &BallotList,
     cells: &[u64],
 ) -> Result<(), Memory>
@@ -81,26 +84,29 @@ fn take_in(
     requires few_ballots { length ballots.now.ballots ≤ most_ballots }
     requires new_ballots { All (λ b. ballot_bytes ballots.now.election b ≡ f b.number)
         ballots.now.ballots }
-    requires right { IsRight f cells.now plan.old }
-    requires short { length plan.old.bytes.items ≤ largest_cell }
-    ensures right { OnOk result (IsRight f cells.now plan.new) }
+    requires wide { size ≡ cell_size ballots.now.election }
+    requires right { IsRight f cells.now
+        (flat_map (ballot_bytes ballots.now.election) ballots.now.ballots) plan.old }
+    ensures right { OnOk result (IsRight f cells.now
+        (flat_map (ballot_bytes ballots.now.election) ballots.now.ballots) plan.new) }
     ensures sought { OnOk result ((k : ℕ) → k < length ballots.now.ballots
         → IsSought cells.now plan.new (slice_index (numbers_of ballots.now.ballots) k)) }
-    ensures short { OnOk result
-        (length plan.new.bytes.items ≤ (most_ballots + 1) * largest_cell) }
+    ensures bytes { OnOk result (plan.new.bytes.items ≡ plan.old.bytes.items) }
 {
-    'ballots: for place in 0..ballots.len() {
-        plan.add(order, cells, ballots.number(place), ballots.cell(place))?;
+    let count = ballots.len();
+    'ballots: for place in 0..count {
+        plan.note(order, cells, ballots.number(place), place * size)?;
     }
     Ok(())
 }
 
-/// Lets the bytes of the ballots wait that stand in cells that changed, and notes which of these cells are to be empty.
+/// Copies the ballots that stand in cells that changed, and notes which of these cells are to be empty.
 #[tactic(auto, using(ballot_record::proofs::CellFormat::header_width))]
 fn take_out(
     plan: &mut Plan,
     order: &Salted,
     size: usize,
+    front: &[u8],
     old_cells: &[u64],
     cells: &[u64],
     image: &[u8],
@@ -113,9 +119,10 @@ fn take_out(
     requires before { (cell : ℕ) → cell < length cells.now
         → cell_in size cell image.now ≡ f (slice_index old_cells.now cell) }
     requires narrow { size ≤ largest_cell }
-    requires right { IsRight f cells.now plan.old }
-    requires short { length plan.old.bytes.items ≤ (most_ballots + 1) * largest_cell }
-    ensures right { OnOk result (IsRight f cells.now plan.new) }
+    requires right { IsRight f cells.now front.now plan.old }
+    requires short { length front.now + length plan.old.bytes.items
+        ≤ (most_ballots + 1) * largest_cell }
+    ensures right { OnOk result (IsRight f cells.now front.now plan.new) }
     ensures left { OnOk result (IsLeftUpTo old_cells.now cells.now plan.new (length cells.now)) }
     ensures still { OnOk result (StayNoted cells.now plan.old plan.new) }
 {
@@ -123,10 +130,10 @@ fn take_out(
     while cell < cells.len() {
         if old_cells[cell] != 0 {
             let at = HEADER_BYTES + cell * size;
-            plan.add(order, cells, old_cells[cell], &image[at..at + size])?;
+            plan.add(order, cells, front.len(), old_cells[cell], &image[at..at + size])?;
         }
         if cells[cell] == 0 {
-            plan.empty(cells, cell)?;
+            plan.empty(cells, front.len(), cell)?;
         }
         cell = next_changed(old_cells, cells, cell + 1);
     }
@@ -134,13 +141,21 @@ fn take_out(
 }
 
 /// Writes what waits where it belongs.
-fn carry_out(plan: &Plan, old_cells: &[u64], cells: &[u64], size: usize, image: &mut [u8])
+fn carry_out(
+    plan: &Plan,
+    front: &[u8],
+    old_cells: &[u64],
+    cells: &[u64],
+    size: usize,
+    image: &mut [u8],
+)
     ghost f: { ℕ → List ℕ }
     requires wide { (number : ℕ) → length (f number) ≡ size }
+    requires some { 0 < size }
     requires long { length image.old ≡ header_size + length cells.now * size }
     requires before { (cell : ℕ) → cell < length cells.now
         → cell_in size cell image.old ≡ f (slice_index old_cells.now cell) }
-    requires right { IsRight f cells.now plan.now }
+    requires right { IsRight f cells.now front.now plan.now }
     requires noted { (cell : ℕ) → cell < length cells.now
         → slice_index old_cells.now cell ≢ slice_index cells.now cell
         → Moves plan.now.moves.items cell }
@@ -149,14 +164,25 @@ fn carry_out(plan: &Plan, old_cells: &[u64], cells: &[u64], size: usize, image: 
     ensures header { take header_size image.new ≡ take header_size image.old }
 {
     for one in &plan.moves {
-        let from = one.from as usize;
-        put_cell_at(
-            image,
-            size,
-            one.cell as usize,
-            &plan.bytes[from..from + size],
-        );
+        let bytes = waiting(front, &plan.bytes, one.from as usize, size);
+        put_cell_at(image, size, one.cell as usize, bytes);
     }
+}
+
+/// So many bytes that wait from one on, in front or behind.
+fn waiting<'a>(front: &'a [u8], behind: &'a [u8], from: usize, size: usize) -> &'a [u8]
+    ghost f: { ℕ → List ℕ }
+    requires some { 0 < size }
+    requires waits { (number : ℕ) × (length (f number) ≡ size)
+        × WaitsIn f front.now behind.now from number }
+    ensures { (number : ℕ) → length (f number) ≡ size
+        → WaitsIn f front.now behind.now from number → result.now ≡ f number }
+{
+    if from < front.len() {
+        return &front[from..from + size];
+    }
+    let at = from - front.len();
+    &behind[at..at + size]
 }
 
 /// Writes the bytes of one cell.

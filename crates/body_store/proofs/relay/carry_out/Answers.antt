@@ -1,8 +1,8 @@
-use Rattle.std.proofs.Common.{◌≡◌, ◌≢◌, ◌⊎◌, ◌+◌, ◌-◌, ◌<◌, inl, inr, List, drop, get_or, length, take, subst, sym, ap, ◌∙◌, arith}
+use Rattle.std.proofs.Common.{◌≡◌, ◌≢◌, ◌⊎◌, ◌+◌, ◌-◌, ◌<◌, inl, inr, List, drop, get_or, length, take, subst, subst₂, sym, ap, ◌∙◌, arith}
 use Rattle.std.proofs.lemmas.Bool.{cases_eq}
 use Rattle.std.proofs.lemmas.List.{take_all, take_more}
 use Rattle.body_store.proofs.Planning.{among_cases}
-use Rattle.body_store.specs.Moves.{Moves, cell_in}
+use Rattle.body_store.specs.Moves.{Moves, WaitsIn, cell_in}
 use Rattle.body_store.specs.declared.moves.Move.{Move}
 use Rattle.body_store.proofs.relay.carry_out.Goals as goal
 
@@ -15,26 +15,20 @@ loop-one-preserved g c =
     let old = c.args.old_cells.now in
     let cells = c.args.cells.now in
     let size = c.args.size in
-    let bytes = c.args.plan.now.bytes.items in
     let moves = c.args.plan.now.moves.items in
     let listed : c.deref-one-items.result.now ≡ moves = c.deref-one-items.ensures.value in
     let at = c.loop-one.one-index in
     let within : at < length moves = omega (arith, c.loop-one-test.true, ap length listed) in
     let move = get_or moves at none in
     let same : get_or c.deref-one-items.result.now at none ≡ move = ap (λ (moves : List Move). get_or moves at none) listed in
-    let right = c.requires.1.1.1.0.each_move at none within in
+    let right = c.requires.1.1.1.1.0.each_move at none within in
     let number = get_or cells move.cell 0 in
-    let wide = c.requires.0 number in
     let image = c.put_cell_at.new.image in
-    let waits : take (move.from + size - move.from) (drop move.from bytes) ≡ g.f number =
-    ap (λ n. take n (drop move.from bytes)) (let all : move.from + size - move.from ≡ length (g.f number) = omega arith in all)
-    ∙ right.waits.same in
+    let waits = subst₂ (λ bytes (one : Move). WaitsIn g.f c.args.front.now bytes one.from number) (sym c.deref.ensures.value) (sym same) right.waits in
     let written : cell_in size move.cell image ≡ g.f number =
     ap (λ (move : Move). cell_in size move.cell image) (sym same)
     ∙ c.put_cell_at.ensures.here
-    ∙ ap (λ (move : Move). take (move.from + size - move.from) (drop move.from c.deref.result.now)) same
-    ∙ ap (λ bytes. take (move.from + size - move.from) (drop move.from bytes)) c.deref.ensures.value
-    ∙ waits in
+    ∙ c.waiting-bytes.ensures number (c.requires.0 number) waits in
     record {
       after = λ cell lt known.
           elim (cases_eq cell move.cell) [
@@ -65,5 +59,18 @@ returns-clause-after g c cell lt =
     elim (cases_eq (get_or old cell 0) (get_or cells cell 0)) [
       | inl same ↦ c.loop-one.invariant.after cell lt (inl same)
       | inr changed ↦ c.loop-one.invariant.after cell lt
-          (inr (subst (λ (moves : List Move). Moves moves cell) (sym whole) (c.requires.1.1.1.1 cell lt changed)))
+          (inr (subst (λ (moves : List Move). Moves moves cell) (sym whole) (c.requires.1.1.1.1.1 cell lt changed)))
     ]
+
+pub waiting-bytes-requires : goal.waiting-bytes-requires
+waiting-bytes-requires g c =
+    let cells = c.args.cells.now in
+    let moves = c.args.plan.now.moves.items in
+    let listed : c.deref-one-items.result.now ≡ moves = c.deref-one-items.ensures.value in
+    let at = c.loop-one.one-index in
+    let within : at < length moves = omega (arith, c.loop-one-test.true, ap length listed) in
+    let same : get_or c.deref-one-items.result.now at none ≡ get_or moves at none = ap (λ (moves : List Move). get_or moves at none) listed in
+    let number = get_or cells (get_or moves at none).cell 0 in
+    let waits = subst₂ (λ bytes (one : Move). WaitsIn g.f c.args.front.now bytes one.from number) (sym c.deref.ensures.value) (sym same)
+    (c.requires.1.1.1.1.0.each_move at none within).waits in
+    (c.requires.1.0, (number, c.requires.0 number, waits))

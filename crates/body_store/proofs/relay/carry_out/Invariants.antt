@@ -11,3 +11,6 @@ invariant-loop-one g l = record {
       → cell_in l.size cell l.image ≡ g.f (slice_index l.cells cell);
   header : take header_size l.image ≡ take header_size l.initial.image;
 }
+
+abbrev pub ghost-waiting : goal.ghost-waiting
+ghost-waiting g a = g.f

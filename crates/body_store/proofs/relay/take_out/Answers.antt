@@ -12,42 +12,50 @@ pub loop-cell-preserved : goal.loop-cell-preserved
 loop-cell-preserved g c =
     let old = c.args.old_cells.now in
     let cells = c.args.cells.now in
+    let front = c.args.front.now in
     let cell = c.loop-cell.cell in
     let was = c.loop-cell.plan in
     let with_ballot = c.if-old_cells-cell-ne0.plan in
     let plan = c.if-cells-cell-eq0.plan in
     let before = c.loop-cell.invariant in
     let next = c.next_changed-cell-in-loop-cell in
-    let added : IsAdded g.f cells was with_ballot (get_or old cell 0) =
+    let size = c.args.size in
+    let image = c.args.image.now in
+    let at = HEADER_BYTES + cell * size in
+    let bytes : take (at + size - at) (drop at image) ≡ g.f (get_or old cell 0) =
+    ap (λ n. take n (drop at image)) (let all : at + size - at ≡ size = omega arith in all)
+    ∙ ap (λ header. take size (drop (header + cell * size) image)) (sym header_width)
+    ∙ c.requires.1.1.1.1.0 cell c.loop-cell-test.true in
+    let added : IsAdded g.f cells front was with_ballot (get_or old cell 0) =
     elim c.if-old_cells-cell-ne0.branch [
       | then-old_cells-cell-ne0+in_ok-add w ↦
           let now = w.in_ok-add.ensures in
-          subst (λ (plan : Plan). IsAdded g.f cells was plan (get_or old cell 0)) (sym w.plan-is) (record {
-            right = now.right;
+          subst (λ (plan : Plan). IsAdded g.f cells front was plan (get_or old cell 0)) (sym w.plan-is) (record {
+            right = now.right g.f front refl bytes before.right;
             still = now.still;
             sought = λ _. now.sought;
             short = omega arith;
           })
       | else-old_cells-cell-ne0 w ↦
-          subst (λ (plan : Plan). IsAdded g.f cells was plan (get_or old cell 0)) (sym w.plan-is) (record {
+          subst (λ (plan : Plan). IsAdded g.f cells front was plan (get_or old cell 0)) (sym w.plan-is) (record {
             right = before.right;
             still = λ _ noted. noted;
             sought = λ some. absurd (some w.if-old_cells-cell-ne0.false);
             short = omega arith;
           })
     ] in
-    let emptied : IsEmptied g.f cells with_ballot plan cell =
+    let emptied : IsEmptied g.f cells front with_ballot plan cell =
     elim c.if-cells-cell-eq0.branch [
       | then-cells-cell-eq0+in_ok-empty w ↦
           let now = w.in_ok-empty.ensures in
-          subst (λ (plan : Plan). IsEmptied g.f cells with_ballot plan cell) (sym w.plan-is) (record {
-            right = now.right;
+          subst (λ (plan : Plan). IsEmptied g.f cells front with_ballot plan cell) (sym w.plan-is) (record {
+            right = now.right g.f front refl added.right;
             still = now.still;
             noted = λ _. now.noted;
             same = now.bytes;
           })
       | else-cells-cell-eq0 w ↦
-          subst (λ (plan : Plan). IsEmptied g.f cells with_ballot plan cell) (sym w.plan-is) (record {
+          subst (λ (plan : Plan). IsEmptied g.f cells front with_ballot plan cell) (sym w.plan-is) (record {
             right = added.right;
             still = λ _ noted. noted;
             noted = λ none. absurd (w.if-cells-cell-eq0.false none);
@@ -71,14 +79,15 @@ loop-cell-preserved g c =
 
 pub add-requires : goal.add-requires
 add-requires g c =
-    let cell = c.loop-cell.cell in
-    let size = c.args.size in
-    let image = c.args.image.now in
-    let at = HEADER_BYTES + cell * size in
-    let bytes : take (at + size - at) (drop at image) ≡ g.f (get_or c.args.old_cells.now cell 0) =
-    ap (λ n. take n (drop at image)) (let all : at + size - at ≡ size = omega arith in all)
-    ∙ ap (λ header. take size (drop (header + cell * size) image)) (sym header_width)
-    ∙ c.requires.1.1.1.1.0 cell c.loop-cell-test.true in
     let so_far = rw largest_cell_width at c.loop-cell.invariant.short in
-    let short : length c.loop-cell.plan.bytes.items < 2 ^ 32 = omega arith in
-    search rules
+    record {
+      some = c.if-old_cells-cell-ne0.true;
+      ordered = c.requires.0;
+      few_cells = c.requires.1.0;
+      short = omega (arith, so_far, c.loop-cell-test.true, c.requires.1.0);
+    }
+
+pub empty-requires-clause-short : goal.empty-requires-clause-short
+empty-requires-clause-short g c =
+    let all = rw largest_cell_width at c.requires.1.1.1.1.1.1.1 in
+    omega (arith, all)

@@ -4,19 +4,13 @@ use Rattle.body_store.specs.Moves.{IsLeftUpTo, IsRight, StayNoted}
 use Rattle.store_spec.specs.Election.{most_ballots}
 use Rattle.body_store.proofs.relay.take_out.Given as goal
 
-abbrev pub ghost-add : goal.ghost-add
-ghost-add g a = g.f
-
-abbrev pub ghost-empty : goal.ghost-empty
-ghost-empty g a = g.f
-
 -- what is known up to a cell, which changed
 abbrev pub invariant-loop-cell : goal.invariant-loop-cell
 invariant-loop-cell g l = record {
-  right : IsRight g.f l.cells l.plan;
+  right : IsRight g.f l.cells l.front l.plan;
   left : IsLeftUpTo l.old_cells l.cells l.plan l.cell;
   still : StayNoted l.cells l.initial.plan l.plan;
-  short : length l.plan.bytes.items ≤ (most_ballots + 1 + l.cell) * largest_cell;
+  short : length l.front + length l.plan.bytes.items ≤ (most_ballots + 1 + l.cell) * largest_cell;
   within : l.cell ≤ length l.cells;
   changed : l.cell < length l.cells → slice_index l.old_cells l.cell ≢ slice_index l.cells l.cell;
 }

@@ -3,34 +3,33 @@ use Rattle.std.proofs.lemmas.List.Sorted.{All-permutation, IsNonDecreasingBy-fro
 use Rattle.std.specs.List.{All}
 use Rattle.std.specs.List.Sorted.{IsNonDecreasingBy}
 use Rattle.body_store.proofs.Planning.{among_moved}
-use Rattle.body_store.specs.Moves.{AwaitsCell, Moves, Waits}
+use Rattle.body_store.specs.Moves.{AwaitsCell, Moves, WaitsIn}
 use Rattle.body_store.specs.declared.moves.Waiting.{Waiting}
 use Rattle.body_store.proofs.moves.Plan.find_far.Goals as goal
 
 pub move_far-requires-clause-rising : goal.move_far-requires-clause-rising
-move_far-requires-clause-rising g c =
+move_far-requires-clause-rising c =
     subst (λ (ones : List Waiting). IsNonDecreasingBy (λ one. one.number) ones) (sym c.deref.ensures.value)
     (IsNonDecreasingBy-from_sort_by_key (λ one. one.number) c.sort_unstable_by_key.new.self.items
     c.sort_unstable_by_key.ensures.sorted (λ a r q k. search rules))
 
 pub returns-in_ok-move_far-clause-right : goal.returns-in_ok-move_far-clause-right
-returns-in_ok-move_far-clause-right g c =
+returns-in_ok-move_far-clause-right c f front right =
     let was = c.args.self.now in
     let bytes = was.bytes.items in
     let sorted = c.sort_unstable_by_key.new.self.items in
-    let right = c.requires.1.1.0 in
-    let each = All-permutation (λ one. Waits g.f bytes one.from one.number) was.far.items sorted
+    let each = All-permutation (λ one. WaitsIn f front bytes one.from one.number) was.far.items sorted
     c.sort_unstable_by_key.ensures.permutation right.each_far in
     record {
       empty = right.empty;
-      each_move = c.in_ok-move_far.ensures.right g.f bytes
-          (subst (λ (ones : List Waiting). All (λ one. Waits g.f bytes one.from one.number) ones)
+      each_move = c.in_ok-move_far.ensures.right f front bytes
+          (subst (λ (ones : List Waiting). All (λ one. WaitsIn f front bytes one.from one.number) ones)
           (sym c.deref.ensures.value) each) right.each_move;
       each_far = each;
     }
 
 pub returns-in_ok-move_far-clause-noted : goal.returns-in_ok-move_far-clause-noted
-returns-in_ok-move_far-clause-noted g c cell lt changed =
+returns-in_ok-move_far-clause-noted c cell lt changed =
     let was = c.args.self.now in
     let v = get_or c.args.cells.now cell 0 in
     ⊎_elim
@@ -40,4 +39,4 @@ returns-in_ok-move_far-clause-noted g c cell lt changed =
     (subst (λ (ones : List Waiting). AwaitsCell ones v) (sym c.deref.ensures.value)
     (among_moved (λ (one : Waiting). one.number) was.far.items c.sort_unstable_by_key.new.self.items v
     c.sort_unstable_by_key.ensures.permutation waits)))
-    (c.requires.1.1.1 cell lt changed)
+    (c.requires.noted cell lt changed)
