@@ -1,9 +1,8 @@
 -- What the fields of a list of ballots say of the ballots that it shows.
 use Rattle.std.proofs.Common.{◌≡◌, ℕ, ◌+◌, ◌-◌, ◌*◌, ◌/◌, ◌<◌, ◌≤◌, List, [], ◌∷◌, ◌++◌, Some, length, get_or, take, drop, sym, ap, ap₂, subst, ◌∙◌, arith, length-append, mul-le-mul_left, vec_capacity}
 use Rattle.std.proofs.lemmas.List.Elements.{All-nil}
-use Rattle.std.proofs.lemmas.Option.{get_or_from_slice_get, slice_get-get_or, slice_get-map}
+use Rattle.std.proofs.lemmas.Option.{slice_get-get_or}
 use Rattle.std.specs.List.{All, flat_map, slice_get}
-use Rattle.std.specs.Option.{option_map}
 use Rattle.ballot_record.proofs.BallotLists.{AreCellsOf, cell_at_place, cell_within, length-ballots_at, length-cells, number_at_place, one_more, spelled_again}
 use Rattle.ballot_record.proofs.CellFormat.{number_fits, number_of_bytes}
 use Rattle.ballot_record.specs.BallotList.{ListedBallots, ballots_at, empty_list, with_more}

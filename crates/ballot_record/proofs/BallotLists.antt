@@ -1,16 +1,15 @@
 -- The bytes of the cells of ballots, one behind another, and the ballots that they spell.
-use Rattle.std.proofs.Common.{◌≡◌, ℕ, zero, suc, ◌+◌, ◌*◌, ◌^◌, ◌<◌, ◌≤◌, List, [], ◌∷◌, ◌++◌, Some, None, length, get_or, take, drop, refl, sym, ap, ap₂, subst, ◌∙◌, arith, length-append, mul-le-mul_right}
-use Rattle.std.proofs.lemmas.List.{drop-drop, drop_at, flat_map_more, length-map, take_at}
+use Rattle.std.proofs.Common.{◌≡◌, ℕ, zero, suc, ◌+◌, ◌*◌, ◌<◌, ◌≤◌, List, [], ◌∷◌, ◌++◌, Some, length, get_or, take, drop, refl, sym, ap, ap₂, subst, ◌∙◌, arith, length-append, mul-le-mul_right}
+use Rattle.std.proofs.lemmas.List.{drop-drop, drop_at, flat_map_more, take_at}
 use Rattle.std.proofs.lemmas.List.Concat.{flat_map-cons}
-use Rattle.std.proofs.lemmas.List.Elements.{All-contains, All-head, All-push, All-tail}
-use Rattle.std.proofs.lemmas.Option.{get_or_from_slice_get, slice_get-get_or, slice_get-map, slice_get_within}
+use Rattle.std.proofs.lemmas.List.Elements.{All-head, All-push, All-tail}
+use Rattle.std.proofs.lemmas.Option.{get_or_from_slice_get, slice_get-map, slice_get_within}
 use Rattle.std.specs.List.{All, flat_map, slice_get}
 use Rattle.std.specs.Option.{option_map}
-use Rattle.ballot_record.proofs.CellFormat.{length-ballot_bytes, number_of_bytes, spells_itself}
+use Rattle.ballot_record.proofs.CellFormat.{length-ballot_bytes, spells_itself}
 use Rattle.ballot_record.specs.BallotList.{ballots_at}
 use Rattle.ballot_record.specs.Format.{ballot_at}
 use Rattle.store_spec.specs.Ballot.{Ballot, IsValid, numbers_of}
-use Rattle.store_spec.specs.Damage.{number_at}
 use Rattle.store_spec.specs.Election.{Election, IsElection, cell_size}
 use Rattle.store_spec.specs.Image.{ballot_bytes}
 

@@ -1,7 +1,7 @@
 -- What is known of what a store keeps.
-use Rattle.std.proofs.Common.{◌≡◌, ◌≢◌, ℕ, ◌+◌, ◌-◌, ◌*◌, ◌^◌, ◌<◌, ◌≤◌, ⊎_elim, List, Some, drop, length, get_or, take, sym, ap, subst, ◌∙◌, arith, mul-le-mul_right}
+use Rattle.std.proofs.Common.{◌≡◌, ◌≢◌, ℕ, ◌+◌, ◌-◌, ◌*◌, ◌^◌, ◌<◌, ◌≤◌, ⊎_elim, List, Some, ◌++◌, drop, length, get_or, take, sym, ap, subst, ◌∙◌, arith, mul-le-mul_right}
 use Rattle.std.proofs.lemmas.Bool.{cases_lt}
-use Rattle.std.proofs.lemmas.List.{length-drop, length-take-le, take_at}
+use Rattle.std.proofs.lemmas.List.{length-append, length-drop, length-take-le, take_at}
 use Rattle.std.proofs.lemmas.List.Elements.{All-contains}
 use Rattle.std.proofs.lemmas.List.Sorted.{length_permutation}
 use Rattle.std.proofs.lemmas.Nat.{pow_below}
@@ -27,7 +27,7 @@ use Rattle.body_store.specs.declared.Closed.TheInside.{Inside}
 use Rattle.layout_def.proofs.Ascending.{ascending-IsPermutation, ascending_rising}
 use Rattle.store_spec.specs.Ballot.{Ballot, IsValid, ballot_of, numbers_of}
 use Rattle.store_spec.specs.Damage.{cell_at}
-use Rattle.store_spec.specs.Election.{Election, IsElection, bank_size, cell_count, cell_size, header_size, most_bits, most_cells}
+use Rattle.store_spec.specs.Election.{Election, IsElection, bank_size, cell_count, cell_size, header_size, most_ballots, most_bits, most_cells}
 use Rattle.store_spec.specs.Home.{home_in}
 use Rattle.store_spec.specs.Image.{IsCellOf, cell_bytes, cells_of, header_of}
 use Rattle.store_spec.specs.Layout.{IsLayout, ascending, numbers_in}
@@ -83,9 +83,10 @@ pub cell_held : (e : Election) (ballots : List Ballot) (bytes numbers : List ℕ
     → ballot_of ballots (get_or (cells_of e ballots) cell 0) ≡ Some b → IsCellOf e (cell_at e cell bytes) b
 cell_held e ballots bytes numbers cell b shown within there =
     let held = shown_held e ballots bytes numbers shown in
-    let number = get_or (cells_of e ballots) cell 0 in
-    (All-contains (IsValid e) ballots b shown.listing.valid (found_in ballots number b there).0,
-    ap (cell_at e cell) shown.image ∙ cell_of_image e ballots cell shown.election held within ∙ cell_of_found e ballots number b there)
+    let number = get_or (cells_of e ballots) cell 0 in (
+      All-contains (IsValid e) ballots b shown.listing.valid (found_in ballots number b there).0,
+      ap (cell_at e cell) shown.image ∙ cell_of_image e ballots cell shown.election held within ∙ cell_of_found e ballots number b there,
+    )
 
 -- the same of a part of the image, where a cell has so many bytes
 pub part_spelled : (e : Election) (ballots : List Ballot) (bytes numbers : List ℕ) (cell size : ℕ) → size ≡ cell_size e → Shows e ballots bytes numbers → cell < cell_count e → get_or numbers cell 0 ≢ 0
@@ -170,3 +171,18 @@ pub shown_numbers : (e : Election) (ballots : List Ballot) (bytes numbers : List
 shown_numbers e ballots bytes numbers up shown =
     ascending-IsPermutation (numbers_of ballots) (numbers_in numbers) (shown_in_cells e ballots bytes numbers shown)
     ∙ ascending_as_is ballots up
+
+-- with more ballots as many more cells are filled
+pub counted_with : (e : Election) (old more : List Ballot) (bytes numbers now cells : List ℕ) → Shows e old bytes numbers → Shows e (old ++ more) now cells
+    → length (numbers_in cells) ≡ length (numbers_in numbers) + length more
+counted_with e old more bytes numbers now cells before after =
+    let was = length_permutation (numbers_of old) (numbers_in numbers) (shown_in_cells e old bytes numbers before) in
+    let is = length_permutation (numbers_of (old ++ more)) (numbers_in cells) (shown_in_cells e (old ++ more) now cells after) in
+    omega (arith, was, is, length-numbers_of old, length-numbers_of (old ++ more), length-append old more)
+
+-- a store holds few ballots
+pub few_counted : (a : Inside) → IsKept a → a.held ≤ most_ballots
+few_counted a kept =
+    let own = contents_of a in
+    let was = length_permutation (numbers_of own.ballots) (numbers_in a.cells.items) (shown_in_cells own.election own.ballots a.image.items a.cells.items kept.shown) in
+    omega (arith, kept.counted, was, length-numbers_of own.ballots, kept.stored.within_limit, kept.stored.election.few_ballots)

@@ -1,5 +1,5 @@
 -- The bytes of new ballots, which wait one behind another.
-use Rattle.std.proofs.Common.{◌≡◌, ℕ, ◌+◌, ◌*◌, ◌^◌, ◌<◌, ◌≤◌, List, [], Some, inl, length, get_or, take, drop, sym, ap, ◌∙◌, arith, mul-le-mul}
+use Rattle.std.proofs.Common.{◌≡◌, ℕ, ◌*◌, ◌^◌, ◌<◌, ◌≤◌, List, [], Some, inl, length, get_or, take, drop, sym, ap, ◌∙◌, arith, mul-le-mul}
 use Rattle.std.proofs.lemmas.Option.{slice_get-get_or}
 use Rattle.std.specs.List.{All, flat_map, slice_get}
 use Rattle.ballot_record.proofs.BallotLists.{cell_at_place, cell_within, holds_at_place, length-cells, number_at_place}

@@ -60,7 +60,7 @@ impl Closed {
         ensures { IfOk result (λ store. store ≡ record { election = election.now; ballots = [] }) }
     {
         let image = nothing::image(alloc, election)?;
-        let cells = vec![in alloc; 0; election.cells()]?;
+        let cells = zeros::empty_cells(alloc, election.cells())?;
         Closed::from_image(alloc, election, image, cells)
     }
 
@@ -223,9 +223,8 @@ impl Closed {
             &cells,
             &mut self.image,
         )?;
-        let held = lookup::count(&cells);
         self.cells = cells;
-        self.held = held;
+        self.held += ballots.len();
         Ok(())
     }
 

@@ -65,7 +65,15 @@ fn make_plan(
     let size = election.cell_bytes();
     let mut plan = Plan::new(alloc, size, ballots.len())?;
     take_in(&mut plan, order, size, ballots, cells)?;
-    take_out(&mut plan, order, size, ballots.bytes(), old_cells, cells, image)?;
+    take_out(
+        &mut plan,
+        order,
+        size,
+        ballots.bytes(),
+        old_cells,
+        cells,
+        image,
+    )?;
     plan.find_far(old_cells, cells)?;
     Ok(plan)
 }
@@ -130,7 +138,13 @@ fn take_out(
     while cell < cells.len() {
         if old_cells[cell] != 0 {
             let at = HEADER_BYTES + cell * size;
-            plan.add(order, cells, front.len(), old_cells[cell], &image[at..at + size])?;
+            plan.add(
+                order,
+                cells,
+                front.len(),
+                old_cells[cell],
+                &image[at..at + size],
+            )?;
         }
         if cells[cell] == 0 {
             plan.empty(cells, front.len(), cell)?;

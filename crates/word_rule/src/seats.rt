@@ -1,6 +1,6 @@
 //! The seats of shared words, whatever the phase: their making, and their taking in.
 
-ghost use Rattle.std.specs.Prelude.{◌≡◌, ◌+◌, ◌^◌, ◌<◌, ◌≤◌, ◌++◌, [], All, IfOk, length, map, replicate, vec_capacity};
+ghost use Rattle.std.specs.Prelude.{◌≡◌, ◌+◌, ◌^◌, ◌<◌, ◌≤◌, ◌++◌, [], All, IfOk, OnOk, length, map, replicate, vec_capacity};
 ghost use Rattle.word_rule.specs.Seats.{AreDealt, HasEnded, IsSeatAt, KeepsSeats, first_with_all, knows};
 
 use atomic_table::{Join, Seat, Shared, Split, Table, TableRule};
@@ -83,15 +83,37 @@ impl<V, Q: Phase<V>> Join<Known<V>> for TakeIn<Q> {
     ghost spent = { spent Q.fresh };
 }
 
+/// How many words are put at once. A block of this size is copied in the widest steps that the processor has.
+const BLOCK: usize = 250;
+
+const ZEROS: [u64; BLOCK] = [0; BLOCK];
+
 /// The cells, and behind them so many words that are 0.
 pub fn lay_out(alloc: Global, cells: &[u64], more: usize) -> Result<Vec<u64>, Memory>
     requires { length cells.now + more < 2 ^ 32 }
     ensures { IfOk result (λ v. v.items ≡ cells.now ++ replicate more 0) }
 {
     let mut words = Vec::with_capacity(alloc, cells.len() + more)?;
-    words.extend_from_slice(cells)?;
-    words.resize(cells.len() + more, 0)?;
+    while words.len() < cells.len() {
+        let at = words.len();
+        let count = BLOCK.min(cells.len() - at);
+        words.extend_from_slice(&cells[at..at + count])?;
+    }
+    put_zeros(&mut words, more)?;
     Ok(words)
+}
+
+/// Puts so many words that are 0 behind others.
+fn put_zeros(words: &mut Vec<u64>, more: usize) -> Result<(), Memory>
+    ensures { OnOk result (words.new.items ≡ words.old.items ++ replicate more 0) }
+{
+    let mut left = more;
+    while left > 0 {
+        let count = BLOCK.min(left);
+        words.extend_from_slice(&ZEROS[..count])?;
+        left -= count;
+    }
+    Ok(())
 }
 
 /// As many seats as the first stands for: one after another is cut off it.

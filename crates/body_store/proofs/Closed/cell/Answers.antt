@@ -1,11 +1,11 @@
-use Rattle.std.proofs.Common.{◌≡◌, ◌+◌, ◌*◌, ◌<◌, Some, get_or, length, sym, ap, subst, ◌∙◌, arith}
+use Rattle.std.proofs.Common.{◌≡◌, ◌+◌, ◌*◌, ◌<◌, get_or, length, sym, ap, subst, ◌∙◌, arith}
 use Rattle.body_store.proofs.Closed.cell.Goals as goal
 use Rattle.body_store.proofs.Keeping.{cell_held, cell_length, cell_within, shown_size}
 use Rattle.body_store.specs.Contents.{Contents}
 use Rattle.body_store.specs.Kept.{contents_of}
 use Rattle.body_store.specs.Moves.{cell_in}
 use Rattle.store_spec.specs.Ballot.{ballot_of}
-use Rattle.store_spec.specs.Election.{Election, cell_count, cell_size, header_size}
+use Rattle.store_spec.specs.Election.{cell_count, cell_size, header_size}
 use Rattle.store_spec.specs.Image.{IsCellOf, cells_of}
 
 pub bytes_in-requires : goal.bytes_in-requires

@@ -1,8 +1,8 @@
-use Rattle.std.proofs.Common.{◌≡◌, ◌++◌, ℕ, List, drop, length, sym, ap, ◌∙◌, subst, subst₂}
+use Rattle.std.proofs.Common.{◌≡◌, ◌++◌, ◌+◌, ℕ, List, drop, sym, ap, ◌∙◌, subst, subst₂, arith, length-append}
 use Rattle.std.specs.List.Sorted.{IsPermutation}
 use Rattle.body_store.proofs.ByNumber.{by_number-IsPermutation}
 use Rattle.body_store.proofs.Closed.merge.Goals as goal
-use Rattle.body_store.proofs.Keeping.{kept_as, shown_by_number}
+use Rattle.body_store.proofs.Keeping.{counted_with, few_counted, kept_as, shown_by_number}
 use Rattle.body_store.proofs.Relaying.{merge_closes}
 use Rattle.body_store.specs.ByNumber.{by_number}
 use Rattle.body_store.specs.Closing.{IsClose}
@@ -13,7 +13,6 @@ use Rattle.body_store.specs.declared.Closed.TheInside.{Inside}
 use Rattle.store_spec.specs.Ballot.{Ballot, IsListing, IsWithinLimit}
 use Rattle.store_spec.specs.Election.{Election, header_size}
 use Rattle.store_spec.specs.Image.{cells_of}
-use Rattle.store_spec.specs.Layout.{numbers_in}
 
 abbrev held : List ℕ → Election → List ℕ → List Ballot
 held image e numbers = by_number (spelled_in e numbers (drop header_size image))
@@ -36,8 +35,10 @@ close-requires c =
       merge_closes own.election own.ballots new c.self.invariant.shown.election
           (subst (λ (store : Contents). IsListing store.election (store.ballots ++ new)) back c.requires.listing)
           (subst (λ (store : Contents). IsWithinLimit store.election (store.ballots ++ new)) back c.requires.within_limit),
-      (c.requires.election ∙ ap (λ (store : Contents). store.election) back,
-      (c.self.invariant.shown, c.requires.layout ∙ ap (λ (store : Contents). cells_of store.election (store.ballots ++ new)) back)),
+      (
+        c.requires.election ∙ ap (λ (store : Contents). store.election) back,
+        (c.self.invariant.shown, c.requires.layout ∙ ap (λ (store : Contents). cells_of store.election (store.ballots ++ new)) back),
+      ),
     ) in
     subst₂ (λ e numbers. IsAsked image e c.args.ballots.now.election numbers new c.deref-3.result.now) (sym c.deref.ensures) (sym c.deref-2.ensures.value)
     (subst (λ (cells : List ℕ). IsAsked image own.election c.args.ballots.now.election a.cells.items new cells) (sym c.deref-3.ensures.value) asked)
@@ -49,15 +50,29 @@ made image now e own numbers given new laid cells same_e same_numbers same_cells
     subst₂ (λ e numbers. Shows e (held image e numbers ++ new) now cells) same_e same_numbers
     (subst (λ (laid : List ℕ). Shows e (held image e numbers ++ new) now laid) same_cells shown)
 
+pub overflow_add-self : goal.overflow_add-self
+overflow_add-self c =
+    let few = few_counted c.self.inside c.self.invariant in
+    omega (
+      arith,
+      few,
+      c.requires.within_limit,
+      length-append c.args.self.now.ballots c.args.ballots.now.ballots,
+      c.len.ensures.count,
+      c.self.invariant.shown.election.few_ballots,
+      ap (λ (store : Contents). store.election.limit) c.self.view_is,
+    )
+
 pub invariant_of-self-2 : goal.invariant_of-self-2
 invariant_of-self-2 c =
     let a = c.self.inside in
+    let own = contents_of a in
     let new = c.args.ballots.now.ballots in
-    let now : Inside = record { election = a.election; image = c.close.new.image; cells = c.args.cells; held = c.count-held.result } in
-    kept_as now ((contents_of a).ballots ++ new)
-    (made a.image.items now.image.items c.deref.result.now a.election.value c.deref-2.result.now a.cells.items new c.deref-3.result.now c.args.cells.items
-    c.deref.ensures c.deref-2.ensures.value c.deref-3.ensures.value c.in_ok-close.ensures.shown)
-    (c.count-held.ensures ∙ ap (λ cells. length (numbers_in cells)) c.deref-4.ensures.value)
+    let now : Inside = record { election = a.election; image = c.close.new.image; cells = c.args.cells; held = a.held + c.len.result } in
+    let shown = made a.image.items now.image.items c.deref.result.now a.election.value c.deref-2.result.now a.cells.items new c.deref-3.result.now c.args.cells.items
+    c.deref.ensures c.deref-2.ensures.value c.deref-3.ensures.value c.in_ok-close.ensures.shown in
+    let counted = counted_with own.election own.ballots new a.image.items a.cells.items now.image.items c.args.cells.items c.self.invariant.shown shown in
+    kept_as now (own.ballots ++ new) shown (omega (arith, counted, c.self.invariant.counted, c.len.ensures.count))
 
 pub returns-clause-union : goal.returns-clause-union
 returns-clause-union c =

@@ -18,12 +18,20 @@ take_in-requires g c =
     let ballots = c.args.ballots.now.ballots in
     let size = c.cell_bytes-size.ensures.size in (
       given.ordered,
-      (given.few_cells,
-      (given.few_ballots,
-      (subst (λ (e : Election). All (λ b. ballot_bytes e b ≡ g.f b.number) ballots) own (λ k d lt. (given.new_ballots k d lt).1),
-      (size ∙ ap cell_size own,
-      c.in_ok-plan.ensures.right g.f c.args.cells.now (flat_map (ballot_bytes c.args.ballots.now.election) ballots)
-      (given.blank ∙ ap (λ size. replicate size 0) (sym size)))))),
+      (
+        given.few_cells,
+        (
+          given.few_ballots,
+          (
+            subst (λ (e : Election). All (λ b. ballot_bytes e b ≡ g.f b.number) ballots) own (λ k d lt. (given.new_ballots k d lt).1),
+            (
+              size ∙ ap cell_size own,
+              c.in_ok-plan.ensures.right g.f c.args.cells.now (flat_map (ballot_bytes c.args.ballots.now.election) ballots)
+                  (given.blank ∙ ap (λ size. replicate size 0) (sym size)),
+            ),
+          ),
+        ),
+      ),
     )
 
 pub take_out-requires : goal.take_out-requires
@@ -40,13 +48,25 @@ take_out-requires g c =
     let wide : length list.ballots * c.cell_bytes-size.result ≡ length list.ballots * cell_size list.election =
     ap (λ size. length list.ballots * size) (size ∙ ap cell_size (sym c.requires.0)) in (
       given.ordered,
-      (given.few_cells,
-      (given.as_many,
-      (given.before.long ∙ ap (λ size. header_size + length old * size) (sym size),
-      (λ cell lt. ap (λ size. cell_in size cell image) size ∙ given.before.each cell (omega (arith, lt, given.as_many)),
-      (narrow,
-      (subst (λ (front : List ℕ). AreRight g.f c.args.cells.now front c.take_in.new.plan.bytes.items c.take_in.new.plan.moves.items c.take_in.new.plan.far.items) (sym c.bytes.ensures.bytes) taken.right,
-      omega (arith, ap length c.bytes.ensures.bytes, whole, most, wide, ap length taken.bytes, c.in_ok-plan.ensures.long, narrow))))))),
+      (
+        given.few_cells,
+        (
+          given.as_many,
+          (
+            given.before.long ∙ ap (λ size. header_size + length old * size) (sym size),
+            (
+              λ cell lt. ap (λ size. cell_in size cell image) size ∙ given.before.each cell (omega (arith, lt, given.as_many)),
+              (
+                narrow,
+                (
+                  subst (λ (front : List ℕ). AreRight g.f c.args.cells.now front c.take_in.new.plan.bytes.items c.take_in.new.plan.moves.items c.take_in.new.plan.far.items) (sym c.bytes.ensures.bytes) taken.right,
+                  omega (arith, ap length c.bytes.ensures.bytes, whole, most, wide, ap length taken.bytes, c.in_ok-plan.ensures.long, narrow),
+                ),
+              ),
+            ),
+          ),
+        ),
+      ),
     )
 
 pub find_far-requires-clause-noted : goal.find_far-requires-clause-noted

@@ -1,4 +1,4 @@
-use Rattle.std.proofs.Common.{◌≡◌, ◌≢◌, ℕ, ◌*◌, ◌<◌, ◌≤◌, ⊎_elim, get_or, sym, subst, ◌∙◌, arith}
+use Rattle.std.proofs.Common.{◌≡◌, ℕ, ◌*◌, ◌<◌, ◌≤◌, ⊎_elim, get_or, sym, subst, ◌∙◌, arith}
 use Rattle.std.proofs.lemmas.Bool.{cases_lt}
 use Rattle.std.specs.List.{flat_map}
 use Rattle.body_store.proofs.NewBallots.{few_bytes, new_waits, number_some}
@@ -10,8 +10,11 @@ use Rattle.body_store.proofs.relay.take_in.Goals as goal
 pub overflow_mul-place : goal.overflow_mul-place
 overflow_mul-place g c =
     let made = c.len-count.ensures in
-    omega (arith, few_bytes c.args.ballots.now.election c.len-count.result c.args.size c.ballots.place made.election c.requires.1.1.1.1.0
-    (omega (arith, made.count, c.requires.1.1.0)) c.ballots-test.true)
+    omega (
+      arith,
+      few_bytes c.args.ballots.now.election c.len-count.result c.args.size c.ballots.place made.election c.requires.1.1.1.1.0
+          (omega (arith, made.count, c.requires.1.1.0)) c.ballots-test.true,
+    )
 
 pub note-requires : goal.note-requires
 note-requires g c =

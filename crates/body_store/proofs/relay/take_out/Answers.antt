@@ -1,4 +1,4 @@
-use Rattle.std.proofs.Common.{◌≡◌, ◌+◌, ◌-◌, ◌*◌, ◌^◌, ◌<◌, ◌≤◌, get_or, take, drop, length, refl, subst, sym, ap, ◌∙◌, arith, rules, mul-le-mul_right}
+use Rattle.std.proofs.Common.{◌≡◌, ◌+◌, ◌-◌, ◌*◌, ◌≤◌, get_or, take, drop, length, refl, subst, sym, ap, ◌∙◌, arith, mul-le-mul_right}
 use Rattle.ballot_record.proofs.CellFormat.{header_width, largest_cell_width}
 use Rattle.ballot_record.specs.Format.{largest_cell}
 use Rattle.ballot_record.specs.declared.format.TheConstants.{HEADER_BYTES}

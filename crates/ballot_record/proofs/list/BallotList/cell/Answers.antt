@@ -1,4 +1,4 @@
-use Rattle.std.proofs.Common.{◌≡◌, ◌+◌, ◌*◌, ◌<◌, ◌≤◌, length, sym, ap, subst, ◌∙◌, arith}
+use Rattle.std.proofs.Common.{◌+◌, ◌*◌, ◌<◌, ◌≤◌, length, sym, ap, subst, ◌∙◌}
 use Rattle.ballot_record.proofs.BallotListKept.{cell_there, long_enough}
 use Rattle.ballot_record.proofs.CellFormat.{length-ballot_bytes}
 use Rattle.ballot_record.specs.BallotList.{ListedBallots}

@@ -1,4 +1,4 @@
-use Rattle.std.proofs.Common.{◌+◌, List, length, sym, ap, ◌∙◌, subst, arith}
+use Rattle.std.proofs.Common.{◌+◌, sym, subst, arith}
 use Rattle.std.proofs.lemmas.Result.{on_ok_weaker}
 use Rattle.body_store.proofs.moves.Plan.add.Goals as goal
 use Rattle.body_store.proofs.Planning.{right_still, waits_behind}

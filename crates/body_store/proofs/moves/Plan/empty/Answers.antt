@@ -1,4 +1,4 @@
-use Rattle.std.proofs.Common.{◌≡◌, ◌-◌, inr, length, refl, sym, ap, subst, ◌∙◌, arith}
+use Rattle.std.proofs.Common.{◌≡◌, ◌-◌, inr, length, refl, sym, subst, arith}
 use Rattle.body_store.proofs.Planning.{noted_moved, right_moved, same_right}
 use Rattle.body_store.specs.Moves.{Waits}
 use Rattle.body_store.specs.declared.moves.Move.{Move}

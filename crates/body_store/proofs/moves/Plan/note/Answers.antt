@@ -1,4 +1,4 @@
-use Rattle.std.proofs.Common.{◌≡◌, ◌++◌, [], ◌∷◌, List, get_or, inl, inr, refl, sym, ap, ◌∙◌, subst, arith}
+use Rattle.std.proofs.Common.{◌≡◌, ◌++◌, [], ◌∷◌, List, get_or, inl, inr, refl, sym, ◌∙◌, subst}
 use Rattle.store_spec.specs.Home.{home_of}
 use Rattle.body_store.proofs.CellPlaces.{stands_once}
 use Rattle.body_store.proofs.Planning.{among_pushed, noted_far, noted_moved, right_far, right_moved, same_right}
