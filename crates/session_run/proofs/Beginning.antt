@@ -1,8 +1,9 @@
 -- How a run of a session begins: the medium is recovered, or it is refused.
 use Rattle.std.proofs.Common.{◌≡◌, ℕ, ◌<◌, ◌≤◌, List, [], length, Option, Some, None, Result, Ok, Err, refl, arith, ap, sym, subst, ◌∙◌, inl, inr, ⊎_elim, append-nil}
 use Rattle.std.specs.Prelude.{IfSome, IsErrAnd, IsErrOf, is_some}
+use Rattle.body_store.specs.Contents.{Contents, IsStored}
 use Rattle.crash_disk.proofs.Moments.{started, syncs_first}
-use Rattle.outside_io.specs.Outside.{Input}
+use Rattle.outside_io.specs.Outside.{Input, Output}
 use Rattle.outside_io.specs.Stream.{TakesAll}
 use Rattle.outside_io.specs.Told.{IfTold}
 use Rattle.phase_gate.specs.Around.{Around}
@@ -12,15 +13,15 @@ use Rattle.recovery.specs.declared.fault.RecoverFault.{RecoverFault}
 use Rattle.recovery.specs.declared.fault.RecoverFault.TheVariants as recover
 use Rattle.session_run.proofs.SoFar.{SoFar}
 use Rattle.session_run.proofs.Stops.{first_of}
-use Rattle.session_run.specs.Ends.{SessionEnds}
+use Rattle.session_run.specs.Ends.{HasBegun, SessionEnds}
 use Rattle.session_run.specs.Faults.{recover_fault}
 use Rattle.session_run.specs.History.{Acknowledged, HoldsOnceSynced, LosesNothing}
 use Rattle.session_run.specs.declared.fault.RunFault.{RunFault}
-use Rattle.store_spec.specs.Ballot.{Ballot}
-use Rattle.store_spec.specs.Disk.{DiskModel, LeavesOnlyOnceSynced, SyncsFirst, after_calls, leaves_now}
+use Rattle.store_spec.specs.Ballot.{Ballot, IsBallotSet, IsWithinLimit}
+use Rattle.store_spec.specs.Disk.{DiskModel, IsSettled, LeavesOnlyOnceSynced, SyncsFirst, after_calls, leaves_now}
 use Rattle.store_spec.specs.Election.{Election}
 use Rattle.store_spec.specs.Fault.{CountsFaultIf, last_count}
-use Rattle.store_spec.specs.Medium.{HoldsSet, HoldsTheSame}
+use Rattle.store_spec.specs.Medium.{HoldsSet, HoldsTheSame, IsMediumOf}
 use Rattle.store_spec.specs.Session.{State, begun}
 
 -- the answer that was made of a fault
@@ -140,30 +141,76 @@ pub takes_none : (a : Option (List ℕ)) → TakesAll a [] a
 takes_none None = refl
 takes_none (Some x) = ap Some (sym (append-nil x))
 
--- no line was handled yet
-pub begins : {K D : Type 0} (model : DiskModel D) (tell : List ℕ → List ℕ) (e : Election) (set : List Ballot)
-    (state : State) (before : Around K D) (after : D) (held : ℕ)
-    → state ≡ begun set → before.marks ≡ [] → held ≡ length set
-    → is_some (model.seen after) ≡ is_some (model.seen before.disk) → IsMediumNow model e set after
+-- a recovery that did not fail
+pub no_failure : {T : Type 0} {x : T} {why : RecoverFault} {was now : ℕ} → CountsFaultIf (IsErrOf (Ok x) why) was now
+    → now ≡ was
+no_failure fault = fault.steady (λ failed. cc)
+
+-- the disk is the medium of the set that was recovered
+pub medium_now : {D : Type 0} (model : DiskModel D) (e : Election) (set : List Ballot) (old new : D)
+    → IsSettled model.seen model.calls model.may_leave new
+    → IfTold (model.seen old) (model.seen new) (λ _ bytes. IsMediumOf e bytes set) → IsMediumNow model e set new
+medium_now model e set old new settled told = record {
+  settled = settled;
+  medium = now_told (model.seen old) (model.seen new) (λ bytes. IsMediumOf e bytes set) told;
+}
+
+pub medium_of : {D : Type 0} (model : DiskModel D) (e own : Election) (set : List Ballot) (old new : D) → e ≡ own
+    → IsSettled model.seen model.calls model.may_leave new
+    → IfTold (model.seen old) (model.seen new) (λ _ bytes. IsMediumOf e bytes set)
+    → (set : List Ballot) × IsMediumNow model own set new
+medium_of {D} model e own set old new is settled told = (
+  set,
+  subst (λ (e : Election). IsMediumNow model e set new) is
+      (medium_now model e set old new settled told),
+)
+
+-- a session has begun with the set that was recovered
+pub has_begun : {K D : Type 0} (model : DiskModel D) (e : Election) (closed : Contents) (state : State)
+    (before : Around K D) (after : D) (held : ℕ)
+    → IfSome (model.seen before.disk) (λ bytes. HoldsSet e bytes closed.ballots) → closed.election ≡ e
+    → IsStored closed → state ≡ begun closed.ballots → before.marks ≡ [] → held ≡ length closed.ballots
+    → is_some (model.seen after) ≡ is_some (model.seen before.disk) → IsMediumNow model e closed.ballots after
     → model.calls before.disk ≤ model.calls after → model.faults after ≡ model.faults before.disk
     → (model.calls after < last_count → model.calls before.disk < model.calls after)
     → ((bytes : List ℕ) → model.seen before.disk ≡ Some bytes → LeavesOnlyOnceSynced model.calls model.may_leave
     before.disk after (HoldsTheSame e bytes))
-    → SoFar model tell e set [] state 0 before (record
+    → HasBegun model e closed.ballots state before (record
     { sink = before.sink; disk = after; marks = before.marks; held = held })
-begins model tell e set state before after held is none count told medium later steady called once_synced = record {
+has_begun model e closed state before after held read own stored is none count told medium later steady called
+    once_synced = record {
+      held = read;
+      legal = subst (λ (e : Election). IsBallotSet e closed.ballots) own stored.set;
+      within_limit = subst (λ (e : Election). IsWithinLimit e closed.ballots) own stored.within_limit;
+      state_is = is;
+      sink = refl;
+      acknowledged = subst (λ marks. Acknowledged model e closed.ballots [] before.disk after marks) (sym none) (record {
+        told = told;
+        medium = medium;
+        marked = later;
+        crashes = recovered model e closed.ballots before.disk after (λ bytes sees. inl (once_synced bytes sees));
+        once_synced = λ bytes sees holds. synced model e closed.ballots before.disk after bytes holds called
+            (once_synced bytes sees);
+        no_fault = steady;
+      });
+      count = count;
+    }
+
+-- and no line was handled yet
+pub begins : {K D : Type 0} (model : DiskModel D) (tell : List ℕ → List ℕ) (e : Election) (set : List Ballot)
+    (state : State) (before now : Around K D) → HasBegun model e set state before now
+    → SoFar model tell e set [] state 0 before now
+begins {K} model tell e set state before now starts = record {
   effects = [];
-  plays = is;
+  plays = starts.state_is;
   counted = refl;
-  taken = takes_none before.sink.taken;
-  acknowledged = subst (λ marks. Acknowledged model e set [] before.disk after marks) (sym none) (record {
-    told = told;
-    medium = medium;
-    marked = later;
-    crashes = recovered model e set before.disk after (λ bytes sees. inl (once_synced bytes sees));
-    once_synced = λ bytes sees holds. synced model e set before.disk after bytes holds called (once_synced bytes sees);
-    no_fault = steady;
-  });
-  held = count ∙ ap (λ (s : State). length s.set) (sym is);
-  no_fault = refl;
+  taken = subst (λ (s : Output K). TakesAll before.sink.taken [] s.taken) (sym starts.sink)
+      (takes_none before.sink.taken);
+  acknowledged = starts.acknowledged;
+  held = starts.count ∙ ap (λ (s : State). length s.set) (sym starts.state_is);
+  no_fault = ap (λ (s : Output K). s.faults) starts.sink;
 }
+
+-- a call that did not fail so
+pub no_fault : {T E : Type 0} {x : T} {why : E} {was now : ℕ} → CountsFaultIf (Ok x ≡ Err why) was now → now ≡ was
+no_fault fault = fault.steady (λ failed. cc)

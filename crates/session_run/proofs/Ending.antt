@@ -1,19 +1,10 @@
 -- How a session ends that began.
-use Rattle.std.proofs.Common.{◌≡◌, ◌≤◌, ℕ, ◌+◌, List, [], ◌∷◌, ◌++◌, length, take, Option, Some, Result, Ok, Err, refl, arith, ap, sym, subst, ◌∙◌, inl, inr, ⊎_elim, append_assoc}
-use Rattle.std.specs.Prelude.{IfSome}
-use Rattle.body_store.specs.Contents.{Contents, IsStored}
-use Rattle.outside_io.proofs.Reading.{ReadSoFar, read_fault, read_too_much}
-use Rattle.outside_io.specs.Lines.{AnswersTold}
-use Rattle.outside_io.specs.Told.{IfTold}
-use Rattle.outside_io.specs.Window.{Kept}
-use Rattle.outside_io.specs.declared.lines.NextLine.{NextLine}
-use Rattle.store_spec.specs.Input.{first_width, script_limit}
+use Rattle.std.proofs.Common.{◌≡◌, ℕ, ◌+◌, List, [], ◌∷◌, ◌++◌, length, take, Option, Some, Result, Ok, Err, refl, arith, ap, sym, subst, ◌∙◌, inl, inr, ⊎_elim, append_assoc}
 use Rattle.outside_io.specs.Outside.{Input, Output}
-use Rattle.outside_io.specs.Reading.{ReadFirst, ReadLines, ReadsTo}
+use Rattle.outside_io.specs.Reading.{ReadLines}
 use Rattle.outside_io.specs.Reading.Ending.{Faulted, ReadOut, TooMuch}
-use Rattle.outside_io.specs.Stream.{GivesAtMost, GivesFront, TakesAll}
-use Rattle.outside_io.proofs.Told.{told_as, told_with}
-use Rattle.outside_io.specs.declared.lines.LineEndFault.{LineEndFault}
+use Rattle.outside_io.specs.Stream.{TakesAll}
+use Rattle.outside_io.proofs.Told.{told_as}
 use Rattle.outside_io.specs.declared.lines.LineEndFault.TheVariants as line
 use Rattle.phase_gate.specs.Around.{Around}
 use Rattle.phase_gate.specs.Checkpointed.{Acknowledges}
@@ -24,259 +15,193 @@ use Rattle.session_run.proofs.Acknowledging.{acknowledged_then, marks_then, unch
 use Rattle.session_run.proofs.Beginning.{takes_none}
 use Rattle.session_run.proofs.SoFar.{IsHanded, SoFar, answers_handed, nothing_says, taken_then}
 use Rattle.session_run.proofs.SoFar.IsHanded.{whole, wide}
-use Rattle.session_run.specs.Ends.{Begun, HandlingEnds, IsDiskFailed, IsInterrupted, OfScript, SessionEnds, StopsBehind}
+use Rattle.session_run.specs.Ends.{Begun, HandlingEnds, HasBegun, IsDiskFailed, IsInterrupted, OfScript, StopsBehind}
 use Rattle.session_run.specs.Ends.ComesNext.{to_end, to_line}
 use Rattle.session_run.specs.Faults.{line_fault, session_fault}
 use Rattle.session_run.specs.History.{AreMarks, LosesNothing, LosesNothingOnceSynced, Wrote, written_by}
 use Rattle.session_run.specs.declared.fault.RunFault.{RunFault}
-use Rattle.store_spec.specs.Ballot.{Ballot, IsBallotSet, IsWithinLimit}
+use Rattle.store_spec.specs.Ballot.{Ballot}
 use Rattle.store_spec.specs.Disk.{DiskModel}
 use Rattle.store_spec.specs.Election.{Election, IsElection}
-use Rattle.store_spec.specs.Fault.{CountsFaultIf, Rose}
-use Rattle.store_spec.specs.Medium.{HoldsSet}
+use Rattle.store_spec.specs.Fault.{Rose}
 use Rattle.store_spec.specs.ScriptLine.{Says}
 use Rattle.store_spec.specs.ScriptLine.ScriptLine.{Checkpoint}
 use Rattle.store_spec.specs.Session.{Answers, State, acknowledged_in, last_reply}
-
--- the set with which a session begins
-pub record StartsWith {D : Type 0} (model : DiskModel D) (e : Election) (set : List Ballot) (disk : D) : Type 0 where
-  pub held : IfSome (model.seen disk) (λ bytes. HoldsSet e bytes set)
-  pub legal : IsBallotSet e set
-  pub within_limit : IsWithinLimit e set
-
--- all of these lines but the last one were handled, which is this
-abbrev pub SoFarBut : {K D : Type 0} → DiskModel D → (List ℕ → List ℕ) → Election → List Ballot → State → ℕ
-    → Around K D → Around K D → Option (List ℕ) → List (Option (List ℕ)) → Type 0
-SoFarBut model tell e set state index before now line all =
-    (lines : List (Option (List ℕ))) × (all ≡ lines ++ line ∷ []) × SoFar model tell e set lines state index before now
 
 -- the same, and the sink is another
 abbrev pub with_sink : {K D : Type 0} → Around K D → Output K → Around K D
 with_sink around sink = record { sink = sink; disk = around.disk; marks = around.marks; held = around.held }
 
 module _ {K D : Type 0} (model : DiskModel D) (tell : List ℕ → List ℕ) (e : Election) (election : IsElection e)
-    (set : List Ballot) (before : Around K D) (starts : StartsWith model e set before.disk) where
-  began : {S : Type 0} (lines : List (Option (List ℕ))) (state : State) (index : ℕ) (mid now : Around K D)
-      (so_far : SoFar model tell e set lines state index before mid) (answer : Result (Unit {0}) RunFault)
-      (old new : Input S)
-      → HandlingEnds model tell e set lines so_far.effects state answer old new before now
-      → Begun model tell e answer old new before now
-  began lines state index mid now so_far answer old new ends = record {
-    set = set;
-    held = starts.held;
-    legal = starts.legal;
-    within_limit = starts.within_limit;
-    lines = lines;
-    effects = so_far.effects;
-    state = state;
-    plays = so_far.plays;
-    ends = ends;
-  }
-
-  module _ (lines : List (Option (List ℕ))) (state : State) (index : ℕ) (mid : Around K D)
-      (so_far : SoFar model tell e set lines state index before mid) where
-    -- what was written of the reply that comes next, and acknowledged
-    wrote : (rest : List ℕ) (more : List (List Ballot)) (now : Around K D)
-        → TakesAll mid.sink.taken rest now.sink.taken
-        → Acknowledges model e more mid.disk now.disk mid.marks now.marks
-        → Wrote model tell e set so_far.effects rest more before now
-    wrote rest more now takes did = record {
-      taken = taken_then before.sink.taken mid.sink.taken now.sink.taken (written_by tell so_far.effects) rest
-          so_far.taken takes;
-      acknowledged = acknowledged_then model e election set (acknowledged_in so_far.effects) more before.disk mid.disk
-          now.disk mid.marks now.marks so_far.acknowledged did;
+    (set : List Ballot) (first : State) (before start : Around K D) (starts : HasBegun model e set first before start)
+  where
+    began : {S : Type 0} (lines : List (Option (List ℕ))) (state : State) (index : ℕ) (mid now : Around K D)
+        (so_far : SoFar model tell e set lines state index before mid) (answer : Result (Unit {0}) RunFault)
+        (old new : Input S)
+        → HandlingEnds model tell e set lines so_far.effects state answer old new before now
+        → Begun model tell e answer old new before now
+    began lines state index mid now so_far answer old new ends = record {
+      set = set;
+      held = starts.held;
+      legal = starts.legal;
+      within_limit = starts.within_limit;
+      lines = lines;
+      effects = so_far.effects;
+      state = state;
+      plays = so_far.plays;
+      ends = ends;
     }
 
-    -- the script has ended, and what comes last was written
-    pub played_out : {S : Type 0} (old new : Input S) (sink : Output K)
-        → OfScript old new (λ text left. ReadLines ReadOut text left lines) → new.faults ≡ old.faults
-        → LastEnds tell state.phase (Ok tt) mid.sink sink
-        → SessionEnds model tell e (Ok tt) old new before (with_sink mid sink)
-    played_out old new sink read steady last =
-        began lines state index mid (with_sink mid sink) so_far (Ok tt) old new (
-          read,
-          wrote (tell (last_reply state.phase)) [] (with_sink mid sink) last.0 (refl, refl),
-          so_far.held,
-          steady,
-          last.1 ∙ so_far.no_fault,
-        )
+    module _ (lines : List (Option (List ℕ))) (state : State) (index : ℕ) (mid : Around K D)
+        (so_far : SoFar model tell e set lines state index before mid) where
+      -- what was written of the reply that comes next, and acknowledged
+      wrote : (rest : List ℕ) (more : List (List Ballot)) (now : Around K D)
+          → TakesAll mid.sink.taken rest now.sink.taken
+          → Acknowledges model e more mid.disk now.disk mid.marks now.marks
+          → Wrote model tell e set so_far.effects rest more before now
+      wrote rest more now takes did = record {
+        taken = taken_then before.sink.taken mid.sink.taken now.sink.taken (written_by tell so_far.effects) rest
+            so_far.taken takes;
+        acknowledged = acknowledged_then model e election set (acknowledged_in so_far.effects) more before.disk mid.disk
+            now.disk mid.marks now.marks so_far.acknowledged did;
+      }
 
-    -- it has, and what comes last was not written whole
-    pub cut_off : {S : Type 0} (old new : Input S) (sink : Output K) (why : SessionFault)
-        → OfScript old new (λ text left. ReadLines ReadOut text left lines) → new.faults ≡ old.faults
-        → LastEnds tell state.phase (Err why) mid.sink sink
-        → SessionEnds model tell e (Err (session_fault why)) old new before (with_sink mid sink)
-    cut_off old new sink session.DiskFault read steady last = absurd last
-    cut_off old new sink session.WriteFault read steady last =
-        inr (began lines state index mid (with_sink mid sink) so_far (Err (session_fault session.WriteFault)) old new
-        (half, steady, subst (λ n. Rose n sink.faults) so_far.no_fault last.1))
-      where
-        half : IsInterrupted model tell e set lines so_far.effects state old new before (with_sink mid sink)
-        half = record {
-          reply = last_reply state.phase;
-          more = [];
-          next = to_end read refl refl so_far.held;
-          count = last.0.0;
-          wrote = wrote (take last.0.0 (tell (last_reply state.phase))) [] (with_sink mid sink) last.0.1 (refl, refl);
-        }
-    cut_off old new sink session.Memory read steady last =
-        inr (began lines state index mid (with_sink mid sink) so_far (Err (session_fault session.Memory)) old new
-        (inr half, steady, last.1 ∙ so_far.no_fault))
-      where
-        half : IsInterrupted model tell e set lines so_far.effects state old new before (with_sink mid sink)
-        half = record {
-          reply = last_reply state.phase;
-          more = [];
-          next = to_end read refl refl so_far.held;
-          count = last.0.0;
-          wrote = wrote (take last.0.0 (tell (last_reply state.phase))) [] (with_sink mid sink) last.0.1 (refl, refl);
-        }
+      -- the script has ended, and what comes last was written
+      pub played_out : {S : Type 0} (old new : Input S) (sink : Output K)
+          → OfScript old new (λ text left. ReadLines ReadOut text left lines) → new.faults ≡ old.faults
+          → LastEnds tell state.phase (Ok tt) mid.sink sink
+          → Begun model tell e (Ok tt) old new before (with_sink mid sink)
+      played_out old new sink read steady last =
+          began lines state index mid (with_sink mid sink) so_far (Ok tt) old new (
+            read,
+            wrote (tell (last_reply state.phase)) [] (with_sink mid sink) last.0 (refl, refl),
+            so_far.held,
+            steady,
+            last.1 ∙ so_far.no_fault,
+          )
 
-    -- no further line came
-    pub too_much : {S : Type 0} (old new : Input S)
-        → OfScript old new (λ text left. ReadLines TooMuch text left lines) → new.faults ≡ old.faults
-        → SessionEnds model tell e (Err (line_fault line.TooLong)) old new before mid
-    too_much old new read steady =
-        inr (began lines state index mid mid so_far (Err (line_fault line.TooLong)) old new
-        (read, wrote [] [] mid (takes_none mid.sink.taken) (refl, refl), so_far.held, steady, so_far.no_fault))
-
-    pub unread : {S : Type 0} (old new : Input S) → OfScript old new (λ text left. ReadLines Faulted text left lines)
-        → Rose old.faults new.faults → SessionEnds model tell e (Err (line_fault line.ReadFault)) old new before mid
-    unread old new read rose =
-        inr (began lines state index mid mid so_far (Err (line_fault line.ReadFault)) old new
-        (read, wrote [] [] mid (takes_none mid.sink.taken) (refl, refl), so_far.held, rose, so_far.no_fault))
-
-    -- one more line came, and was not handled to its end
-    module _ {S : Type 0} (old new : Input S) (line : Option (List ℕ)) (bytes : List ℕ) (handed : IsHanded line bytes)
-        (read : OfScript old new (StopsBehind (lines ++ line ∷ []))) (steady : new.faults ≡ old.faults)
-        (now : Around K D) where
-      half_told : IsHalfTold model tell e (index + 1) state bytes mid now
-          → IsInterrupted model tell e set lines so_far.effects state old new before now
-      half_told half =
-          let effect = half.effect in
-          let is : index + 1 ≡ length lines + 1 = omega (arith, so_far.counted) in
-          let answers = subst (λ n. Answers e n state line effect) is
-          (answers_handed e (index + 1) state line bytes effect handed half.answers) in
-          record {
-            reply = effect.reply;
-            more = effect.acknowledged;
-            next = to_line line effect read answers refl refl half.done.held;
-            count = half.taken.0;
-            wrote = wrote (take half.taken.0 (tell effect.reply)) effect.acknowledged now half.taken.1
-                half.done.acknowledged;
+      -- it has, and what comes last was not written whole
+      pub cut_off : {S : Type 0} (old new : Input S) (sink : Output K) (why : SessionFault)
+          → OfScript old new (λ text left. ReadLines ReadOut text left lines) → new.faults ≡ old.faults
+          → LastEnds tell state.phase (Err why) mid.sink sink
+          → Begun model tell e (Err (session_fault why)) old new before (with_sink mid sink)
+      cut_off old new sink session.DiskFault read steady last = absurd last
+      cut_off old new sink session.WriteFault read steady last =
+          began lines state index mid (with_sink mid sink) so_far (Err (session_fault session.WriteFault)) old new
+          (half, steady, subst (λ n. Rose n sink.faults) so_far.no_fault last.1)
+        where
+          half : IsInterrupted model tell e set lines so_far.effects state old new before (with_sink mid sink)
+          half = record {
+            reply = last_reply state.phase;
+            more = [];
+            next = to_end read refl refl so_far.held;
+            count = last.0.0;
+            wrote = wrote (take last.0.0 (tell (last_reply state.phase))) [] (with_sink mid sink) last.0.1 (refl, refl);
+          }
+      cut_off old new sink session.Memory read steady last =
+          began lines state index mid (with_sink mid sink) so_far (Err (session_fault session.Memory)) old new
+          (inr half, steady, last.1 ∙ so_far.no_fault)
+        where
+          half : IsInterrupted model tell e set lines so_far.effects state old new before (with_sink mid sink)
+          half = record {
+            reply = last_reply state.phase;
+            more = [];
+            next = to_end read refl refl so_far.held;
+            count = last.0.0;
+            wrote = wrote (take last.0.0 (tell (last_reply state.phase))) [] (with_sink mid sink) last.0.1 (refl, refl);
           }
 
-      unmade : IsUncheckpointed model e state bytes mid now
-          → IsDiskFailed model tell e set lines so_far.effects state old new before now
-      unmade failed = record {
-        line = bytes;
-        read = subst (λ l. OfScript old new (StopsBehind (lines ++ l ∷ [])))
-            (handed_whole line bytes handed failed.says) read;
-        says = failed.says;
-        closed = failed.closed;
-        taken = subst (λ sink. TakesAll before.sink.taken (written_by tell so_far.effects) sink)
-            (ap (λ (s : Output K). s.taken) (sym failed.sink)) so_far.taken;
-        held = failed.held ∙ so_far.held;
-        told = failed.fails.told ∙ so_far.acknowledged.told;
-        marks = subst (λ marks. AreMarks (model.calls before.disk) marks (acknowledged_in so_far.effects)
-            (model.calls now.disk)) (sym failed.marks)
-            (marks_then model e election set (acknowledged_in so_far.effects) before.disk mid.disk mid.marks
-            so_far.acknowledged now.disk failed.fails.later);
-        crashes = subst (λ marks. LosesNothing model e set before.disk now.disk marks (acknowledged_in so_far.effects)
-            (state.set ∷ [])) (sym failed.marks) (uncheckpointed model e election set (acknowledged_in so_far.effects)
-            before.disk mid.disk mid.marks so_far.acknowledged state.set now.disk failed.fails);
-        once_synced = subst (λ marks. LosesNothingOnceSynced model e set before.disk now.disk marks
-            (acknowledged_in so_far.effects) (state.set ∷ [])) (sym failed.marks)
-            (uncheckpointed_synced model e election set (acknowledged_in so_far.effects) before.disk mid.disk mid.marks
-            so_far.acknowledged state.set now.disk failed.fails);
-        rose = subst (λ n. Rose n (model.faults now.disk)) so_far.acknowledged.no_fault failed.fails.rose;
-      }
-        where
-          handed_whole : (line : Option (List ℕ)) (bytes : List ℕ) → IsHanded line bytes → Says e bytes Checkpoint
-              → line ≡ Some bytes
-          handed_whole _ _ (whole bytes) says = refl
-          handed_whole _ _ wide says = absurd (nothing_says e Checkpoint says)
+      -- no further line came
+      pub too_much : {S : Type 0} (old new : Input S)
+          → OfScript old new (λ text left. ReadLines TooMuch text left lines) → new.faults ≡ old.faults
+          → Begun model tell e (Err (line_fault line.TooLong)) old new before mid
+      too_much old new read steady =
+          began lines state index mid mid so_far (Err (line_fault line.TooLong)) old new
+          (read, wrote [] [] mid (takes_none mid.sink.taken) (refl, refl), so_far.held, steady, so_far.no_fault)
 
-      pub line_failed : (why : SessionFault) → LineEnds model tell e (index + 1) state bytes (Err why) mid now
-          → SessionEnds model tell e (Err (session_fault why)) old new before now
-      line_failed session.DiskFault failed =
-          inr (began lines state index mid now so_far (Err (session_fault session.DiskFault)) old new
-          (unmade failed, steady, ap (λ (s : Output K). s.faults) failed.sink ∙ so_far.no_fault))
-      line_failed session.WriteFault half =
-          inr (began lines state index mid now so_far (Err (session_fault session.WriteFault)) old new
-          (half_told half.0, steady, subst (λ n. Rose n now.sink.faults) so_far.no_fault half.1))
-      line_failed session.Memory ends =
-          inr (began lines state index mid now so_far (Err (session_fault session.Memory)) old new
-          (⊎_elim
-          (λ (same : now ≡ mid). subst (λ (a : Around K D). MemoryEnds a) (sym same) (
-            inl (
-              told_as read (λ x y some. (
-                (line ∷ some.0.0, some.0.1 ∙ append_assoc lines (line ∷ []) some.0.0),
-                some.1,
-              )),
-              wrote [] [] mid (takes_none mid.sink.taken) (refl, refl),
-              so_far.held,
-            ),
-            steady,
-            so_far.no_fault,
-          ))
-          (λ half. (inr (half_told half.0), steady, half.1 ∙ so_far.no_fault))
-          ends))
-        where
-          MemoryEnds : Around K D → Type 0
-          MemoryEnds after = HandlingEnds model tell e set lines so_far.effects state
-              (Err (session_fault session.Memory)) old new before after
+      pub unread : {S : Type 0} (old new : Input S) → OfScript old new (λ text left. ReadLines Faulted text left lines)
+          → Rose old.faults new.faults → Begun model tell e (Err (line_fault line.ReadFault)) old new before mid
+      unread old new read rose =
+          began lines state index mid mid so_far (Err (line_fault line.ReadFault)) old new
+          (read, wrote [] [] mid (takes_none mid.sink.taken) (refl, refl), so_far.held, rose, so_far.no_fault)
 
-pub starts_with : {D : Type 0} (model : DiskModel D) (e : Election) (set : List Ballot) (disk : D) (closed : Contents)
-    → set ≡ closed.ballots → closed.election ≡ e → IfSome (model.seen disk) (λ bytes. HoldsSet e bytes closed.ballots)
-    → IsStored closed → StartsWith model e set disk
-starts_with model e set disk closed is own held stored = record {
-  held = subst (λ s. IfSome (model.seen disk) (λ bytes. HoldsSet e bytes s)) (sym is) held;
-  legal = subst (λ s. IsBallotSet e s) (sym is) (subst (λ (e : Election). IsBallotSet e closed.ballots) own stored.set);
-  within_limit = subst (λ s. IsWithinLimit e s) (sym is)
-      (subst (λ (e : Election). IsWithinLimit e closed.ballots) own stored.within_limit);
-}
+      -- one more line came, and was not handled to its end
+      module _ {S : Type 0} (old new : Input S) (line : Option (List ℕ)) (bytes : List ℕ) (handed : IsHanded line bytes)
+          (read : OfScript old new (StopsBehind (lines ++ line ∷ []))) (steady : new.faults ≡ old.faults)
+          (now : Around K D) where
+        half_told : IsHalfTold model tell e (index + 1) state bytes mid now
+            → IsInterrupted model tell e set lines so_far.effects state old new before now
+        half_told half =
+            let effect = half.effect in
+            let is : index + 1 ≡ length lines + 1 = omega (arith, so_far.counted) in
+            let answers = subst (λ n. Answers e n state line effect) is
+            (answers_handed e (index + 1) state line bytes effect handed half.answers) in
+            record {
+              reply = effect.reply;
+              more = effect.acknowledged;
+              next = to_line line effect read answers refl refl half.done.held;
+              count = half.taken.0;
+              wrote = wrote (take half.taken.0 (tell effect.reply)) effect.acknowledged now half.taken.1
+                  half.done.acknowledged;
+            }
 
--- what `next_line` answers for a fault
-abbrev pub as_answer : LineEndFault → Result NextLine LineEndFault
-as_answer fault = Err fault
+        unmade : IsUncheckpointed model e state bytes mid now
+            → IsDiskFailed model tell e set lines so_far.effects state old new before now
+        unmade failed = record {
+          line = bytes;
+          read = subst (λ l. OfScript old new (StopsBehind (lines ++ l ∷ [])))
+              (handed_whole line bytes handed failed.says) read;
+          says = failed.says;
+          closed = failed.closed;
+          taken = subst (λ sink. TakesAll before.sink.taken (written_by tell so_far.effects) sink)
+              (ap (λ (s : Output K). s.taken) (sym failed.sink)) so_far.taken;
+          held = failed.held ∙ so_far.held;
+          told = failed.fails.told ∙ so_far.acknowledged.told;
+          marks = subst (λ marks. AreMarks (model.calls before.disk) marks (acknowledged_in so_far.effects)
+              (model.calls now.disk)) (sym failed.marks)
+              (marks_then model e election set (acknowledged_in so_far.effects) before.disk mid.disk mid.marks
+              so_far.acknowledged now.disk failed.fails.later);
+          crashes = subst (λ marks. LosesNothing model e set before.disk now.disk marks (acknowledged_in so_far.effects)
+              (state.set ∷ [])) (sym failed.marks) (uncheckpointed model e election set (acknowledged_in so_far.effects)
+              before.disk mid.disk mid.marks so_far.acknowledged state.set now.disk failed.fails);
+          once_synced = subst (λ marks. LosesNothingOnceSynced model e set before.disk now.disk marks
+              (acknowledged_in so_far.effects) (state.set ∷ [])) (sym failed.marks)
+              (uncheckpointed_synced model e election set (acknowledged_in so_far.effects) before.disk mid.disk mid.marks
+              so_far.acknowledged state.set now.disk failed.fails);
+          rose = subst (λ n. Rose n (model.faults now.disk)) so_far.acknowledged.no_fault failed.fails.rose;
+        }
+          where
+            handed_whole : (line : Option (List ℕ)) (bytes : List ℕ) → IsHanded line bytes → Says e bytes Checkpoint
+                → line ≡ Some bytes
+            handed_whole _ _ (whole bytes) says = refl
+            handed_whole _ _ wide says = absurd (nothing_says e Checkpoint says)
 
--- no further line came, for this reason
-pub line_ended : {S K D : Type 0} (model : DiskModel D) (tell : List ℕ → List ℕ) (e : Election)
-    (election : IsElection e) (set : List Ballot) (before now : Around K D)
-    (starts : StartsWith model e set before.disk) (state : State) (index : ℕ)
-    (kept next : Kept) (old mid new : Input S) (fault : LineEndFault)
-    → ReadSoFar (λ lines. SoFar model tell e set lines state index before now) kept old.left mid.left
-    → AnswersTold (Err fault) kept mid.left next new.left → IfTold mid.left new.left GivesFront
-    → length next.text ≤ next.room + 1
-    → (as_answer fault ≡ as_answer line.ReadFault → (first_width next.text ≡ length next.text)
-    × (length next.text ≤ next.room)) → CountsFaultIf (as_answer fault ≡ as_answer line.ReadFault) mid.faults
-    new.faults → mid.faults ≡ old.faults
-    → SessionEnds model tell e (Err (line_fault fault)) old new before now
-line_ended model tell e election set before now starts state index kept next old mid new line.TooLong so_far answers
-    gives within none_whole counts same =
-    let read = read_too_much so_far refl answers gives within in
-    too_much model tell e election set before starts read.lines state index now read.good old new read.told
-    (counts.steady (λ is. cc) ∙ same)
-line_ended model tell e election set before now starts state index kept next old mid new line.ReadFault so_far answers
-    gives within none_whole counts same =
-    let read = read_fault so_far refl answers gives (none_whole refl) in
-    unread model tell e election set before starts read.lines state index now read.good old new read.told
-    (subst (λ n. Rose n new.faults) same (counts.rose refl))
-
--- a line came, and was not handled to its end
-pub failed_at : {S K D : Type 0} (model : DiskModel D) (tell : List ℕ → List ℕ) (e : Election)
-    (election : IsElection e) (set : List Ballot) (before mid now : Around K D)
-    (starts : StartsWith model e set before.disk) (state : State) (index : ℕ)
-    (old new : Input S) (line : Option (List ℕ)) (bytes : List ℕ) (why : SessionFault)
-    → ReadsTo ReadFirst (SoFarBut model tell e set state index before mid line) old.left new.left
-    → IfTold old.left new.left (GivesAtMost (script_limit + 1)) → IsHanded line bytes → new.faults ≡ old.faults
-    → LineEnds model tell e (index + 1) state bytes (Err why) mid now
-    → SessionEnds model tell e (Err (session_fault why)) old new before now
-failed_at model tell e election set before mid now starts state index old new line bytes why read few handed steady
-    ends =
-    let but = read.good in
-    let told =
-    subst (λ (ls : List (Option (List ℕ))). OfScript old new (StopsBehind ls)) but.1 (told_with read.told few) in
-    line_failed model tell e election set before starts but.0 state index mid but.2 old new line bytes handed told
-    steady now why ends
+        pub line_failed : (why : SessionFault) → LineEnds model tell e (index + 1) state bytes (Err why) mid now
+            → Begun model tell e (Err (session_fault why)) old new before now
+        line_failed session.DiskFault failed =
+            began lines state index mid now so_far (Err (session_fault session.DiskFault)) old new
+            (unmade failed, steady, ap (λ (s : Output K). s.faults) failed.sink ∙ so_far.no_fault)
+        line_failed session.WriteFault half =
+            began lines state index mid now so_far (Err (session_fault session.WriteFault)) old new
+            (half_told half.0, steady, subst (λ n. Rose n now.sink.faults) so_far.no_fault half.1)
+        line_failed session.Memory ends =
+            began lines state index mid now so_far (Err (session_fault session.Memory)) old new
+            (⊎_elim
+            (λ (same : now ≡ mid). subst (λ (a : Around K D). MemoryEnds a) (sym same) (
+              inl (
+                told_as read (λ x y some. (
+                  (line ∷ some.0.0, some.0.1 ∙ append_assoc lines (line ∷ []) some.0.0),
+                  some.1,
+                )),
+                wrote [] [] mid (takes_none mid.sink.taken) (refl, refl),
+                so_far.held,
+              ),
+              steady,
+              so_far.no_fault,
+            ))
+            (λ half. (inr (half_told half.0), steady, half.1 ∙ so_far.no_fault))
+            ends)
+          where
+            MemoryEnds : Around K D → Type 0
+            MemoryEnds after = HandlingEnds model tell e set lines so_far.effects state
+                (Err (session_fault session.Memory)) old new before after

@@ -1,16 +1,15 @@
 -- A line whose item waits: nothing is told of it.
-use Rattle.std.proofs.Common.{◌≡◌, ℕ, ◌+◌, Bool, true, false, List, [], ◌∷◌, ◌++◌, length, Option, Some, refl, ap, sym, subst, ◌∙◌}
+use Rattle.std.proofs.Common.{◌≡◌, ℕ, ◌+◌, Bool, true, false, List, [], length, Some, refl, ap, sym, subst, ◌∙◌}
 use Rattle.outside_io.specs.Stream.{TakesAll}
 use Rattle.phase_gate.specs.Around.{Around}
 use Rattle.phase_gate.specs.Gate.{IsQueued}
+use Rattle.phase_gate.specs.LineEnds.{IsHandled}
 use Rattle.phase_gate.specs.Telling.{told_by}
 use Rattle.phase_gate.specs.declared.telling.Telling.{Telling}
 use Rattle.phase_gate.specs.declared.telling.Telling.TheVariants.{All, Summary}
 use Rattle.session_run.proofs.Beginning.{takes_none}
-use Rattle.session_run.proofs.SoFar.{IsHanded, SoFar, handled_more}
-use Rattle.store_spec.specs.Ballot.{Ballot}
 use Rattle.store_spec.specs.Disk.{DiskModel}
-use Rattle.store_spec.specs.Election.{Election, IsElection}
+use Rattle.store_spec.specs.Election.{Election}
 use Rattle.store_spec.specs.Session.{Answers, Effect, State, replies}
 
 -- what a line did that was queued
@@ -26,25 +25,20 @@ not_queued true Did old new is did = absurd (cc)
 not_queued false Did old new is did = did
 
 -- nothing is told of no reply
-told_nothing : (telling : Telling) → told_by telling [] ≡ []
+pub told_nothing : (telling : Telling) → told_by telling [] ≡ []
 told_nothing All = refl
 told_nothing Summary = refl
 
--- one line more, to which nothing is replied
-pub queued_more : {K D : Type 0} (model : DiskModel D) (telling : Telling) (e : Election) (set : List Ballot)
-    (lines : List (Option (List ℕ))) (state next : State) (index : ℕ) (before now : Around K D)
-    (line : Option (List ℕ)) (bytes : List ℕ)
-    → IsElection e → IsHanded line bytes → SoFar model (told_by telling) e set lines state index before now
+-- such a line was handled
+pub queued_is : {K D : Type 0} (model : DiskModel D) (tell : List ℕ → List ℕ) (e : Election) (state next : State)
+    (index : ℕ) (now : Around K D) (bytes : List ℕ) → tell [] ≡ []
     → Answers e (index + 1) state (Some bytes) (replies [] next) → next.set ≡ state.set
-    → SoFar model (told_by telling) e set (lines ++ line ∷ []) next (index + 1) before now
-queued_more model telling e set lines state next index before now line bytes election handed so_far answers same =
-    handled_more model (told_by telling) e set lines state next index before now now line bytes election handed so_far
-    (record {
-      effect = replies [] next;
-      answers = answers;
-      next_state = refl;
-      done = record { acknowledged = (refl, refl); held = so_far.held ∙ ap length (sym same) };
-      taken = subst (λ text. TakesAll now.sink.taken text now.sink.taken) (sym (told_nothing telling))
-          (takes_none now.sink.taken);
-      no_fault = refl;
-    })
+    → now.held ≡ length state.set → IsHandled model tell e (index + 1) state bytes next now now
+queued_is model tell e state next index now bytes none_told answers same held = record {
+  effect = replies [] next;
+  answers = answers;
+  next_state = refl;
+  done = record { acknowledged = (refl, refl); held = held ∙ ap length (sym same) };
+  taken = subst (λ text. TakesAll now.sink.taken text now.sink.taken) (sym none_told) (takes_none now.sink.taken);
+  no_fault = refl;
+}

@@ -10,7 +10,7 @@ use Rattle.recovery.specs.Refused.{IsRefusedMedium, IsUnchangedAt, IsUnharmedAt}
 use Rattle.recovery.specs.declared.fault.RecoverFault.{RecoverFault}
 use Rattle.recovery.specs.declared.fault.RecoverFault.TheVariants as recover
 use Rattle.session_run.specs.Faults.{recover_fault}
-use Rattle.session_run.specs.History.{AreMarks, HoldsOnceSynced, LosesNothing, LosesNothingOnceSynced, Wrote, written_by}
+use Rattle.session_run.specs.History.{Acknowledged, AreMarks, HoldsOnceSynced, LosesNothing, LosesNothingOnceSynced, Wrote, written_by}
 use Rattle.session_run.specs.declared.fault.RunFault.{RunFault}
 use Rattle.session_run.specs.declared.fault.RunFault.TheVariants.{TooLong, ReadFault, DiskFault, WriteFault, Memory}
 use Rattle.store_spec.specs.Ballot.{Ballot, IsBallotSet, IsWithinLimit}
@@ -139,6 +139,25 @@ pub record Begun {S K D : Type 0} (model : DiskModel D) (tell : List ℕ → Lis
   pub state : State
   pub plays : Plays e 1 (begun set) lines effects state
   pub ends : HandlingEnds model tell e set lines effects state answer old new before after
+
+-- ---- a session that has just begun
+
+-- The recovery of a medium has handed out this set, in this state of a session, and no line was handled yet.
+pub record HasBegun {K D : Type 0} (model : DiskModel D) (e : Election) (set : List Ballot) (state : State)
+    (before now : Around K D) : Type 0 where
+  pub held : IfSome (model.seen before.disk) (λ bytes. HoldsSet e bytes set)
+  pub legal : IsBallotSet e set
+  pub within_limit : IsWithinLimit e set
+  pub state_is : state ≡ begun set
+  pub sink : now.sink ≡ before.sink
+  pub acknowledged : Acknowledged model e set [] before.disk now.disk now.marks
+  pub count : now.held ≡ length set
+
+-- Whatever medium and set it began with, it was handled as a run promises.
+abbrev pub GoesOn : {S K D : Type 0} → DiskModel D → (List ℕ → List ℕ) → Election → State
+    → Result (Unit {0}) RunFault → Input S → Input S → Around K D → Around K D → Type 0
+GoesOn {K} {D} model tell e state answer old new now after = (set : List Ballot) (before : Around K D)
+    → HasBegun model e set state before now → Begun model tell e answer old new before after
 
 -- ---- both
 

@@ -1,10 +1,13 @@
+ghost use Rattle.std.specs.Prelude.{◌≡◌, [], List, false};
 ghost use Rattle.outside_io.specs.Outside.{input, output};
 ghost use Rattle.phase_gate.specs.Around.{around};
+ghost use Rattle.phase_gate.specs.Checkpointed.{IsMediumNow};
 ghost use Rattle.phase_gate.specs.Telling.{told_by};
-ghost use Rattle.session_run.specs.Ends.{SessionEnds};
-ghost use Rattle.std.specs.Prelude.{◌≡◌, []};
+ghost use Rattle.session_run.specs.Ends.{GoesOn, SessionEnds};
+ghost use Rattle.store_spec.specs.Ballot.{Ballot};
 ghost use Rattle.store_spec.specs.Disk.{disk_model};
 ghost use Rattle.store_spec.specs.Election.{IsElection};
+ghost use Rattle.store_spec.specs.Input.{script_limit};
 
 use crate::fault::RunFault;
 use ballot_record::Election;
@@ -43,7 +46,46 @@ pub fn run_session<R: Threads + Sync, S: Source, K: Sink, D: Disk, T: Turns>(
     let mut lines = Lines::new(alloc)?;
     let closed = recover(alloc, disk, election, &mut scratch)?;
     report.held = closed.len() as u32;
-    let mut session = Session::telling(alloc, closed, telling);
+    let session = Session::telling(alloc, closed, telling);
+    play(
+        rt,
+        alloc,
+        session,
+        &mut lines,
+        script,
+        out,
+        disk,
+        turns,
+        &mut scratch,
+        report,
+    )
+}
+
+/// Handles a script line by line, in a session that has just begun, with a reader that has read nothing yet.
+fn play<R: Threads + Sync, S: Source, K: Sink, D: Disk, T: Turns>(
+    rt: &R,
+    alloc: Global,
+    mut session: Session,
+    lines: &mut Lines,
+    script: &mut S,
+    out: &mut K,
+    disk: &mut D,
+    turns: &T,
+    scratch: &mut Scratch,
+    report: &mut Report,
+) -> Result<(), RunFault>
+    requires election { IsElection session.election }
+    requires medium { (set : List Ballot) × IsMediumNow
+        (disk_model D.seen D.calls D.may_leave D.faults) session.election set disk.old }
+    requires nothing_kept { lines.old.text ≡ [] }
+    requires room { lines.old.room ≡ script_limit }
+    requires not_ended { lines.old.ended ≡ false }
+    ensures { GoesOn (disk_model D.seen D.calls D.may_leave D.faults) (told_by session.telling)
+        session.election session.state result
+        (input S.left S.faults script.old) (input S.left S.faults script.new)
+        (around (output K.taken K.faults out.old) disk.old report.old)
+        (around (output K.taken K.faults out.new) disk.new report.new) }
+{
     let mut index = 0;
     'lines: loop {
         let line: &[u8] = match lines.next_line(script)? {
@@ -55,17 +97,7 @@ pub fn run_session<R: Threads + Sync, S: Source, K: Sink, D: Disk, T: Turns>(
         index += 1;
         // Nearly all lines bring what waits for the close of a phase. A session is moved for the others alone.
         if !session.queue(line)? {
-            session = session.line(
-                rt,
-                alloc,
-                line,
-                index,
-                disk,
-                out,
-                turns,
-                &mut scratch,
-                report,
-            )?;
+            session = session.line(rt, alloc, line, index, disk, out, turns, scratch, report)?;
         }
     }
 }
