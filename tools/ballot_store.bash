@@ -1,7 +1,7 @@
 # Completes in bash what is typed behind ballot_store: commands, options of large, and else the names of files.
 
 _ballot_store() {
-    local word=${COMP_WORDS[COMP_CWORD]} before=${COMP_WORDS[COMP_CWORD - 1]} offered= option
+    local word=${COMP_WORDS[COMP_CWORD]} before=${COMP_WORDS[COMP_CWORD - 1]} offered="" option
     COMPREPLY=()
     [[ $before != [\<\>]* ]] || return 0
     if ((COMP_CWORD == 3)); then
@@ -10,7 +10,7 @@ _ballot_store() {
         for option in --seed --count --tabs; do
             [[ " ${COMP_WORDS[*]:4:COMP_CWORD-4} " == *" $option "* ]] || offered+=" $option"
         done
-        [[ $before != --* ]] || offered= # (a number)
+        [[ $before != --* ]] || offered="" # (a number)
     else
         return 0
     fi
