@@ -3,7 +3,7 @@
 use std::io;
 
 /// What stands behind the medium and the election, in the order and the words of the manual page's synopsis.
-const FORMS: [&str; 6] = [
+const FORMS: &[&str] = &[
     "init",
     "session <script",
     "audit",
