@@ -1,5 +1,6 @@
 """What docs/ballot_store.1 says of the program: its version, and how each command is typed."""
 import re
+import shlex
 from pathlib import Path
 
 PAGE = Path(__file__).resolve().parent.parent / "docs/ballot_store.1"
@@ -14,7 +15,7 @@ def forms():
     """The lines of the synopsis, as they are typed."""
     synopsis = re.search(r"^\.SH SYNOPSIS\n(.*?)^\.SH ", PAGE.read_text(), re.MULTILINE | re.DOTALL)[1]
     lines = [[]]
-    for macro, *words in map(str.split, synopsis.replace(r"\-", "-").splitlines()):
+    for macro, *words in map(shlex.split, re.sub(r"\\(?:f.|&|(?=-))", "", synopsis).splitlines()):
         if macro == ".br":
             lines.append([])
         else:  # .RI and its kin join their words
@@ -23,5 +24,5 @@ def forms():
 
 
 def commands():
-    """The third word of each form."""
-    return [form.split()[3] for form in forms()]
+    """The word of each command, in the order of the forms."""
+    return [*dict.fromkeys(form.split()[3] for form in forms())]
