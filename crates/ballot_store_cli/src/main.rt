@@ -5,6 +5,7 @@ ghost use Rattle.std.specs.Prelude.{◌≡◌, ◌-◌, IfOk, length, vec_len};
 
 mod command;
 mod election;
+mod help;
 pub mod laws;
 mod run;
 mod streams;
@@ -14,6 +15,7 @@ use outside_io::{FileSource, Memory, NoTurns, StdinSource, StdoutSink};
 pub use run::run;
 pub use run_outcome::{Status, Which};
 use std::alloc::Global;
+use std::io::IsTerminal;
 use std::os::unix::fs::FileExt;
 use std::process::ExitCode;
 use std::rt::{Env, Files};
@@ -93,6 +95,9 @@ fn main(rt: HostRuntime) -> ExitCode {
     };
     if status != Status::Ok {
         let _ = eprintln!(rt; "ballot_store: {status}");
+    }
+    if status == Status::Usage && rt.stderr().is_terminal() {
+        let _ = help::print_forms(&rt.stderr());
     }
     ExitCode::from(status.number())
 }
