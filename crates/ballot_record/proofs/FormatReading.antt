@@ -4,12 +4,12 @@ use Rattle.std.specs.Prelude.{All}
 use Rattle.std.specs.Int.{from_be_bytes, to_be_bytes, w32, w64}
 use Rattle.std.specs.List.{flat_map}
 use Rattle.std.proofs.lemmas.Bool.{cases_lt}
-use Rattle.std.proofs.lemmas.List.{get_or_past, set_at, nil_from_length, drop_more, get_or-append_right, get_or-replicate, length-replicate}
+use Rattle.std.proofs.lemmas.List.{drop-drop, get_or_append_left, get_or_past, set_at, nil_from_length, drop_more, get_or-append_right, get_or-replicate, length-replicate}
 use Rattle.std.proofs.lemmas.List.Concat.{flat_map-cons}
 use Rattle.std.proofs.lemmas.Nat.{be_bytes_4, be_bytes_8, from_be_bytes-to_be_bytes_4, from_be_bytes-to_be_bytes_8}
 use Rattle.store_spec.specs.Ballot.{Ballot, IsValid}
 use Rattle.store_spec.specs.Election.{Election, IsElection, cell_size}
-use Rattle.store_spec.specs.Image.{ballot_bytes}
+use Rattle.store_spec.specs.Image.{IsCellOf, ballot_bytes}
 use Rattle.ballot_record.proofs.ValidMarks.{small_set, marks_kept}
 use Rattle.ballot_record.specs.Format.{sets_at, ballot_at}
 
@@ -30,6 +30,16 @@ length-sets_at : (n : ℕ) (bytes : List ℕ) → length (sets_at n bytes) ≡ n
 unfolding sets_at
 length-sets_at zero bytes = refl
 length-sets_at (suc n) bytes = ap suc (length-sets_at n (drop 4 bytes))
+
+-- the mark set at a place is spelled by the bytes there
+set_read : (n : ℕ) (bytes : List ℕ) (place : ℕ) → place < n → get_or (sets_at n bytes) place 0 ≡ from_be_bytes w32 (take 4 (drop (4 * place) bytes))
+unfolding sets_at
+set_read zero bytes place within = absurd (omega arith)
+set_read (suc n) bytes zero within = refl
+set_read (suc n) bytes (suc place) within =
+    set_read n (drop 4 bytes) place (omega arith)
+    ∙ ap (λ rest. from_be_bytes w32 (take 4 rest))
+    (drop-drop (4 * place) 4 bytes ∙ ap (λ k. drop k bytes) (let on : 4 + 4 * place ≡ 4 * suc place = omega arith in on))
 
 sets_spelled : (n : ℕ) (bytes : List ℕ) → AreBytes bytes → length bytes ≡ 4 * n → flat_map (to_be_bytes w32) (sets_at n bytes) ≡ bytes
 unfolding sets_at
@@ -102,6 +112,22 @@ cell_again e b election valid =
     ∙ ap (λ k. made b.number k (sets_at n (drop 9 (ballot_bytes e b)))) style
     ∙ ap (made b.number b.style) sets
     ∙ ap (λ marks. record { number = b.number; style = b.style; marks = marks }) (sym (marks_kept e b election valid))
+
+-- the bytes of a ballot spell its style and its mark sets
+pub style_read : (e : Election) (bytes : List ℕ) (b : Ballot) → IsElection e → IsCellOf e bytes b → get_or bytes 8 0 ≡ b.style
+style_read e bytes b election is =
+    ap (λ (b : Ballot). b.style) (ap (ballot_at (length e.contests)) is.1 ∙ cell_again e b election is.0)
+
+pub marks_read : (e : Election) (bytes : List ℕ) (b : Ballot) (place : ℕ) → IsElection e → IsCellOf e bytes b → place < length e.contests
+    → from_be_bytes w32 (take 4 (drop (9 + 4 * place) bytes)) ≡ get_or b.marks place 0
+marks_read e bytes b place election is within =
+    let n = length e.contests in
+    let sets = sets_at n (drop 9 bytes) in
+    let again = ap (ballot_at n) is.1 ∙ cell_again e b election is.0 in
+    ap (λ rest. from_be_bytes w32 (take 4 rest)) (sym (drop-drop (4 * place) 9 bytes))
+    ∙ sym (set_read n (drop 9 bytes) place within)
+    ∙ sym (get_or_append_left sets (replicate (16 - n) 0) 0 place (omega (arith, length-sets_at n (drop 9 bytes))))
+    ∙ ap (λ (b : Ballot). get_or b.marks place 0) again
 
 -- ---- zeros
 

@@ -1,5 +1,6 @@
 -- Where a contest is on no style.
-use Rattle.std.proofs.Common.{◌≡◌, ◌≢◌, ℕ, ◌-◌, ◌<◌, ◌≤◌, Bool, true, false, cond, eqb, length, refl, ap, ◌∙◌, arith}
+use Rattle.std.proofs.Common.{◌≡◌, ◌≢◌, ℕ, ◌-◌, ◌<◌, ◌≤◌, Bool, true, false, cond, eqb, length, refl, sym, ap, ◌∙◌, arith}
+use Rattle.std.proofs.lemmas.Bool.{ne_eqb}
 use Rattle.std.proofs.lemmas.List.{get_or_past}
 use Rattle.std.proofs.lemmas.Nat.Bits.{bit_at-zero, bit_at_above}
 use Rattle.std.specs.Prelude.{slice_index}
@@ -29,3 +30,13 @@ past_styles e s k past =
 pub past_contests : (e : Election) (s k : ℕ) → IsElection e → s ≢ 0 → s ≤ length e.styles → length e.contests < k → is_on_style e s k ≡ false
 past_contests e s k valid some known past =
     no_bit e s k (bit_at_above (slice_index e.styles (s - 1)) (length e.contests) (k - 1) ((valid.each_style (s - 1) 0 (omega arith)).of_these) (omega arith))
+
+-- else the word that stands for the style tells
+pub told_by_word : (e : Election) (s k word : ℕ) → s ≢ 0 → k ≢ 0 → word ≡ slice_index e.styles (s - 1)
+    → is_on_style e s k ≡ eqb (bit_at word (k - 1)) 1
+told_by_word e s k word some first is =
+    let told : ℕ → Bool = λ word. eqb (bit_at word (k - 1)) 1 in
+    let style = slice_index e.styles (s - 1) in
+    ap (λ none. cond none false (cond (eqb k 0) false (told style))) (ne_eqb s 0 some)
+    ∙ ap (λ none. cond none false (told style)) (ne_eqb k 0 first)
+    ∙ ap told (sym is)

@@ -1,4 +1,5 @@
-ghost use Rattle.std.specs.Prelude.{◌≡◌, ◌-◌, ◌^◌, ◌<◌, ◌≤◌, ◌++◌, ◌↔◌, length, replicate, All, Some, IsTrue, IsSome, IfSome, slice_get};
+ghost use Rattle.std.specs.Int.{bit_at};
+ghost use Rattle.std.specs.Prelude.{◌≡◌, ◌==◌, ℕ, ◌-◌, ◌^◌, ◌<◌, ◌≤◌, ◌++◌, ◌↔◌, length, replicate, All, Some, IsTrue, IsSome, IfSome, slice_get};
 ghost use Rattle.store_spec.specs.Election.{IsContest, IsContestUpTo, IsStyle, IsElection, choices_of, choices_on, is_on_style, cell_count, most_cells, most_choices, example};
 ghost use Rattle.ballot_record.specs.Contest.{contest_of, contests_of, no_contest};
 ghost use Rattle.ballot_record.specs.Parts.{parts_of, AreContests, AreStyles};
@@ -197,6 +198,17 @@ impl Election {
             return false;
         }
         self.styles[style - 1] >> (k - 1) & 1 == 1
+    }
+
+    /// The contests on a style: bit k - 1 stands for contest k. It has no bit where the election lacks the style.
+    pub fn contests_on(&self, style: u8) -> u32
+        ensures { (k : ℕ) → 1 ≤ k → is_on_style self.now style k ≡ (bit_at result (k - 1) == 1) }
+    {
+        let style = usize::from(style);
+        if style == 0 || style > self.styles() {
+            return 0;
+        }
+        self.styles[style - 1]
     }
 
     /// How many choices a ballot of a style has in contest `k`: none where the contest is not on the style.

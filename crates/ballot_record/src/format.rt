@@ -2,7 +2,7 @@
 //! this module knows their widths.
 #![tactic(auto, unfolding(store_spec::specs::Election::header_size, crate::specs::Format::largest_cell, crate::specs::Format::largest_bank))]
 
-ghost use Rattle.std.specs.Prelude.{◌≡◌, ◌+◌, ◌-◌, ◌*◌, ◌≤◌, ◌++◌, ◌↔◌, length, take, drop, replicate, All, IsTrue};
+ghost use Rattle.std.specs.Prelude.{◌≡◌, ◌+◌, ◌-◌, ◌*◌, ◌<◌, ◌≤◌, ◌++◌, ◌↔◌, length, take, drop, replicate, slice_index, All, IsTrue};
 ghost use Rattle.std.specs.Int.{from_be_bytes, w32};
 ghost use Rattle.store_spec.specs.Ballot.{Ballot, IsValid, MARK_SETS};
 ghost use Rattle.store_spec.specs.Damage.{number_at};
@@ -241,4 +241,27 @@ pub fn number_of(bytes: &[u8]) -> u64
     ensures { result ≡ number_at bytes.now }
 {
     BigEndian::read_u64(bytes)
+}
+
+/// The style of the ballot in a cell.
+#[tactic(auto, unfolding(store_spec::specs::Election::cell_size))]
+pub fn style_of(bytes: &[u8], election: &Election) -> u8
+    requires valid { IsElection election.now }
+    requires long { length bytes.now ≡ cell_size election.now }
+    ensures { (b : Ballot) → IsCellOf election.now bytes.now b → result ≡ b.style }
+{
+    bytes[8]
+}
+
+/// The mark set that the ballot in a cell has for the contest at a place, counted from 0.
+#[tactic(auto, unfolding(store_spec::specs::Election::cell_size))]
+pub fn set_of(bytes: &[u8], election: &Election, place: usize) -> u32
+    requires valid { IsElection election.now }
+    requires long { length bytes.now ≡ cell_size election.now }
+    requires within { place < length election.now.contests }
+    ensures { (b : Ballot) → IsCellOf election.now bytes.now b → result ≡ slice_index b.marks place }
+{
+    let (_, onward) = bytes.split_at(FRONT_BYTES + SET_BYTES * place);
+    let (set, _) = take_set(onward);
+    set
 }

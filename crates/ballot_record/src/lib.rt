@@ -15,8 +15,8 @@ pub use contest::{Contest, MAX_CHOICES};
 pub use election::{Election, MAX_BITS, MAX_CONTESTS, MAX_LIMIT, MAX_STYLES};
 pub use fault::{LineFault, LineWhy};
 pub use format::{
-    CellKind, CellRead, HEADER_BYTES, Header, MAX_BANK_BYTES, MAX_CELL_BYTES, take_cell,
-    take_cell_into,
+    CellKind, CellRead, HEADER_BYTES, Header, MAX_BANK_BYTES, MAX_CELL_BYTES, set_of, style_of,
+    take_cell, take_cell_into,
 };
 pub use line::{read_line, read_line_into, take_number};
 pub use list::BallotList;

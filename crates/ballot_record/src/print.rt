@@ -1,12 +1,14 @@
-ghost use Rattle.std.specs.Prelude.{◌≡◌, [], ◌∷◌, ◌++◌, if◌then◌else◌, map, decimal, OnErr, OnOk};
+ghost use Rattle.std.specs.Prelude.{◌≡◌, [], ◌∷◌, ◌++◌, if◌then◌else◌, length, map, take, decimal, OnErr, OnOk};
 ghost use Rattle.std.specs.List.{join_with_byte};
-ghost use Rattle.store_spec.specs.Ballot.{IsValid};
+ghost use Rattle.store_spec.specs.Ballot.{Ballot};
 ghost use Rattle.store_spec.specs.BallotLine.{choices_in, comma, group_text, record_line, slash};
 ghost use Rattle.store_spec.specs.Election as definition;
+ghost use Rattle.store_spec.specs.Election.{IsElection, cell_size};
+ghost use Rattle.store_spec.specs.Image.{IsCellOf};
 ghost use Rattle.ballot_record.specs.Print.{IsFrontOf};
-ghost use Rattle.ballot_record.specs.Record as seen;
 
-use crate::{Election, Record};
+use crate::Election;
+use crate::format::{number_of, set_of, style_of};
 use itoa::Buffer;
 use outside_io::Memory;
 
@@ -66,41 +68,46 @@ fn put_group(set: u32, out: &mut Vec<u8>) -> Result<(), Memory>
     put_choices(set, out)
 }
 
-/// Appends a group for each mark set, with slashes between them.
-fn put_groups(sets: &[u32], out: &mut Vec<u8>) -> Result<(), Memory>
-    ensures text { (e : definition.Election) → OnOk result (out.new.items
-        ≡ out.old.items ++ join_with_byte slash (map group_text (map (choices_in e) sets.now))) }
+/// Appends a group for each mark set of the ballot in a cell, with slashes between them.
+fn put_groups(cell: &[u8], election: &Election, out: &mut Vec<u8>) -> Result<(), Memory>
+    requires valid { IsElection election.now }
+    requires long { length cell.now ≡ cell_size election.now }
+    ensures text { (b : Ballot) → IsCellOf election.now cell.now b → OnOk result (out.new.items
+        ≡ out.old.items ++ join_with_byte slash (map group_text
+        (map (choices_in election.now) (take (length election.now.contests) b.marks)))) }
     ensures front { OnErr result (IsFrontOf out.old.items out.new.items) }
 {
-    'groups: for (place, set) in sets.iter().enumerate() {
+    'groups: for place in 0..election.contests() {
         put_between(place == 0, b'/', out)?;
-        put_group(*set, out)?;
+        put_group(set_of(cell, election, place), out)?;
     }
     Ok(())
 }
 
-fn put_parts(ballot: &Record, election: &Election, out: &mut Vec<u8>) -> Result<(), Memory>
-    requires { IsValid election.now (seen.ballot ballot.now) }
-    ensures text { OnOk result
-        (out.new.items ≡ out.old.items ++ record_line election.now (seen.ballot ballot.now)) }
+fn put_parts(cell: &[u8], election: &Election, out: &mut Vec<u8>) -> Result<(), Memory>
+    requires valid { IsElection election.now }
+    requires long { length cell.now ≡ cell_size election.now }
+    ensures text { (b : Ballot) → IsCellOf election.now cell.now b
+        → OnOk result (out.new.items ≡ out.old.items ++ record_line election.now b) }
     ensures front { OnErr result (IsFrontOf out.old.items out.new.items) }
 {
-    put_number(ballot.number, out)?;
+    put_number(number_of(cell), out)?;
     out.push(b' ')?;
-    put_number(u64::from(ballot.style), out)?;
+    put_number(u64::from(style_of(cell, election)), out)?;
     out.push(b' ')?;
-    put_groups(&ballot.marks[..election.contests()], out)
+    put_groups(cell, election, out)
 }
 
-/// Appends the line of a valid ballot, without a line end. It takes no memory where there is room.
-pub fn put_line(ballot: &Record, election: &Election, out: &mut Vec<u8>) -> Result<(), Memory>
-    requires { IsValid election.now (seen.ballot ballot.now) }
-    ensures line { OnOk result
-        (out.new.items ≡ out.old.items ++ record_line election.now (seen.ballot ballot.now)) }
+/// Appends the line of the ballot in a cell, without a line end. It takes no memory where there is room.
+pub fn put_line(cell: &[u8], election: &Election, out: &mut Vec<u8>) -> Result<(), Memory>
+    requires valid { IsElection election.now }
+    requires long { length cell.now ≡ cell_size election.now }
+    ensures line { (b : Ballot) → IsCellOf election.now cell.now b
+        → OnOk result (out.new.items ≡ out.old.items ++ record_line election.now b) }
     ensures memory { OnErr result (out.new.items ≡ out.old.items) }
 {
     let before = out.len();
-    let put = put_parts(ballot, election, out);
+    let put = put_parts(cell, election, out);
     if put.is_err() {
         out.truncate(before);
     }

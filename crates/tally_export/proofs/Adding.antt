@@ -9,8 +9,7 @@ use Rattle.store_spec.specs.Ballot.{Ballot}
 use Rattle.store_spec.specs.Election.{Election, IsElection, is_on_style}
 use Rattle.store_spec.specs.Report.{allowed_of, is_overvote, marked_in, overvotes, undervotes, votes}
 use Rattle.tally_export.proofs.Counting.{allowed_few, bit_few, one_few}
-use Rattle.tally_export.specs.Counted.{AddsBallots, AddsUp, AreAtMost, AreCountsOf, IsTallyOf, IsUpTo}
-use Rattle.tally_export.specs.declared.counts.Counts.{Counts}
+use Rattle.tally_export.specs.Counted.{AddsBallots, AddsUp, IsTallyOf, IsUpTo}
 use Rattle.tally_export.specs.declared.counts.Tally.{Tally}
 
 -- what counts no more than 32 of a ballot counts no more than 32 of each
@@ -46,15 +45,6 @@ few_counts e bs t election few is = record {
   choices = λ k c known within. omega (arith, is.choices k c known within, votes_few e bs (k + 1) c);
   under = λ k known. omega (arith, is.under k known, undervotes_few e bs (k + 1) election);
   over = λ k known. omega (arith, is.over k known, overvotes_few e bs (k + 1));
-}
-
--- nor is one of a contest
-pub few_of_contest : (e : Election) (bs : List Ballot) (k : ℕ) (counts : Counts) → IsElection e → length bs ≤ 32768
-    → AreCountsOf e bs k counts → AreAtMost (2 ^ 62) counts
-few_of_contest e bs k counts election few are = record {
-  choices = λ c within. omega (arith, are.choices c within, votes_few e bs k c);
-  under = omega (arith, are.under, undervotes_few e bs k election);
-  over = omega (arith, are.over, overvotes_few e bs k);
 }
 
 -- what is counted of two lists is counted of the one and of the other

@@ -2,6 +2,7 @@ pub mod Adding
 pub mod AnyOrder
 pub mod Counting
 pub mod Listed
+pub mod OneMark
 pub mod Placing
 pub mod Ranges
 pub mod Texts

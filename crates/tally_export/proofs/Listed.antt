@@ -1,5 +1,5 @@
 -- The ballots of a store, listed by their places.
-use Rattle.std.proofs.Common.{◌≡◌, ℕ, ◌<◌, List, [], Option, Some, IsSome, is_some, get_or, length, map, sym, ap, ◌∙◌, arith}
+use Rattle.std.proofs.Common.{◌≡◌, ℕ, ◌<◌, List, [], Option, Some, get_or, length, map, sym, ap, ◌∙◌, arith}
 use Rattle.std.proofs.lemmas.List.{get_or-map, get_or_default, length-map}
 use Rattle.std.proofs.lemmas.List.Elements.{Contains-get_or}
 use Rattle.ballot_record.proofs.BallotNumbers.{length-numbers_of}
@@ -53,15 +53,10 @@ ballot_found store listed i is lt =
     found_once store.ballots (get_or (cells_of store.election store.ballots) (cell_at listed i) 0) (get_or store.ballots i nobody)
     held.listing.distinct (Contains-get_or store.ballots i nobody within) (sym number)
 
-pub some_found : (store : Contents) (listed : List Place) (i : ℕ) → IsListed store listed → i < length listed
-    → IsSome (found_at store listed i)
-some_found store listed i is lt = ap is_some (ballot_found store listed i is lt)
-
 -- what is found there is the next ballot
-pub next_found : (store : Contents) (listed : List Place) (i : ℕ) (b : Ballot) → IsListed store listed → i < length listed
-    → found_at store listed i ≡ Some b → (i < length store.ballots) × (get_or store.ballots i b ≡ b)
-next_found store listed i b is lt found =
+pub next_found : (store : Contents) (listed : List Place) (i : ℕ) → IsListed store listed → i < length listed
+    → (b : Ballot) × (found_at store listed i ≡ Some b) × (i < length store.ballots) × (get_or store.ballots i b ≡ b)
+next_found store listed i is lt =
+    let b = get_or store.ballots i nobody in
     let within : i < length store.ballots = omega (arith, lt, as_many store listed is) in
-    let same : Some (get_or store.ballots i nobody) ≡ Some b = sym (ballot_found store listed i is lt) ∙ found in
-    let next : get_or store.ballots i nobody ≡ b = cc in
-    (within, get_or_default store.ballots i b nobody within ∙ next)
+    (b, ballot_found store listed i is lt, within, get_or_default store.ballots i b nobody within)

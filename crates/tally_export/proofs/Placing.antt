@@ -1,17 +1,19 @@
--- Counts of ballots, added to a tally contest by contest.
-use Rattle.std.proofs.Common.{◌≡◌, ◌≢◌, ℕ, ◌+◌, ◌^◌, ◌<◌, ◌≤◌, cond, inl, inr, List, [], ◌∷◌, get_or, length, replicate, refl, sym, ap, subst, ◌∙◌, arith}
-use Rattle.std.proofs.lemmas.Bool.{cases_eq, cases_lt}
+-- The counts of a ballot, added to a tally contest by contest.
+use Rattle.std.proofs.Common.{◌≡◌, ◌≢◌, ℕ, ◌+◌, ◌-◌, ◌/◌, ◌^◌, ◌<◌, ◌≤◌, Bool, true, false, bit_and, cond, eqb, inl, inr, List, [], ◌∷◌, get_or, length, replicate, refl, sym, ap, subst, ◌∙◌, arith}
+use Rattle.std.proofs.lemmas.Bool.{cases_eq, cases_lt, ne_eqb}
 use Rattle.std.proofs.lemmas.List.{get_or-replicate}
 use Rattle.std.proofs.lemmas.List.Elements.{recursion_from_All}
+use Rattle.std.proofs.lemmas.Nat.Bits.{shr_and_one}
+use Rattle.std.specs.Int.{bit_at}
 use Rattle.std.specs.List.{AllByRecursion, sum_by}
-use Rattle.std.specs.Prelude.{All}
+use Rattle.std.specs.Prelude.{All, count_ones}
 use Rattle.ballot_record.proofs.OnStyle.{past_contests}
 use Rattle.store_spec.specs.Ballot.{Ballot, IsValid}
-use Rattle.store_spec.specs.Election.{Election, IsElection}
-use Rattle.store_spec.specs.Report.{ballots_with, overvotes, undervotes, votes}
+use Rattle.store_spec.specs.Election.{Election, IsElection, is_on_style}
+use Rattle.store_spec.specs.Report.{allowed_of, ballots_with, is_overvote, marked_in, overvotes, undervotes, votes}
 use Rattle.tally_export.proofs.Adding.{overvotes_few, undervotes_few, votes_few}
-use Rattle.tally_export.specs.Counted.{AddsBallots, AddsContest, AreCountsOf, IsTallyOf, IsUpTo, choice_count}
-use Rattle.tally_export.specs.declared.counts.Counts.{Counts}
+use Rattle.tally_export.proofs.Counting.{sum_off, sum_on}
+use Rattle.tally_export.specs.Counted.{AddsBallots, CountsSet, IsTallyOf, IsUpTo, choice_count}
 use Rattle.tally_export.specs.declared.counts.Tally.{Tally}
 
 -- no ballots have no counts
@@ -59,26 +61,108 @@ one_more P n front here k less = elim (cases_eq k n) [
   | inr other ↦ front k (omega arith) other
 ]
 
--- the counts of one contest more were added
-pub one_added : (e : Election) (ballots : List Ballot) (n : ℕ) (before was now : Tally) (counts : Counts)
-    → AddedTo e ballots n before was → AreCountsOf e ballots (n + 1) counts → AddsContest n counts was now
-    → AddedTo e ballots (n + 1) before now
-one_added e ballots n before was now counts added are adds = record {
-  choices = λ k c less within. one_more
-      (λ (k : ℕ). choice_count now k c ≡ choice_count before k c + votes e ballots (k + 1) (c + 1)) n
-      (λ k first other. ap (λ row. get_or row c 0) (adds.other_choices k other) ∙ added.choices k c first within)
-      (omega (arith, adds.choices c within, ap (λ row. get_or row c 0) (added.rest_choices n (omega arith)), are.choices c within))
-      k less;
-  under = one_more (λ (k : ℕ). get_or now.under k 0 ≡ get_or before.under k 0 + undervotes e ballots (k + 1)) n
-      (λ k first other. adds.other_under k other ∙ added.under k first)
-      (omega (arith, adds.under, added.rest_under n (omega arith), are.under));
-  over = one_more (λ (k : ℕ). get_or now.over k 0 ≡ get_or before.over k 0 + overvotes e ballots (k + 1)) n
-      (λ k first other. adds.other_over k other ∙ added.over k first)
-      (omega (arith, adds.over, added.rest_over n (omega arith), are.over));
-  rest_choices = λ k past. adds.other_choices k (λ same. omega (arith, same)) ∙ added.rest_choices k (omega arith);
-  rest_under = λ k past. adds.other_under k (λ same. omega (arith, same)) ∙ added.rest_under k (omega arith);
-  rest_over = λ k past. adds.other_over k (λ same. omega (arith, same)) ∙ added.rest_over k (omega arith);
+pub none_added : (e : Election) (ballots : List Ballot) (before : Tally) → AddedTo e ballots 0 before before
+none_added e ballots before = record {
+  choices = λ k c none within. absurd (omega arith);
+  under = λ k none. absurd (omega arith);
+  over = λ k none. absurd (omega arith);
+  rest_choices = λ k past. refl;
+  rest_under = λ k past. refl;
+  rest_over = λ k past. refl;
 }
+
+-- the word of a style tells whether a contest is on it
+bit_of : (e : Election) (style word place : ℕ) → ((k : ℕ) → 1 ≤ k → is_on_style e style k ≡ eqb (bit_at word (k - 1)) 1)
+    → is_on_style e style (place + 1) ≡ eqb (bit_and (word / 2 ^ place) 1) 1
+bit_of e style word place tells =
+    tells (place + 1) (omega arith)
+    ∙ ap (λ i. eqb (bit_at word i) 1) (let back : place + 1 - 1 ≡ place = omega arith in back)
+    ∙ ap (λ bit. eqb bit 1) (sym (shr_and_one word place))
+
+pub told_on : (e : Election) (style word place : ℕ) → ((k : ℕ) → 1 ≤ k → is_on_style e style k ≡ eqb (bit_at word (k - 1)) 1)
+    → bit_and (word / 2 ^ place) 1 ≡ 1 → is_on_style e style (place + 1) ≡ true
+told_on e style word place tells set = bit_of e style word place tells ∙ ap (λ bit. eqb bit 1) set
+
+pub told_off : (e : Election) (style word place : ℕ) → ((k : ℕ) → 1 ≤ k → is_on_style e style k ≡ eqb (bit_at word (k - 1)) 1)
+    → bit_and (word / 2 ^ place) 1 ≢ 1 → is_on_style e style (place + 1) ≡ false
+told_off e style word place tells clear = bit_of e style word place tells ∙ ne_eqb (bit_and (word / 2 ^ place) 1) 1 clear
+
+-- a ballot has the contest at the next place, and its mark set was counted there
+pub set_added : (e : Election) (b : Ballot) (n allowed set : ℕ) (before was now : Tally)
+    → is_on_style e b.style (n + 1) ≡ true → allowed ≡ allowed_of e (n + 1) → set ≡ get_or b.marks n 0
+    → AddedTo e (b ∷ []) n before was → CountsSet n allowed set was now
+    → AddedTo e (b ∷ []) (n + 1) before now
+set_added e b n allowed set before was now on most marked added counts =
+    let k = n + 1 in
+    let p : Ballot → Bool = λ b. is_on_style e b.style k in
+    let back : n ≡ k - 1 = omega arith in
+    let same = marked ∙ ap (λ place. get_or b.marks place 0) back in
+    let adds = subst (λ allowed. CountsSet n allowed (marked_in k b) was now) most
+    (subst (λ set. CountsSet n allowed set was now) same counts) in
+    record {
+      choices = λ k' c less within. one_more
+          (λ (k : ℕ). choice_count now k c ≡ choice_count before k c + votes e (b ∷ []) (k + 1) (c + 1)) n
+          (λ k' first other. ap (λ row. get_or row c 0) (adds.other_choices k' other) ∙ added.choices k' c first within)
+          (let here : c ≡ c + 1 - 1 = omega arith in
+          omega (
+            arith,
+            adds.choices c within,
+            ap (λ row. get_or row c 0) (added.rest_choices n (omega arith)),
+            ap (λ place. cond (is_overvote e k b) 0 (bit_at (marked_in k b) place)) here,
+            sum_on (λ b. cond (is_overvote e k b) 0 (bit_at (marked_in k b) (c + 1 - 1))) p b on,
+          ))
+          k' less;
+      under = one_more (λ (k : ℕ). get_or now.under k 0 ≡ get_or before.under k 0 + undervotes e (b ∷ []) (k + 1)) n
+          (λ k' first other. adds.other_under k' other ∙ added.under k' first)
+          (omega (
+            arith,
+            adds.under,
+            added.rest_under n (omega arith),
+            sum_on (λ b. allowed_of e k - count_ones (marked_in k b)) p b on,
+          ));
+      over = one_more (λ (k : ℕ). get_or now.over k 0 ≡ get_or before.over k 0 + overvotes e (b ∷ []) (k + 1)) n
+          (λ k' first other. adds.other_over k' other ∙ added.over k' first)
+          (omega (
+            arith,
+            adds.over,
+            added.rest_over n (omega arith),
+            sum_on (λ b. cond (is_overvote e k b) 1 0) p b on,
+          ));
+      rest_choices = λ k' past. adds.other_choices k' (λ same. omega (arith, same)) ∙ added.rest_choices k' (omega arith);
+      rest_under = λ k' past. adds.other_under k' (λ same. omega (arith, same)) ∙ added.rest_under k' (omega arith);
+      rest_over = λ k' past. adds.other_over k' (λ same. omega (arith, same)) ∙ added.rest_over k' (omega arith);
+    }
+
+-- a ballot lacks the contest at the next place
+pub contest_passed : (e : Election) (b : Ballot) (n : ℕ) (before now : Tally) → is_on_style e b.style (n + 1) ≡ false
+    → AddedTo e (b ∷ []) n before now → AddedTo e (b ∷ []) (n + 1) before now
+contest_passed e b n before now off added =
+    let k = n + 1 in
+    let p : Ballot → Bool = λ b. is_on_style e b.style k in
+    record {
+      choices = λ k' c less within. one_more
+          (λ (k : ℕ). choice_count now k c ≡ choice_count before k c + votes e (b ∷ []) (k + 1) (c + 1)) n
+          (λ k' first other. added.choices k' c first within)
+          (omega (
+            arith,
+            ap (λ row. get_or row c 0) (added.rest_choices n (omega arith)),
+            sum_off (λ b. cond (is_overvote e k b) 0 (bit_at (marked_in k b) (c + 1 - 1))) p b off,
+          ))
+          k' less;
+      under = one_more (λ (k : ℕ). get_or now.under k 0 ≡ get_or before.under k 0 + undervotes e (b ∷ []) (k + 1)) n
+          (λ k' first other. added.under k' first)
+          (omega (
+            arith,
+            added.rest_under n (omega arith),
+            sum_off (λ b. allowed_of e k - count_ones (marked_in k b)) p b off,
+          ));
+      over = one_more (λ (k : ℕ). get_or now.over k 0 ≡ get_or before.over k 0 + overvotes e (b ∷ []) (k + 1)) n
+          (λ k' first other. added.over k' first)
+          (omega (arith, added.rest_over n (omega arith), sum_off (λ b. cond (is_overvote e k b) 1 0) p b off));
+      rest_choices = λ k' past. added.rest_choices k' (omega arith);
+      rest_under = λ k' past. added.rest_under k' (omega arith);
+      rest_over = λ k' past. added.rest_over k' (omega arith);
+    }
 
 -- no ballot has a contest that the election lacks
 none_with : (e : Election) (ballots : List Ballot) (k : ℕ) → IsElection e → AllByRecursion (IsValid e) ballots

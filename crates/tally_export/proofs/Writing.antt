@@ -4,9 +4,9 @@ use Rattle.std.proofs.lemmas.Bool.{cases_lt}
 use Rattle.std.proofs.lemmas.List.{take-append-le, take_all, drop_all}
 use Rattle.std.proofs.Math.Seq.{take-append-add}
 use Rattle.std.specs.Option.{option_map}
-use Rattle.std.specs.Prelude.{All, OnErr, map}
+use Rattle.std.specs.Prelude.{OnErr, map}
 use Rattle.outside_io.specs.Stream.{TakesAll, TakesSome}
-use Rattle.store_spec.specs.Ballot.{Ballot, IsValid}
+use Rattle.store_spec.specs.Ballot.{Ballot}
 use Rattle.store_spec.specs.BallotLine.{record_line}
 use Rattle.store_spec.specs.Election.{Election}
 use Rattle.store_spec.specs.Report.{lines_text}
@@ -122,12 +122,6 @@ front_written before now gathered left whole written =
 pub no_line_left : (e : Election) (ballots : List Ballot) (i : ℕ) → length ballots ≤ i
     → lines_left e (drop i ballots) ≡ []
 no_line_left e ballots i end = ap (lines_left e) (drop_all i ballots end)
-
--- each ballot of a store is valid
-pub valid_at : (e other : Election) (ballots : List Ballot) (i : ℕ) (b : Ballot) → other ≡ e
-    → All (IsValid other) ballots → (i < length ballots) × (get_or ballots i b ≡ b) → IsValid e b
-valid_at e other ballots i b same valid at =
-    subst (λ (e : Election). IsValid e b) same (subst (IsValid other) at.1 (valid i b at.0))
 
 -- what holds holds on a failure
 pub on_failure : {E : Type 0} (answer : Result (Unit {0}) E) (P : Type 0) → P → OnErr answer P

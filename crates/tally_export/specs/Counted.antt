@@ -5,7 +5,6 @@ use Rattle.std.specs.List.{slice_index_or}
 use Rattle.store_spec.specs.Ballot.{Ballot}
 use Rattle.store_spec.specs.Election.{Election, most_choices, most_contests}
 use Rattle.store_spec.specs.Report.{overvotes, undervotes, votes}
-use Rattle.tally_export.specs.declared.counts.Counts.{Counts}
 use Rattle.tally_export.specs.declared.counts.Tally.{Tally}
 use Rattle.ballot_record.specs.declared.election.TheConstants.{MAX_CONTESTS}
 use Rattle.tally_export.specs.declared.counts.TheConstants.{CHOICES}
@@ -36,31 +35,13 @@ pub record AddsUp (one other both : Tally) : Type 0 where
   pub over : (k : ℕ) → k < MAX_CONTESTS
       → slice_index both.over k ≡ slice_index one.over k + slice_index other.over k
 
--- the counts of contest k
-pub record AreCountsOf (e : Election) (ballots : List Ballot) (k : ℕ) (counts : Counts) : Type 0 where
-  pub choices : (c : ℕ) → c < most_choices e → slice_index counts.choices c ≡ votes e ballots k (c + 1)
-  pub under : counts.under ≡ undervotes e ballots k
-  pub over : counts.over ≡ overvotes e ballots k
-
--- no count is above this number
-pub record AreAtMost (most : ℕ) (counts : Counts) : Type 0 where
-  pub choices : (c : ℕ) → c < CHOICES → slice_index counts.choices c ≤ most
-  pub under : counts.under ≤ most
-  pub over : counts.over ≤ most
-
--- a mark set was counted where so many marks are allowed
-pub record CountsSet (allowed set : ℕ) (before now : Counts) : Type 0 where
-  pub choices : (c : ℕ) → c < CHOICES → slice_index now.choices c
-      ≡ slice_index before.choices c + (if nat_lt allowed (count_ones set) then 0 else bit_at set c)
-  pub under : now.under ≡ before.under + (allowed - count_ones set)
-  pub over : now.over ≡ before.over + (if nat_lt allowed (count_ones set) then 1 else 0)
-
--- what ballots add up to in the contest at a place was added there, and the others stay
-pub record AddsContest (place : ℕ) (more : Counts) (before now : Tally) : Type 0 where
-  pub choices : (c : ℕ) → c < CHOICES
-      → choice_count now place c ≡ choice_count before place c + slice_index more.choices c
-  pub under : slice_index now.under place ≡ slice_index before.under place + more.under
-  pub over : slice_index now.over place ≡ slice_index before.over place + more.over
+-- a mark set was counted in the contest at a place, where so many marks are allowed, and the other contests stay
+pub record CountsSet (place allowed set : ℕ) (before now : Tally) : Type 0 where
+  pub choices : (c : ℕ) → c < CHOICES → choice_count now place c
+      ≡ choice_count before place c + (if nat_lt allowed (count_ones set) then 0 else bit_at set c)
+  pub under : slice_index now.under place ≡ slice_index before.under place + (allowed - count_ones set)
+  pub over : slice_index now.over place
+      ≡ slice_index before.over place + (if nat_lt allowed (count_ones set) then 1 else 0)
   pub other_choices : (k : ℕ) → k ≢ place → slice_index_or now.choices k [] ≡ slice_index_or before.choices k []
   pub other_under : (k : ℕ) → k ≢ place → slice_index now.under k ≡ slice_index before.under k
   pub other_over : (k : ℕ) → k ≢ place → slice_index now.over k ≡ slice_index before.over k

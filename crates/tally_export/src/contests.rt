@@ -1,68 +1,59 @@
-ghost use Rattle.std.specs.Prelude.{◌≡◌, ◌^◌, ◌≤◌, All, length};
-ghost use Rattle.body_store.specs.Contents.{ballots_of};
-ghost use Rattle.store_spec.specs.Ballot.{IsValid};
-ghost use Rattle.store_spec.specs.Election.{IsElection, cell_count, most_ballots};
-ghost use Rattle.tally_export.specs.Counted.{AddsBallots, AreCountsOf, IsTallyOf, IsUpTo};
+ghost use Rattle.std.specs.Prelude.{◌≡◌, ◌≢◌, ℕ, ◌^◌, ◌<◌, ◌≤◌, ◌∷◌, [], length, slice_index};
+ghost use Rattle.store_spec.specs.Ballot.{Ballot};
+ghost use Rattle.store_spec.specs.Election.{IsElection, cell_count, cell_size};
+ghost use Rattle.store_spec.specs.Image.{IsCellOf};
+ghost use Rattle.tally_export.specs.Counted.{AddsBallots, IsTallyOf, IsUpTo};
 ghost use Rattle.tally_export.specs.Ranges.{ballots_in};
 
-use crate::counts::{CHOICES, Counts, Tally};
-use ballot_record::{Election, Record};
+use crate::counts::Tally;
+use ballot_record::{Election, set_of, style_of};
 use body_store::Closed;
 
-/// How many ballots are read at once. For each block the counts of each contest are cleared and added up, and the room of
-/// a block is cleared once for all of them.
-const BLOCK: usize = 128;
-
-/// What these ballots add up to in contest `k`.
-fn count_contest(records: &[Record], election: &Election, k: usize) -> Counts
-    requires election { IsElection election.now }
-    requires first { 1 ≤ k }
-    requires last { k ≤ length election.now.contests }
-    requires few { length records.now ≤ most_ballots }
-    ensures { AreCountsOf election.now (ballots_of records.now) k result }
+/// Adds the ballot in a cell, read where it stands.
+fn add_ballot(all: &mut Tally, cell: &[u8], election: &Election)
+    requires valid { IsElection election.now }
+    requires long { length cell.now ≡ cell_size election.now }
+    requires held { (b : Ballot) × IsCellOf election.now cell.now b }
+    requires room { IsUpTo (2 ^ 62) all.old }
+    ensures { (b : Ballot) → IsCellOf election.now cell.now b
+        → AddsBallots election.now (b ∷ []) all.old all.new }
 {
-    let allowed = u32::from(election.contest(k).allowed);
-    let mut counts = Counts {
-        choices: [0; CHOICES],
-        under: 0,
-        over: 0,
-    };
-    'records: for record in records {
-        if election.on_style(record.style, k) {
-            counts.add(record.marks[k - 1], allowed);
+    let contests = election.contests_on(style_of(cell, election));
+    'contests: for place in 0..election.contests() {
+        if contests >> place & 1 == 1 {
+            let allowed = u32::from(election.contest(place + 1).allowed);
+            all.count_set(place, set_of(cell, election, place), allowed);
         }
     }
-    counts
 }
 
-/// Adds what these ballots add up to, in the contests of their election.
-fn add_ballots(all: &mut Tally, records: &[Record], election: &Election)
-    requires valid { All (IsValid election.now) (ballots_of records.now) }
-    requires few { length records.now ≤ most_ballots }
-    requires room { IsUpTo (2 ^ 62) all.old }
-    ensures { AddsBallots election.now (ballots_of records.now) all.old all.new }
+/// The first cell from one on that has a number, or `end`.
+fn past_empty(cells: &[u64], from: usize, end: usize) -> usize
+    requires { (from ≤ end) × (end ≤ length cells.now) }
+    ensures onward { (from ≤ result) × (result ≤ end) }
+    ensures empty { (k : ℕ) → from ≤ k → k < result → slice_index cells.now k ≡ 0 }
+    ensures some { result < end → slice_index cells.now result ≢ 0 }
 {
-    'contests: for place in 0..election.contests() {
-        let counts = count_contest(records, election, place + 1);
-        all.add_contest(place, &counts);
+    let mut cell = from;
+    'cells: while cell < end && cells[cell] == 0 {
+        cell += 1;
     }
+    cell
 }
 
-/// The tally of the ballots from one cell of a store on, up to another. They are read block by block, and the room of a
-/// block is in no caller's frame.
+/// The tally of the ballots from one cell of a store on, up to another.
 #[inline(never)]
 pub fn tally_cells(closed: &Closed, from: usize, end: usize) -> Tally
     requires { (from ≤ end) × (end ≤ cell_count closed.now.election) }
     ensures { IsTallyOf closed.now.election (ballots_in closed.now from end) result }
 {
     let election = closed.election();
-    let mut block = [Record::blank(); BLOCK];
+    let cells = closed.cells();
     let mut all = Tally::of_none();
-    let mut cell = from;
+    let mut cell = past_empty(cells, from, end);
     'cells: while cell < end {
-        let (count, next) = closed.put_records(cell, end, &mut block);
-        add_ballots(&mut all, &block[..count], election);
-        cell = next;
+        add_ballot(&mut all, closed.cell(cell), election);
+        cell = past_empty(cells, cell + 1, end);
     }
     all
 }

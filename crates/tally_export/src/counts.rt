@@ -18,18 +18,21 @@ pub struct Tally {
     pub over: [u64; MAX_CONTESTS],
 }
 
-/// What ballots add up to in one contest.
-#[derive(Clone, Copy)]
-pub struct Counts {
-    pub choices: [u64; CHOICES],
-    pub under: u64,
-    pub over: u64,
+/// Counts one choice, the only mark of its set.
+fn add_choice(counts: &mut [u64], choice: usize)
+    requires each { length counts.old ≡ CHOICES }
+    requires known { choice < CHOICES }
+    requires room { slice_index counts.old choice ≤ 2 ^ 63 }
+    ensures { (c : ℕ) → c < length counts.old
+        → slice_index counts.new c ≡ slice_index counts.old c + bit_at (2 ^ choice) c }
+{
+    counts[choice] += 1;
 }
 
 /// Counts each choice of a mark set, in one step a mark.
 fn add_choices(counts: &mut [u64], set: u32)
     requires each { length counts.old ≡ CHOICES }
-    requires room { (c : ℕ) → c < length counts.old → slice_index counts.old c < 2 ^ 63 }
+    requires room { (c : ℕ) → c < length counts.old → slice_index counts.old c ≤ 2 ^ 63 }
     ensures { (c : ℕ) → c < length counts.old
         → slice_index counts.new c ≡ slice_index counts.old c + bit_at set c }
 {
@@ -57,7 +60,7 @@ fn add_counts(counts: &mut [u64], more: &[u64])
 impl Tally {
     ghost use Rattle.std.specs.Prelude.{[]};
     ghost use Rattle.store_spec.specs.Election.{Election};
-    ghost use Rattle.tally_export.specs.Counted.{AddsContest, AddsUp, AreAtMost, IsTallyOf, IsUpTo};
+    ghost use Rattle.tally_export.specs.Counted.{AddsUp, CountsSet, IsTallyOf, IsUpTo};
 
     /// What no ballots add up to.
     pub fn of_none() -> Tally
@@ -70,16 +73,49 @@ impl Tally {
         }
     }
 
-    /// Adds what ballots add up to in the contest at a place.
-    pub fn add_contest(&mut self, place: usize, more: &Counts)
+    /// Counts the mark set of a ballot in the contest at a place, where so many marks are allowed. Most sets have one mark
+    /// or none.
+    pub fn count_set(&mut self, place: usize, set: u32, allowed: u32)
         requires within { place < MAX_CONTESTS }
-        requires ours { IsUpTo (2 ^ 63) self.old }
-        requires theirs { AreAtMost (2 ^ 62) more.now }
-        ensures { AddsContest place more.now self.old self.new }
+        requires some { 1 ≤ allowed }
+        requires room { IsUpTo (2 ^ 63) self.old }
+        ensures { CountsSet place allowed set self.old self.new }
     {
-        add_counts(&mut self.choices[place], &more.choices);
-        self.under[place] += more.under;
-        self.over[place] += more.over;
+        if set == 0 {
+            self.under[place] += u64::from(allowed);
+        } else if set & (set - 1) == 0 {
+            self.count_mark(place, set.trailing_zeros() as usize, allowed);
+        } else {
+            self.count_marks(place, set, allowed);
+        }
+    }
+
+    /// Counts a mark set with one mark, that of the choice at a place of its own.
+    fn count_mark(&mut self, place: usize, choice: usize, allowed: u32)
+        requires within { place < MAX_CONTESTS }
+        requires known { choice < CHOICES }
+        requires some { 1 ≤ allowed }
+        requires room { IsUpTo (2 ^ 63) self.old }
+        ensures { CountsSet place allowed (2 ^ choice) self.old self.new }
+    {
+        self.under[place] += u64::from(allowed - 1);
+        add_choice(&mut self.choices[place], choice);
+    }
+
+    /// Counts a mark set, however many marks it has.
+    #[inline(never)]
+    fn count_marks(&mut self, place: usize, set: u32, allowed: u32)
+        requires within { place < MAX_CONTESTS }
+        requires room { IsUpTo (2 ^ 63) self.old }
+        ensures { CountsSet place allowed set self.old self.new }
+    {
+        let marks = set.count_ones();
+        if marks > allowed {
+            self.over[place] += 1;
+            return;
+        }
+        self.under[place] += u64::from(allowed - marks);
+        add_choices(&mut self.choices[place], set);
     }
 
     /// Adds what other ballots add up to.
@@ -93,23 +129,5 @@ impl Tally {
         }
         add_counts(&mut self.under, &more.under);
         add_counts(&mut self.over, &more.over);
-    }
-}
-
-impl Counts {
-    ghost use Rattle.tally_export.specs.Counted.{AreAtMost, CountsSet};
-
-    /// Counts the mark set of a ballot, where so many marks are allowed.
-    pub fn add(&mut self, set: u32, allowed: u32)
-        requires { AreAtMost (2 ^ 32) self.old }
-        ensures { CountsSet allowed set self.old self.new }
-    {
-        let marks = set.count_ones();
-        if marks > allowed {
-            self.over += 1;
-            return;
-        }
-        self.under += u64::from(allowed - marks);
-        add_choices(&mut self.choices, set);
     }
 }

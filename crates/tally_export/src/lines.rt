@@ -1,16 +1,15 @@
-ghost use Rattle.std.specs.Prelude.{◌≡◌, ◌∷◌, [], ◌++◌, ◌<◌, IfOk, IsSome, OnErr, OnOk, codes, slice_index};
-ghost use Rattle.ballot_record.specs.Record as seen;
+ghost use Rattle.std.specs.Prelude.{◌≡◌, ◌∷◌, [], ◌++◌, IfOk, OnErr, OnOk, codes, length};
 ghost use Rattle.outside_io.specs.Stream.{TakesAll, TakesSome};
-ghost use Rattle.store_spec.specs.Ballot.{IsValid, ballot_of};
+ghost use Rattle.store_spec.specs.Ballot.{Ballot};
 ghost use Rattle.store_spec.specs.BallotLine.{record_line};
-ghost use Rattle.store_spec.specs.Election.{cell_count};
+ghost use Rattle.store_spec.specs.Election.{IsElection, cell_size};
 ghost use Rattle.store_spec.specs.Fault.{CountsFaultIf};
-ghost use Rattle.store_spec.specs.Image.{cells_of};
+ghost use Rattle.store_spec.specs.Image.{IsCellOf};
 ghost use Rattle.store_spec.specs.Input.{line_end};
 ghost use Rattle.store_spec.specs.Report.{count_line, export_text};
 
 use crate::PutFault;
-use ballot_record::{Election, Record, put_line};
+use ballot_record::{Election, put_line};
 use body_store::Closed;
 use outside_io::{Memory, Sink};
 use std::alloc::Global;
@@ -26,30 +25,16 @@ fn first_line(alloc: Global, ballots: usize) -> Result<Vec<u8>, Memory>
     Ok(format!(in alloc; "export {ballots}\n")?.into_bytes())
 }
 
-/// Appends the line of a ballot, with its end.
-fn put_ballot(ballot: &Record, election: &Election, text: &mut Vec<u8>) -> Result<(), Memory>
-    requires { IsValid election.now (seen.ballot ballot.now) }
-    ensures { OnOk result (text.new.items
-        ≡ text.old.items ++ (record_line election.now (seen.ballot ballot.now) ++ line_end ∷ [])) }
+/// Appends the line of the ballot in a cell, with its end.
+fn put_ballot(cell: &[u8], election: &Election, text: &mut Vec<u8>) -> Result<(), Memory>
+    requires valid { IsElection election.now }
+    requires long { length cell.now ≡ cell_size election.now }
+    ensures { (b : Ballot) → IsCellOf election.now cell.now b → OnOk result (text.new.items
+        ≡ text.old.items ++ (record_line election.now b ++ line_end ∷ [])) }
 {
-    put_line(ballot, election, text)?;
+    put_line(cell, election, text)?;
     text.push(b'\n')?;
     Ok(())
-}
-
-/// The ballot in a cell that has one.
-fn ballot_in(closed: &Closed, cell: usize) -> Record
-    requires within { cell < cell_count closed.now.election }
-    requires some { IsSome (ballot_of closed.now.ballots
-        (slice_index (cells_of closed.now.election closed.now.ballots) cell)) }
-    ensures { ballot_of closed.now.ballots
-        (slice_index (cells_of closed.now.election closed.now.ballots) cell)
-        ≡ Some (seen.ballot result) }
-{
-    match closed.record_in(cell) {
-        Some(record) => record,
-        None => unreachable!(),
-    }
 }
 
 /// Writes how many ballots a store holds, and then the line of each, in ascending order of their numbers. Lines are
@@ -66,8 +51,8 @@ pub fn export<K: Sink>(alloc: Global, closed: &Closed, out: &mut K) -> Result<()
     let places = closed.in_order(alloc)?;
     let mut text = first_line(alloc, places.len())?;
     'records: for place in &places {
-        let record = ballot_in(closed, place.cell as usize);
-        put_ballot(&record, election, &mut text)?;
+        let cell = closed.cell(place.cell as usize);
+        put_ballot(cell, election, &mut text)?;
         if text.len() > FULL {
             out.write_all(&text)?;
             text.clear();

@@ -1,4 +1,4 @@
-use Rattle.std.proofs.Common.{◌++◌, ◌∷◌, [], cond, eqb, get_or, map, arith, rules}
+use Rattle.std.proofs.Common.{◌≡◌, ◌<◌, ◌++◌, ◌∷◌, [], cond, eqb, get_or, length, map, sym, take, ap, ◌∙◌, arith, rules, get_or-take, length-take}
 use Rattle.store_spec.specs.BallotLine.{choices_in, group_text}
 use Rattle.store_spec.specs.Election.{example}
 use Rattle.ballot_record.proofs.Fronts.{IsFrontOf-more, IsFrontOf-after}
@@ -9,7 +9,8 @@ use Rattle.ballot_record.proofs.print.put_groups.Goals as goal
 pub groups-init : goal.groups-init
 groups-init c = record {
   put =
-      λ e. no_group_put c.args.out.now.items (map group_text (map (choices_in e) c.args.sets.now));
+      λ b is. no_group_put c.args.out.now.items
+      (map group_text (map (choices_in c.args.election.now) (take (length c.args.election.now.contests) b.marks)));
   front = search rules;
 }
 
@@ -29,20 +30,31 @@ returns-in_err-put_group-clause-front c =
 
 pub groups-preserved : goal.groups-preserved
 groups-preserved c =
+    let e = c.args.election.now in
+    let n = length e.contests in
     let old = c.args.out.now.items in
     let l = c.groups in
     let apart = c.put_between.new.out.items in
     let now = c.put_group.new.out.items in
     record {
-      put = λ e. group_put e c.args.sets.now l.place l.out.items apart now
-          (old ++ groups_text (map (choices_in e) c.args.sets.now)) (omega arith)
-          (l.invariant.put e) c.in_ok-put_between.ensures.text (c.in_ok-put_group.ensures.text e);
-      front = IsFrontOf-more old apart now (group_text (choices_in example (get_or c.args.sets.now l.place 0)))
+      put = λ b is.
+          let sets = take n b.marks in
+          let within : l.place < n = omega arith in
+          let set : c.set_of.result ≡ get_or sets l.place 0 = c.set_of.ensures b is ∙ sym (get_or-take n b.marks l.place 0 within) in
+          group_put e sets l.place l.out.items apart now (old ++ groups_text (map (choices_in e) sets))
+          (omega (arith, length-take n b.marks, is.0.every_set, c.requires.valid.few_contests))
+          (l.invariant.put b is) c.in_ok-put_between.ensures.text
+          (c.in_ok-put_group.ensures.text e ∙ ap (λ set. apart ++ group_text (choices_in e set)) set);
+      front = IsFrontOf-more old apart now (group_text (choices_in example c.set_of.result))
           (IsFrontOf-more old l.out.items apart
           (cond (eqb l.place 0) [] (47 ∷ [])) l.invariant.front c.in_ok-put_between.ensures.text)
           (c.in_ok-put_group.ensures.text example);
     }
 
 pub returns-clause-text : goal.returns-clause-text
-returns-clause-text c e = groups_put e c.args.sets.now c.groups.place c.groups.out.items
-    (c.args.out.now.items ++ groups_text (map (choices_in e) c.args.sets.now)) (omega arith) (c.groups.invariant.put e)
+returns-clause-text c b is =
+    let e = c.args.election.now in
+    let n = length e.contests in
+    groups_put e (take n b.marks) c.groups.place c.groups.out.items
+    (c.args.out.now.items ++ groups_text (map (choices_in e) (take n b.marks)))
+    (omega (arith, length-take n b.marks)) (c.groups.invariant.put b is)

@@ -1,17 +1,16 @@
-use Rattle.std.proofs.Common.{◌≡◌, ℕ, ◌+◌, List, [], ◌∷◌, ◌++◌, drop, map, Option, ap, subst, sym, ◌∙◌, arith}
-use Rattle.ballot_record.specs.Record.{ballot}
+use Rattle.std.proofs.Common.{◌≡◌, ℕ, ◌+◌, ◌<◌, List, [], ◌∷◌, ◌++◌, Some, drop, get_or, length, map, Option, ap, subst, sym, ◌∙◌, arith}
 use Rattle.body_store.specs.Contents.{Contents, IsStored}
 use Rattle.body_store.specs.Places.{AreAt}
 use Rattle.body_store.specs.declared.lookup.Place.{Place}
 use Rattle.outside_io.specs.Stream.{TakesAll, TakesSome}
-use Rattle.store_spec.specs.Ballot.{Ballot, numbers_of}
+use Rattle.store_spec.specs.Ballot.{Ballot, ballot_of, numbers_of}
 use Rattle.store_spec.specs.BallotLine.{record_line}
 use Rattle.store_spec.specs.Election.{Election}
-use Rattle.store_spec.specs.Image.{cells_of}
+use Rattle.store_spec.specs.Image.{IsCellOf, cells_of}
 use Rattle.store_spec.specs.Input.{line_end}
 use Rattle.store_spec.specs.Report.{export_text}
-use Rattle.tally_export.proofs.Listed.{IsListed, as_many, cell_within, next_found, some_found}
-use Rattle.tally_export.proofs.Writing.{IsWritten, all_written, ballot_gathered, front_written, gathered_written, lines_left, no_line_left, on_failure, some_written, valid_at}
+use Rattle.tally_export.proofs.Listed.{IsListed, as_many, cell_at, cell_within, next_found}
+use Rattle.tally_export.proofs.Writing.{IsWritten, all_written, ballot_gathered, front_written, gathered_written, lines_left, no_line_left, on_failure, some_written}
 use Rattle.tally_export.proofs.lines.export.Goals as goal
 use Rattle.tally_export.proofs.lines.export.Goals.{then-len-gt-FULL+in_ok-write_all, else-len-gt-FULL}
 
@@ -27,32 +26,24 @@ line_put : (own e : Election) (text more : List ℕ) (b : Ballot) → own ≡ e 
     → more ≡ text ++ (record_line e b ++ line_end ∷ [])
 line_put own e text more b same put = put ∙ ap (λ e. text ++ (record_line e b ++ line_end ∷ [])) same
 
-pub ballot_in-record-requires-clause-within : goal.ballot_in-record-requires-clause-within
-ballot_in-record-requires-clause-within g c =
+-- it was that of the next ballot, whose cell it is
+line_of_next : (store : Contents) (places : List Place) (i : ℕ) (is : IsListed store places) (lt : i < length places) (own : Election) (cell text more : List ℕ)
+    → own ≡ store.election
+    → ((b : Ballot) → ballot_of store.ballots (get_or (cells_of store.election store.ballots) (cell_at places i) 0) ≡ Some b → IsCellOf store.election cell b)
+    → ((b : Ballot) → IsCellOf own cell b → more ≡ text ++ (record_line own b ++ line_end ∷ []))
+    → more ≡ text ++ (record_line store.election (next_found store places i is lt).0 ++ line_end ∷ [])
+line_of_next store places i is lt own cell text more same held put =
+    let there = next_found store places i is lt in
+    let b = there.0 in
+    line_put own store.election text more b same (put b (subst (λ (e : Election). IsCellOf e cell b) (sym same) (held b there.1)))
+
+pub cell-cell-requires : goal.cell-cell-requires
+cell-cell-requires g c =
     let store = c.args.closed.now in
     let places = c.deref-place-items.result.now in
     let known = c.in_ok-places.ensures in
     let is = listed store places c.in_ok-places.places.items c.deref-place-items.ensures.value known.stored known.numbers known.cells in
     cell_within store places c.records.place-index is (omega arith)
-
-pub ballot_in-record-requires-clause-some : goal.ballot_in-record-requires-clause-some
-ballot_in-record-requires-clause-some g c =
-    let store = c.args.closed.now in
-    let places = c.deref-place-items.result.now in
-    let known = c.in_ok-places.ensures in
-    let is = listed store places c.in_ok-places.places.items c.deref-place-items.ensures.value known.stored known.numbers known.cells in
-    some_found store places c.records.place-index is (omega arith)
-
-pub put_ballot-requires : goal.put_ballot-requires
-put_ballot-requires g c =
-    let store = c.args.closed.now in
-    let places = c.deref-place-items.result.now in
-    let known = c.in_ok-places.ensures in
-    let is = listed store places c.in_ok-places.places.items c.deref-place-items.ensures.value known.stored known.numbers known.cells in
-    let b = ballot c.ballot_in-record.result in
-    valid_at c.election-election.result.now store.election store.ballots c.records.place-index b
-    (sym c.election-election.ensures.election) known.stored.set.valid
-    (next_found store places c.records.place-index b is (omega arith) c.ballot_in-record.ensures)
 
 pub returns-in_err-put_ballot-clause-some : goal.returns-in_err-put_ballot-clause-some
 returns-in_err-put_ballot-clause-some g c =
@@ -72,15 +63,16 @@ returns-in_err-write_all-clause-some g c =
     let places = c.deref-place-items.result.now in
     let known = c.in_ok-places.ensures in
     let is = listed store places c.in_ok-places.places.items c.deref-place-items.ensures.value known.stored known.numbers known.cells in
-    let b = ballot c.ballot_in-record.result in
+    let lt : c.records.place-index < length places = omega arith in
+    let there = next_found store places c.records.place-index is lt in
+    let b = there.0 in
     let taken = g.K.Sink.taken in
     let whole = export_text e c.args.closed.now.ballots in
     let l = c.records in
     let text = c.put_ballot.new.text.items in
     let after = taken c.write_all.new.self in
-    let at = next_found store places l.place-index b is (omega arith) c.ballot_in-record.ensures in
     let gathered = ballot_gathered e ballots l.place-index b (taken c.args.out.now)
-    (taken l.out) l.text.items text whole at.0 at.1 l.invariant.written (line_put c.election-election.result.now e l.text.items text b c.election-election.ensures.election c.in_ok-put_ballot.ensures) in
+    (taken l.out) l.text.items text whole there.2 there.3 l.invariant.written (line_of_next store places l.place-index is lt c.election-election.result.now c.cell-cell.result.now l.text.items text c.election-election.ensures.election c.cell-cell.ensures.held c.in_ok-put_ballot.ensures) in
     on_failure c.from_residual-in_err-write_all.result (TakesSome (taken c.args.out.now) whole after)
     (some_written (taken c.args.out.now) (taken l.out) after text
     (lines_left e (drop (l.place-index + 1) ballots)) whole gathered
@@ -95,7 +87,9 @@ records-preserved g c =
     let places = c.deref-place-items.result.now in
     let known = c.in_ok-places.ensures in
     let is = listed store places c.in_ok-places.places.items c.deref-place-items.ensures.value known.stored known.numbers known.cells in
-    let b = ballot c.ballot_in-record.result in
+    let lt : c.records.place-index < length places = omega arith in
+    let there = next_found store places c.records.place-index is lt in
+    let b = there.0 in
     let taken = g.K.Sink.taken in
     let whole = export_text e c.args.closed.now.ballots in
     let l = c.records in
@@ -103,10 +97,9 @@ records-preserved g c =
     let before = taken c.args.out.now in
     let text = c.put_ballot.new.text.items in
     let left = lines_left e (drop (l.place-index + 1) ballots) in
-    let at = next_found store places l.place-index b is (omega arith) c.ballot_in-record.ensures in
     let gathered = ballot_gathered e ballots l.place-index b before
     (taken l.out) l.text.items text whole
-    at.0 at.1 l.invariant.written (line_put c.election-election.result.now e l.text.items text b c.election-election.ensures.election c.in_ok-put_ballot.ensures) in
+    there.2 there.3 l.invariant.written (line_of_next store places l.place-index is lt c.election-election.result.now c.cell-cell.result.now l.text.items text c.election-election.ensures.election c.cell-cell.ensures.held c.in_ok-put_ballot.ensures) in
     elim c.if-len-gt-FULL.branch [
       | then-len-gt-FULL+in_ok-write_all w ↦
           let after = taken w.write_all.new.self in
