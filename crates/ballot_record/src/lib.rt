@@ -20,5 +20,5 @@ pub use format::{
 };
 pub use line::{read_line, read_line_into, take_number};
 pub use list::BallotList;
-pub use print::put_line;
+pub use print::{put_cell_line, put_line};
 pub use record::{MAX_MARK_SETS, Record};

@@ -1,14 +1,15 @@
 ghost use Rattle.std.specs.Prelude.{◌≡◌, [], ◌∷◌, ◌++◌, if◌then◌else◌, length, map, take, decimal, OnErr, OnOk};
 ghost use Rattle.std.specs.List.{join_with_byte};
-ghost use Rattle.store_spec.specs.Ballot.{Ballot};
+ghost use Rattle.store_spec.specs.Ballot.{Ballot, IsValid};
 ghost use Rattle.store_spec.specs.BallotLine.{choices_in, comma, group_text, record_line, slash};
 ghost use Rattle.store_spec.specs.Election as definition;
 ghost use Rattle.store_spec.specs.Election.{IsElection, cell_size};
 ghost use Rattle.store_spec.specs.Image.{IsCellOf};
 ghost use Rattle.ballot_record.specs.Print.{IsFrontOf};
+ghost use Rattle.ballot_record.specs.Record as seen;
 
-use crate::Election;
 use crate::format::{number_of, set_of, style_of};
+use crate::{Election, MAX_CELL_BYTES, Record};
 use itoa::Buffer;
 use outside_io::Memory;
 
@@ -99,7 +100,7 @@ fn put_parts(cell: &[u8], election: &Election, out: &mut Vec<u8>) -> Result<(), 
 }
 
 /// Appends the line of the ballot in a cell, without a line end. It takes no memory where there is room.
-pub fn put_line(cell: &[u8], election: &Election, out: &mut Vec<u8>) -> Result<(), Memory>
+pub fn put_cell_line(cell: &[u8], election: &Election, out: &mut Vec<u8>) -> Result<(), Memory>
     requires valid { IsElection election.now }
     requires long { length cell.now ≡ cell_size election.now }
     ensures line { (b : Ballot) → IsCellOf election.now cell.now b
@@ -112,4 +113,18 @@ pub fn put_line(cell: &[u8], election: &Election, out: &mut Vec<u8>) -> Result<(
         out.truncate(before);
     }
     put
+}
+
+/// Appends the line of a ballot, without a line end. It takes no memory where there is room.
+#[tactic(auto, using(crate::proofs::CellFormat::largest_cell_width, std::proofs::lemmas::Grind::common_steps))]
+pub fn put_line(ballot: &Record, election: &Election, out: &mut Vec<u8>) -> Result<(), Memory>
+    requires { IsValid election.now (seen.ballot ballot.now) }
+    ensures line { OnOk result
+        (out.new.items ≡ out.old.items ++ record_line election.now (seen.ballot ballot.now)) }
+    ensures memory { OnErr result (out.new.items ≡ out.old.items) }
+{
+    let mut room = [0; MAX_CELL_BYTES];
+    let cell = &mut room[..election.cell_bytes()];
+    ballot.put_cell(election, cell);
+    put_cell_line(cell, election, out)
 }

@@ -9,7 +9,7 @@ ghost use Rattle.store_spec.specs.Input.{line_end};
 ghost use Rattle.store_spec.specs.Report.{count_line, export_text};
 
 use crate::PutFault;
-use ballot_record::{Election, put_line};
+use ballot_record::{Election, put_cell_line};
 use body_store::Closed;
 use outside_io::{Memory, Sink};
 use std::alloc::Global;
@@ -32,7 +32,7 @@ fn put_ballot(cell: &[u8], election: &Election, text: &mut Vec<u8>) -> Result<()
     ensures { (b : Ballot) → IsCellOf election.now cell.now b → OnOk result (text.new.items
         ≡ text.old.items ++ (record_line election.now b ++ line_end ∷ [])) }
 {
-    put_line(cell, election, text)?;
+    put_cell_line(cell, election, text)?;
     text.push(b'\n')?;
     Ok(())
 }
