@@ -1,0 +1,6 @@
+pub mod Ascending
+pub mod Joining
+pub mod Ranges
+pub mod Running
+pub mod Standing
+pub mod Unions
