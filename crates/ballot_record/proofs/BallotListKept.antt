@@ -4,7 +4,7 @@ use Rattle.std.proofs.lemmas.List.Elements.{All-nil}
 use Rattle.std.proofs.lemmas.Option.{get_or_from_slice_get, slice_get-get_or, slice_get-map}
 use Rattle.std.specs.List.{All, flat_map, slice_get}
 use Rattle.std.specs.Option.{option_map}
-use Rattle.ballot_record.proofs.BallotLists.{AreCellsOf, cell_at_place, cell_within, length-ballots_at, length-cells, one_more, spelled_again}
+use Rattle.ballot_record.proofs.BallotLists.{AreCellsOf, cell_at_place, cell_within, length-ballots_at, length-cells, number_at_place, one_more, spelled_again}
 use Rattle.ballot_record.proofs.CellFormat.{number_fits, number_of_bytes}
 use Rattle.ballot_record.specs.BallotList.{ListedBallots, ballots_at, empty_list, with_more}
 use Rattle.ballot_record.specs.BallotListKept.{IsBallotList, list_seen}
@@ -81,8 +81,7 @@ cell_there a list place cell cells kept seen within same is =
 pub number_there : (e : Election) (ballots : List Ballot) (place : ℕ) (cell : List ℕ) (b : Ballot) → slice_get ballots place ≡ Some b → IsCellOf e cell b
     → number_at cell ≡ get_or (numbers_of ballots) place 0
 number_there e ballots place cell b there is =
-    ap number_at is.1 ∙ number_of_bytes e b is.0.short_number
-    ∙ sym (get_or_from_slice_get (numbers_of ballots) place b.number 0 (slice_get-map (λ (b : Ballot). b.number) ballots place ∙ ap (option_map (λ (b : Ballot). b.number)) there))
+    ap number_at is.1 ∙ number_of_bytes e b is.0.short_number ∙ sym (number_at_place ballots place b there)
 
 -- a list that was just made
 pub made_empty : (a : Inside) (e : Election) → a.of.value ≡ e → IsElection e → a.size ≡ cell_size e → a.bytes.items ≡ [] → a.count ≡ 0 → a.places * a.size ≤ vec_capacity a.bytes

@@ -5,6 +5,7 @@ use Rattle.std.proofs.lemmas.List.Concat.{flat_map-cons}
 use Rattle.std.proofs.lemmas.List.Elements.{All-contains, All-head, All-push, All-tail}
 use Rattle.std.proofs.lemmas.Option.{get_or_from_slice_get, slice_get-get_or, slice_get-map, slice_get_within}
 use Rattle.std.specs.List.{All, flat_map, slice_get}
+use Rattle.std.specs.Option.{option_map}
 use Rattle.ballot_record.proofs.CellFormat.{length-ballot_bytes, number_of_bytes, spells_itself}
 use Rattle.ballot_record.specs.BallotList.{ballots_at}
 use Rattle.ballot_record.specs.Format.{ballot_at}
@@ -70,6 +71,15 @@ cell_at_place e (x ∷ xs) (suc place) b election valid there =
     ∙ ap (λ bytes. take size (drop (place * size) bytes))
     (drop_at (f x) (flat_map f xs) size (length-ballot_bytes e x election (All-head (IsValid e) x xs valid)))
     ∙ cell_at_place e xs place b election (All-tail (IsValid e) x xs valid) there
+
+pub number_at_place : (ballots : List Ballot) (place : ℕ) (b : Ballot) → slice_get ballots place ≡ Some b → get_or (numbers_of ballots) place 0 ≡ b.number
+number_at_place ballots place b there =
+    get_or_from_slice_get (numbers_of ballots) place b.number 0 (slice_get-map (λ (b : Ballot). b.number) ballots place ∙ ap (option_map (λ (b : Ballot). b.number)) there)
+
+-- what holds of each holds of the one at a place
+pub holds_at_place : (P : Ballot → Type 0) (ballots : List Ballot) (place : ℕ) (b : Ballot) → All P ballots → slice_get ballots place ≡ Some b → P b
+holds_at_place P ballots place b all there =
+    subst P (get_or_from_slice_get ballots place b b there) (all place b (slice_get_within ballots place b there))
 
 -- a cell ends within the bytes
 pub cell_within : (place count size : ℕ) → place < count → place * size + size ≤ count * size

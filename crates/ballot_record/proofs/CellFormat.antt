@@ -32,6 +32,11 @@ pub number_fits : (e : Election) → number_size ≤ cell_size e
 unfolding cell_size
 number_fits e = omega arith
 
+-- no cell is longer than the longest
+pub cell_fits : (e : Election) → IsElection e → cell_size e ≤ largest_cell
+unfolding cell_size largest_cell
+cell_fits e election = omega (arith, election.few_contests)
+
 pub length-header_of : (e : Election) → length (header_of e) ≡ header_size
 unfolding header_of header_size
 length-header_of e = refl

@@ -131,6 +131,17 @@ impl BallotList {
         number_of(self.cell(place))
     }
 
+    /// The numbers of all ballots.
+    pub fn numbers(&self, alloc: Global) -> Result<Vec<u64>, Memory>
+        ensures { IfOk result (λ numbers. numbers.items ≡ numbers_of self.now.ballots) }
+    {
+        let mut numbers = Vec::with_capacity(alloc, self.len())?;
+        'places: for place in 0..self.len() {
+            numbers.push(self.number(place))?;
+        }
+        Ok(numbers)
+    }
+
     /// The ballot at a place.
     pub fn record(&self, place: usize, election: &Election) -> Record
         requires within { place < length self.now.ballots }

@@ -1,7 +1,7 @@
 -- What is known of what a store keeps.
 use Rattle.std.proofs.Common.{◌≡◌, ◌≢◌, ℕ, ◌+◌, ◌-◌, ◌*◌, ◌^◌, ◌<◌, ◌≤◌, ⊎_elim, List, Some, drop, length, get_or, take, sym, ap, subst, ◌∙◌, arith, mul-le-mul_right}
 use Rattle.std.proofs.lemmas.Bool.{cases_lt}
-use Rattle.std.proofs.lemmas.List.{take_at}
+use Rattle.std.proofs.lemmas.List.{length-drop, length-take-le, take_at}
 use Rattle.std.proofs.lemmas.List.Elements.{All-contains}
 use Rattle.std.proofs.lemmas.List.Sorted.{length_permutation}
 use Rattle.std.proofs.lemmas.Nat.{pow_below}
@@ -10,6 +10,7 @@ use Rattle.std.specs.List.Sorted.{IsPermutation}
 use Rattle.ballot_record.proofs.BallotNumbers.{length-numbers_of, pairs_of_numbers}
 use Rattle.ballot_record.proofs.BallotSets.{Ascend}
 use Rattle.ballot_record.proofs.CellFormat.{length-header_of, spells_itself}
+use Rattle.ballot_record.proofs.Lookups.{found_in}
 use Rattle.ballot_record.specs.Format.{ballot_at}
 use Rattle.ballot_record.proofs.CellFormat.{header_width}
 use Rattle.ballot_record.specs.declared.format.TheConstants.{HEADER_BYTES}
@@ -28,7 +29,7 @@ use Rattle.store_spec.specs.Ballot.{Ballot, IsValid, ballot_of, numbers_of}
 use Rattle.store_spec.specs.Damage.{cell_at}
 use Rattle.store_spec.specs.Election.{Election, IsElection, bank_size, cell_count, cell_size, header_size, most_bits, most_cells}
 use Rattle.store_spec.specs.Home.{home_in}
-use Rattle.store_spec.specs.Image.{cell_bytes, cells_of, header_of}
+use Rattle.store_spec.specs.Image.{IsCellOf, cell_bytes, cells_of, header_of}
 use Rattle.store_spec.specs.Layout.{IsLayout, ascending, numbers_in}
 
 pub kept_set : (a : Inside) → IsKept a → MayHold a.election.value (contents_of a).ballots
@@ -70,6 +71,21 @@ cell_spelled e ballots bytes numbers cell shown within some =
     (cell_of_image e ballots cell shown.election held within ∙ ap (cell_bytes e ballots) same ∙ cell_of_found e ballots number found.0 found.1)
     ∙ ap (λ b. Some b) (spells_itself e found.0 shown.election own)
     ∙ sym found.1
+
+-- the bytes of a cell are as many as those of any
+pub cell_length : (e : Election) (ballots : List Ballot) (bytes numbers : List ℕ) (cell : ℕ) → Shows e ballots bytes numbers → cell < cell_count e → length (cell_at e cell bytes) ≡ cell_size e
+cell_length e ballots bytes numbers cell shown within =
+    length-take-le (cell_size e) (drop (header_size + cell * cell_size e) bytes)
+    (omega (arith, length-drop (header_size + cell * cell_size e) bytes, cell_within e cell within, shown_size e ballots bytes numbers shown))
+
+-- they are the cell of the ballot whose number stands there
+pub cell_held : (e : Election) (ballots : List Ballot) (bytes numbers : List ℕ) (cell : ℕ) (b : Ballot) → Shows e ballots bytes numbers → cell < cell_count e
+    → ballot_of ballots (get_or (cells_of e ballots) cell 0) ≡ Some b → IsCellOf e (cell_at e cell bytes) b
+cell_held e ballots bytes numbers cell b shown within there =
+    let held = shown_held e ballots bytes numbers shown in
+    let number = get_or (cells_of e ballots) cell 0 in
+    (All-contains (IsValid e) ballots b shown.listing.valid (found_in ballots number b there).0,
+    ap (cell_at e cell) shown.image ∙ cell_of_image e ballots cell shown.election held within ∙ cell_of_found e ballots number b there)
 
 -- the same of a part of the image, where a cell has so many bytes
 pub part_spelled : (e : Election) (ballots : List Ballot) (bytes numbers : List ℕ) (cell size : ℕ) → size ≡ cell_size e → Shows e ballots bytes numbers → cell < cell_count e → get_or numbers cell 0 ≢ 0

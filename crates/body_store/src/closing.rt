@@ -1,13 +1,12 @@
 //! A close: the image of the ballots of before becomes that of the ballots of after.
 
 ghost use Rattle.body_store.specs.Closing.{Change, IsClose};
-ghost use Rattle.body_store.specs.Contents.{ballots_of};
 ghost use Rattle.body_store.specs.Held.{Shows};
 ghost use Rattle.std.specs.Prelude.{◌≡◌, OnErr, OnOk};
 ghost use Rattle.store_spec.specs.Image.{cells_of};
 
 use crate::relay::relay;
-use ballot_record::{Election, Record};
+use ballot_record::{BallotList, Election};
 use outside_io::Memory;
 use std::alloc::Global;
 
@@ -16,13 +15,14 @@ use std::alloc::Global;
 pub fn close(
     alloc: Global,
     election: &Election,
-    ballots: &[Record],
+    ballots: &BallotList,
     old_cells: &[u64],
     cells: &[u64],
     image: &mut Vec<u8>,
 ) -> Result<(), Memory>
     ghost change: { Change }
-    requires close { IsClose election.now (ballots_of ballots.now) change }
+    requires close { IsClose election.now ballots.now.ballots change }
+    requires election { ballots.now.election ≡ election.now }
     requires shown { Shows election.now change.old image.old.items old_cells.now }
     requires layout { cells.now ≡ cells_of election.now change.rest }
     ensures shown { OnOk result (Shows election.now change.rest image.new.items cells.now) }

@@ -16,15 +16,15 @@ ghost use Rattle.body_store.specs.ByNumber.{by_number};
 ghost use Rattle.body_store.specs.Contents.{Contents, IsStored, ballots_of, ballots_without};
 ghost use Rattle.body_store.specs.Held.{Shows, held_in};
 ghost use Rattle.body_store.specs.Places.{AreAt};
-ghost use Rattle.std.specs.Prelude.{◌≡◌, ◌++◌, ◌+◌, ◌-◌, ◌<◌, ◌≤◌, ℕ, List, [], All, IfOk, IsPermutation, OnErr, OnOk, drop, length, map, option_map, slice_index, take};
+ghost use Rattle.std.specs.Prelude.{◌≡◌, ◌++◌, ◌+◌, ◌-◌, ◌<◌, ◌≤◌, ℕ, List, [], All, IfOk, IsPermutation, OnErr, OnOk, Some, drop, length, map, option_map, slice_index, take};
 ghost use Rattle.ballot_record.specs.Record.{ballot};
 ghost use Rattle.store_spec.specs.Ballot.{Ballot, IsListing, IsWithinLimit, ballot_of, numbers_of};
-ghost use Rattle.store_spec.specs.Election.{IsElection, bank_size, cell_count};
+ghost use Rattle.store_spec.specs.Election.{IsElection, bank_size, cell_count, cell_size};
 ghost use Rattle.store_spec.specs.Home.{home_in};
-ghost use Rattle.store_spec.specs.Image.{cells_of, image_of};
+ghost use Rattle.store_spec.specs.Image.{IsCellOf, cells_of, image_of};
 ghost use Rattle.store_spec.specs.Layout.{IsLayout};
 
-use ballot_record::{Election, Record};
+use ballot_record::{BallotList, Election, Record};
 pub use lookup::Place;
 use outside_io::Memory;
 use std::alloc::Global;
@@ -68,16 +68,16 @@ impl Closed {
     pub fn from_records(
         alloc: Global,
         election: &Election,
-        ballots: Vec<Record>,
+        ballots: &BallotList,
     ) -> Result<Closed, Memory>
-        requires listing { IsListing election.now (ballots_of ballots.items) }
-        requires within_limit { IsWithinLimit election.now (ballots_of ballots.items) }
+        requires election { ballots.now.election ≡ election.now }
+        requires listing { IsListing election.now ballots.now.ballots }
+        requires within_limit { IsWithinLimit election.now ballots.now.ballots }
         ensures election { IfOk result (λ store. store.election ≡ election.now) }
-        ensures same { IfOk result
-            (λ store. IsPermutation (ballots_of ballots.items) store.ballots) }
+        ensures same { IfOk result (λ store. IsPermutation ballots.now.ballots store.ballots) }
         ensures stored { IfOk result IsStored }
     {
-        let cells = lookup::layout(alloc, election, &ballots)?;
+        let cells = lookup::layout(alloc, election, ballots)?;
         let mut store = Closed::empty(alloc, election)?;
         store.merge(alloc, ballots, cells)?;
         Ok(store)
@@ -170,6 +170,18 @@ impl Closed {
         lookup::in_cell(&self.election, &self.image, &self.cells, cell)
     }
 
+    /// The bytes of a cell: those of the ballot whose number stands there.
+    pub fn cell(&self, cell: usize) -> &[u8]
+        requires { cell < cell_count self.now.election }
+        ensures held { (b : Ballot) → ballot_of self.now.ballots
+            (slice_index (cells_of self.now.election self.now.ballots) cell) ≡ Some b
+            → IsCellOf self.now.election result.now b }
+        ensures long { length result.now ≡ cell_size self.now.election }
+        ensures stored { IsStored self.now }
+    {
+        lookup::bytes_in(&self.image, self.election.cell_bytes(), cell)
+    }
+
     /// Puts the ballots of cells from one on in place of these records, up to `end` or as far as there is room. It
     /// answers how many it put, and the first cell that it did not look at.
     pub fn put_records(&self, from: usize, end: usize, out: &mut [Record]) -> (usize, usize)
@@ -188,25 +200,25 @@ impl Closed {
     pub fn merge(
         &mut self,
         alloc: Global,
-        ballots: Vec<Record>,
+        ballots: &BallotList,
         cells: Vec<u64>,
     ) -> Result<(), Memory>
-        requires listing { IsListing self.old.election
-            (self.old.ballots ++ ballots_of ballots.items) }
+        requires election { ballots.now.election ≡ self.old.election }
+        requires listing { IsListing self.old.election (self.old.ballots ++ ballots.now.ballots) }
         requires within_limit { IsWithinLimit self.old.election
-            (self.old.ballots ++ ballots_of ballots.items) }
+            (self.old.ballots ++ ballots.now.ballots) }
         requires layout { cells.items
-            ≡ cells_of self.old.election (self.old.ballots ++ ballots_of ballots.items) }
+            ≡ cells_of self.old.election (self.old.ballots ++ ballots.now.ballots) }
         ensures election { self.new.election ≡ self.old.election }
         ensures union { OnOk result
-            (IsPermutation (self.old.ballots ++ ballots_of ballots.items) self.new.ballots) }
+            (IsPermutation (self.old.ballots ++ ballots.now.ballots) self.new.ballots) }
         ensures unchanged { OnErr result (self.new ≡ self.old) }
         ensures stored { IsStored self.new }
     {
         closing::close(
             alloc,
             &self.election,
-            &ballots,
+            ballots,
             &self.cells,
             &cells,
             &mut self.image,
@@ -232,10 +244,11 @@ impl Closed {
         ensures stored { IsStored self.new }
         ensures unchanged { OnErr result (self.new ≡ self.old) }
     {
+        let none = BallotList::new(alloc, &self.election);
         closing::close(
             alloc,
             &self.election,
-            &[],
+            &none,
             &self.cells,
             &cells,
             &mut self.image,

@@ -4,14 +4,15 @@
 ghost use Rattle.ballot_record.specs.Record.{ballot};
 ghost use Rattle.body_store.specs.Contents.{ballots_of};
 ghost use Rattle.body_store.specs.Held.{Shows, held_in};
+ghost use Rattle.body_store.specs.Moves.{cell_in};
 ghost use Rattle.body_store.specs.Places.{AreAt};
-ghost use Rattle.std.specs.Prelude.{◌≡◌, ◌≢◌, ℕ, ◌+◌, ◌-◌, ◌<◌, ◌≤◌, List, All, IfOk, drop, length, map, option_map, slice_index, take};
+ghost use Rattle.std.specs.Prelude.{◌≡◌, ◌≢◌, ℕ, ◌+◌, ◌-◌, ◌*◌, ◌<◌, ◌≤◌, List, All, IfOk, drop, length, map, option_map, slice_index, take};
 ghost use Rattle.store_spec.specs.Ballot.{Ballot, IsListing, IsWithinLimit, ballot_of, numbers_of};
-ghost use Rattle.store_spec.specs.Election.{IsElection, cell_count, most_cells};
+ghost use Rattle.store_spec.specs.Election.{IsElection, cell_count, header_size, most_cells};
 ghost use Rattle.store_spec.specs.Image.{cells_of};
 ghost use Rattle.store_spec.specs.Layout.{ascending, numbers_in};
 
-use ballot_record::{Election, HEADER_BYTES, Record};
+use ballot_record::{BallotList, Election, HEADER_BYTES, Record};
 use layout_def::{build, place_of};
 use outside_io::Memory;
 use std::alloc::Global;
@@ -29,22 +30,20 @@ pub struct Place {
 }
 
 /// The cells of a store that holds these ballots.
-pub fn layout(alloc: Global, election: &Election, records: &[Record]) -> Result<Vec<u64>, Memory>
-    requires listing { IsListing election.now (ballots_of records.now) }
-    requires within_limit { IsWithinLimit election.now (ballots_of records.now) }
+pub fn layout(
+    alloc: Global,
+    election: &Election,
+    ballots: &BallotList,
+) -> Result<Vec<u64>, Memory>
+    requires listing { IsListing election.now ballots.now.ballots }
+    requires within_limit { IsWithinLimit election.now ballots.now.ballots }
     ensures cells { IfOk result
-        (λ cells. cells.items ≡ cells_of election.now (ballots_of records.now)) }
+        (λ cells. cells.items ≡ cells_of election.now ballots.now.ballots) }
     ensures election { IsElection election.now }
 {
     let order = election.order();
-    let numbers = numbers(alloc, records)?;
+    let numbers = ballots.numbers(alloc)?;
     Ok(build(alloc, &order, election.cells(), &numbers)?)
-}
-
-fn numbers(alloc: Global, records: &[Record]) -> Result<Vec<u64>, Memory>
-    ensures { IfOk result (λ numbers. numbers.items ≡ numbers_of (ballots_of records.now)) }
-{
-    Ok(records.iter().map(|record| record.number).collect(alloc)?)
 }
 
 /// How many of these cells have a number.
@@ -70,9 +69,18 @@ pub fn in_cell(election: &Election, image: &[u8], cells: &[u64], cell: usize) ->
     if cells[cell] == 0 {
         return None;
     }
-    let size = election.cell_bytes();
+    let bytes = bytes_in(image, election.cell_bytes(), cell);
+    Some(Record::of_cell(bytes, election))
+}
+
+/// The bytes of a cell of an image.
+#[tactic(auto, using(ballot_record::proofs::CellFormat::header_width))]
+pub fn bytes_in(image: &[u8], size: usize, cell: usize) -> &[u8]
+    requires { header_size + cell * size + size ≤ length image.now }
+    ensures { result.now ≡ cell_in size cell image.now }
+{
     let at = HEADER_BYTES + cell * size;
-    Some(Record::of_cell(&image[at..at + size], election))
+    &image[at..at + size]
 }
 
 /// The record with this number, which is looked for in the cells.

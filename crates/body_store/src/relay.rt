@@ -1,10 +1,9 @@
 //! The bytes of an image, changed in place where a ballot belongs in another cell.
 
 ghost use Rattle.ballot_record.specs.Format.{largest_cell};
-ghost use Rattle.body_store.specs.Contents.{ballots_of};
 ghost use Rattle.body_store.specs.Moves.{AreCells, IsLeftUpTo, IsRelay, IsRight, IsSought, Moves, StayNoted, cell_in};
 ghost use Rattle.std.specs.Prelude.{◌≡◌, ◌≢◌, ℕ, ◌+◌, ◌*◌, ◌<◌, ◌≤◌, List, All, IfOk, OnErr, OnOk, length, slice_index, take};
-ghost use Rattle.store_spec.specs.Ballot.{IsValid, numbers_of};
+ghost use Rattle.store_spec.specs.Ballot.{numbers_of};
 ghost use Rattle.store_spec.specs.Election.{header_size, most_ballots, most_cells};
 ghost use Rattle.store_spec.specs.Home.{home_of};
 ghost use Rattle.store_spec.specs.Image.{ballot_bytes};
@@ -12,7 +11,7 @@ ghost use Rattle.store_spec.specs.Layout.{IsOrdered};
 
 use crate::changed::next_changed;
 use crate::moves::Plan;
-use ballot_record::{Election, HEADER_BYTES, MAX_CELL_BYTES, Record};
+use ballot_record::{BallotList, Election, HEADER_BYTES};
 use outside_io::Memory;
 use probe_order::Salted;
 use std::alloc::Global;
@@ -24,13 +23,14 @@ pub fn relay(
     alloc: Global,
     order: &Salted,
     election: &Election,
-    ballots: &[Record],
+    ballots: &BallotList,
     old_cells: &[u64],
     cells: &[u64],
     image: &mut [u8],
 ) -> Result<(), Memory>
     ghost f: { ℕ → List ℕ }
-    requires { IsRelay election.now f (home_of order.now.bits order.now.salt) (ballots_of ballots.now)
+    requires election { ballots.now.election ≡ election.now }
+    requires cells { IsRelay election.now f (home_of order.now.bits order.now.salt) ballots.now.ballots
         old_cells.now cells.now image.old }
     ensures after { OnOk result (AreCells election.now f cells.now image.new) }
     ensures header { take header_size image.new ≡ take header_size image.old }
@@ -46,13 +46,14 @@ fn make_plan(
     alloc: Global,
     order: &Salted,
     election: &Election,
-    ballots: &[Record],
+    ballots: &BallotList,
     old_cells: &[u64],
     cells: &[u64],
     image: &[u8],
 ) -> Result<Plan, Memory>
     ghost f: { ℕ → List ℕ }
-    requires { IsRelay election.now f (home_of order.now.bits order.now.salt) (ballots_of ballots.now)
+    requires election { ballots.now.election ≡ election.now }
+    requires cells { IsRelay election.now f (home_of order.now.bits order.now.salt) ballots.now.ballots
         old_cells.now cells.now image.now }
     ensures right { IfOk result (IsRight f cells.now) }
     ensures noted { IfOk result (λ plan. (cell : ℕ) → cell < length cells.now
@@ -61,41 +62,35 @@ fn make_plan(
 {
     let size = election.cell_bytes();
     let mut plan = Plan::new(alloc, size, ballots.len())?;
-    take_in(&mut plan, order, election, ballots, cells)?;
+    take_in(&mut plan, order, ballots, cells)?;
     take_out(&mut plan, order, size, old_cells, cells, image)?;
     plan.find_far(old_cells, cells)?;
     Ok(plan)
 }
 
 /// Lets the bytes of new ballots wait.
-#[tactic(auto, using(ballot_record::proofs::CellFormat::largest_cell_width, std::proofs::lemmas::Grind::common_steps))]
 fn take_in(
     plan: &mut Plan,
     order: &Salted,
-    election: &Election,
-    ballots: &[Record],
+    ballots: &BallotList,
     cells: &[u64],
 ) -> Result<(), Memory>
     ghost f: { ℕ → List ℕ }
     requires ordered { IsOrdered (home_of order.now.bits order.now.salt) cells.now }
     requires few_cells { length cells.now ≤ most_cells }
-    requires few_ballots { length ballots.now ≤ most_ballots }
-    requires new_ballots { All (λ b. IsValid election.now b × (ballot_bytes election.now b ≡ f b.number))
-        (ballots_of ballots.now) }
+    requires few_ballots { length ballots.now.ballots ≤ most_ballots }
+    requires new_ballots { All (λ b. ballot_bytes ballots.now.election b ≡ f b.number)
+        ballots.now.ballots }
     requires right { IsRight f cells.now plan.old }
     requires short { length plan.old.bytes.items ≤ largest_cell }
     ensures right { OnOk result (IsRight f cells.now plan.new) }
-    ensures sought { OnOk result ((k : ℕ) → k < length ballots.now
-        → IsSought cells.now plan.new (slice_index (numbers_of (ballots_of ballots.now)) k)) }
+    ensures sought { OnOk result ((k : ℕ) → k < length ballots.now.ballots
+        → IsSought cells.now plan.new (slice_index (numbers_of ballots.now.ballots) k)) }
     ensures short { OnOk result
         (length plan.new.bytes.items ≤ (most_ballots + 1) * largest_cell) }
 {
-    let size = election.cell_bytes();
-    let mut room = [0; MAX_CELL_BYTES];
-    let bytes = &mut room[..size];
-    for ballot in ballots {
-        ballot.put_cell(election, bytes);
-        plan.add(order, cells, ballot.number, bytes)?;
+    'ballots: for place in 0..ballots.len() {
+        plan.add(order, cells, ballots.number(place), ballots.cell(place))?;
     }
     Ok(())
 }

@@ -4,7 +4,6 @@ use Rattle.std.proofs.lemmas.Result.{on_err_weaker, on_ok_weaker}
 use Rattle.body_store.proofs.Keeping.{few_cells, shown_layout, shown_size}
 use Rattle.body_store.proofs.Relaying.{cells_before, each_wide, empty_blank, laid_ordered, laid_size, new_in_cells, number_from, relaid, rest_held}
 use Rattle.body_store.proofs.closing.close.Goals as goal
-use Rattle.body_store.specs.Contents.{ballots_of}
 use Rattle.body_store.specs.Held.{Shows}
 use Rattle.body_store.specs.Moves.{AreCells}
 use Rattle.store_spec.specs.Image.{cell_bytes}
@@ -15,17 +14,17 @@ use Rattle.store_spec.specs.Layout.{IsOrdered}
 pub relay-requires : goal.relay-requires
 relay-requires g c =
     let e = c.args.election.now in
-    let more = ballots_of c.args.ballots.now in
+    let more = c.args.ballots.now.ballots in
     let bytes = c.deref_mut.result.now in
     let numbers = c.args.old_cells.now in
     let cells = c.args.cells.now in
     let close = c.requires.0 in
-    let shown = subst (λ (bytes : List ℕ). Shows e g.change.old bytes numbers) (sym c.deref_mut.ensures.value) c.requires.1.0 in
-    let laid = c.requires.1.1 in
+    let shown = subst (λ (bytes : List ℕ). Shows e g.change.old bytes numbers) (sym c.deref_mut.ensures.value) c.requires.1.1.0 in
+    let laid = c.requires.1.1.1 in
     let held = rest_held e more g.change close in
     let size = laid_size e g.change.rest cells close.election held laid in
     let was = (shown_layout e g.change.old bytes numbers shown).size in
-    record {
+    (c.requires.1.0, record {
       wide = each_wide e more g.change close;
       blank = empty_blank e more g.change close;
       new_ballots = new_in_cells e more g.change close;
@@ -39,7 +38,7 @@ relay-requires g c =
           (subst (λ (s : ℕ). IsOrdered (home_of e.bits s) cells) (sym c.order-order.ensures.salt) (laid_ordered e g.change.rest cells close.election held laid));
       few_cells = omega (arith, size, few_cells e close.election);
       few_ballots = close.few;
-    }
+    })
 
 pub returns-clause-shown : goal.returns-clause-shown
 returns-clause-shown g c =
@@ -49,14 +48,14 @@ returns-clause-shown g c =
     let bytes = c.deref_mut.result.now in
     let now = c.relay.new.image in
     let close = c.requires.0 in
-    let laid = c.requires.1.1 in
-    let shown = subst (λ (bytes : List ℕ). Shows e g.change.old bytes numbers) (sym c.deref_mut.ensures.value) c.requires.1.0 in
-    let size = laid_size e g.change.rest cells close.election (rest_held e (ballots_of c.args.ballots.now) g.change close) laid in
+    let laid = c.requires.1.1.1 in
+    let shown = subst (λ (bytes : List ℕ). Shows e g.change.old bytes numbers) (sym c.deref_mut.ensures.value) c.requires.1.1.0 in
+    let size = laid_size e g.change.rest cells close.election (rest_held e c.args.ballots.now.ballots g.change close) laid in
     on_ok_weaker c.relay.result
     (λ (is : AreCells e (cell_bytes e g.change.all) cells now).
     let long : length now ≡ length bytes = is.long ∙ ap (λ n. header_size + n * cell_size e) size ∙ sym (shown_size e g.change.old bytes numbers shown) in
     subst (λ (bytes : List ℕ). Shows e g.change.rest bytes cells) (sym (with_items_is c.args.image.now now (omega (arith, long, c.deref_mut.ensures.len))))
-    (relaid e (ballots_of c.args.ballots.now) g.change bytes numbers now cells close shown laid is.each c.relay.ensures.header long))
+    (relaid e c.args.ballots.now.ballots g.change bytes numbers now cells close shown laid is.each c.relay.ensures.header long))
     c.relay.ensures.after
 
 pub returns-clause-unchanged : goal.returns-clause-unchanged
