@@ -1,25 +1,22 @@
 -- The ballots of a set are joined one after another with those that are kept, both in ascending order.
-use Rattle.std.proofs.Common.{◌≡◌, ◌≢◌, ◌⊎◌, ℕ, zero, suc, ◌+◌, ◌-◌, ◌<◌, ◌≤◌, inl, inr, ⊎_elim, List, [], ◌∷◌, ◌++◌, length, get_or, take, drop, Option, Some, None, refl, sym, ap, subst, ◌∙◌, append_assoc, length-append, arith}
+use Rattle.std.proofs.Common.{◌≡◌, ◌≢◌, ◌⊎◌, ℕ, zero, suc, ◌+◌, ◌-◌, ◌<◌, ◌≤◌, inl, inr, ⊎_elim, List, [], ◌∷◌, ◌++◌, length, get_or, map, take, drop, Option, Some, None, refl, sym, ap, subst, ◌∙◌, append_assoc, length-append, arith}
 use Rattle.std.proofs.lemmas.Bool.{cases_lt}
-use Rattle.std.proofs.lemmas.List.{get_or-drop, get_or_default, length-drop, take_all, take_more}
-use Rattle.std.proofs.lemmas.List.Elements.{All-append, All-weaker, Contains-get_or}
+use Rattle.std.proofs.lemmas.List.{append-nil, get_or-drop, get_or-map, get_or_default, length-drop, length-map, take_all, take_more}
+use Rattle.std.proofs.lemmas.List.Elements.{All-append, All-push, All-weaker, Contains-append_right, Contains-get_or}
+use Rattle.std.proofs.lemmas.Option.{get_or_from_slice_get, slice_get_within}
 use Rattle.std.specs.List.{All, Contains}
-use Rattle.std.specs.Prelude.{slice_range}
-use Rattle.ballot_record.proofs.BallotNumbers.{no_ballot, number_at}
+use Rattle.std.specs.Prelude.{slice_get, slice_range}
+use Rattle.ballot_record.proofs.BallotNumbers.{length-numbers_of, no_ballot, number_at}
 use Rattle.ballot_record.proofs.BallotSets.{Ascend}
 use Rattle.ballot_record.proofs.Lookups.{AreDistinct, found_once}
-use Rattle.ballot_record.specs.Record.{ballot}
-use Rattle.ballot_record.specs.declared.record.Record.{Record}
+use Rattle.body_store.specs.declared.lookup.Place.{Place}
 use Rattle.merge_media.proofs.Ascending.{AreAbove, AreBelow, ascend_right}
 use Rattle.merge_media.proofs.Joining.{joined_begins, joined_disputed, joined_kept, joined_new}
-use Rattle.merge_media.proofs.Ranges.{range_end, range_rest}
+use Rattle.merge_media.proofs.Ranges.{range_end, range_more, range_none, range_rest}
 use Rattle.merge_media.specs.Union.{IsJoinedOf, least_with}
 use Rattle.store_spec.specs.Ballot.{Ballot, ballot_of, numbers_of}
 
 -- ---- one ballot
-
-pub same_record : (a b : Record) → ballot a ≡ ballot b → a ≡ b
-same_record a b same = let back : Ballot → Record = λ x. record { number = x.number; style = x.style; marks = x.marks } in ap back same
 
 module _ (kept : List Ballot) (next n : ℕ) (within : next ≤ length kept) (not_below : next < length kept → n ≤ get_or (numbers_of kept) next 0) where
   -- the numbers from there on are above it, where the next one is another
@@ -126,3 +123,42 @@ found_is set i n s up lt is found =
     let both : Some (get_or set i no_ballot) ≡ Some s = sym (found_at set i n up lt is) ∙ found in
     let same : get_or set i no_ballot ≡ s = cc in
     (get_or_default set i s no_ballot lt ∙ same, ap (λ (b : Ballot). b.number) (sym same) ∙ sym (number_at set i 0 lt) ∙ is)
+
+-- ---- a part of a list is put behind another
+
+pub put_none : (kept out : List Ballot) (from : ℕ) → out ≡ out ++ slice_range kept from from
+put_none kept out from = sym (ap (λ xs. out ++ xs) (range_none kept from) ∙ append-nil out)
+
+pub put_more : (kept start out after : List Ballot) (from at : ℕ) (b : Ballot) → from ≤ at → slice_get kept at ≡ Some b → out ≡ start ++ slice_range kept from at
+    → after ≡ out ++ b ∷ [] → after ≡ start ++ slice_range kept from (at + 1)
+put_more kept start out after from at b le there before pushed =
+    pushed ∙ ap (λ xs. xs ++ b ∷ []) before ∙ append_assoc start (slice_range kept from at) (b ∷ [])
+    ∙ ap (λ c. start ++ (slice_range kept from at ++ c ∷ [])) (sym (get_or_from_slice_get kept at b b there))
+    ∙ ap (λ xs. start ++ xs) (sym (range_more kept from at b le (slice_get_within kept at b there)))
+
+-- ---- the ballot that stands next
+
+pub next_kept : (out kept : List Ballot) (next : ℕ) (b : Ballot) → slice_get kept next ≡ Some b → Contains (out ++ drop next kept) b
+next_kept out kept next b there =
+    let lt = slice_get_within kept next b there in
+    let at : get_or (drop next kept) 0 b ≡ b = get_or-drop next kept 0 b ∙ ap (λ k. get_or kept k b) (let e : next + 0 ≡ next = omega arith in e) ∙ get_or_from_slice_get kept next b b there in
+    Contains-append_right out (drop next kept) b (0, omega (arith, length-drop next kept), at)
+
+pub below_after : (out after : List Ballot) (s : Ballot) → AreBelow s.number out → after ≡ out ++ s ∷ [] → All (λ b. b.number ≤ s.number) after
+below_after out after s below pushed =
+    subst (All (λ (b : Ballot). b.number ≤ s.number)) (sym pushed)
+    (All-push (λ (b : Ballot). b.number ≤ s.number) out s
+    (All-weaker (λ (b : Ballot). b.number < s.number) (λ (b : Ballot). b.number ≤ s.number) (λ b lt. omega arith) out below) (omega arith))
+
+-- ---- the places of a set, one after another
+
+pub numbered : (set : List Ballot) (listed held : List Place) (i : ℕ) (d : Place) → listed ≡ held → map (λ place. place.number) held ≡ numbers_of set → i < length listed
+    → (i < length set) × (get_or (numbers_of set) i 0 ≡ (get_or listed i d).number)
+numbered set listed held i d same numbers lt =
+    let all : map (λ place. place.number) listed ≡ numbers_of set = ap (map (λ (place : Place). place.number)) same ∙ numbers in
+    let size : length listed ≡ length set = sym (length-map listed (λ place. place.number)) ∙ ap length all ∙ length-numbers_of set in
+    (omega arith, ap (λ ns. get_or ns i 0) (sym all) ∙ get_or-map (λ (place : Place). place.number) listed i d 0 lt)
+
+pub listed_all : (set : List Ballot) (listed held : List Place) → listed ≡ held → map (λ place. place.number) held ≡ numbers_of set → length listed ≡ length set
+listed_all set listed held same numbers =
+    sym (length-map listed (λ place. place.number)) ∙ ap length (ap (map (λ (place : Place). place.number)) same ∙ numbers) ∙ length-numbers_of set

@@ -1,13 +1,15 @@
 -- The laws of unions.
-use Rattle.std.proofs.Common.{◌≡◌, ℕ, ◌⊎◌, ⊎_elim, List, ◌∷◌, Some, refl, sym, ◌∙◌, arith}
+use Rattle.std.proofs.Common.{◌≡◌, ℕ, ◌⊎◌, ⊎_elim, List, ◌∷◌, Option, Some, None, Result, Ok, Err, refl, sym, subst, ◌∙◌, arith}
 use Rattle.std.proofs.lemmas.List.Sorted.{Contains-permutation, IsPermutation-sym}
 use Rattle.std.specs.List.{Contains}
 use Rattle.std.specs.List.Sorted.{IsPermutation}
-use Rattle.std.specs.Prelude.{◌↔◌}
-use Rattle.ballot_record.proofs.BallotSets.{Ascend, same_members}
+use Rattle.std.specs.Prelude.{◌↔◌, IfOk}
+use Rattle.ballot_record.proofs.BallotSets.{Ascend, same_in_order, same_members}
 use Rattle.ballot_record.proofs.Lookups.{AreDistinct, found_once}
+use Rattle.body_store.specs.Contents.{Contents, IsStored}
+use Rattle.merge_media.proofs.Joining.{joined_union}
 use Rattle.merge_media.proofs.Standing.{StandsWithin, disputed_within, stands_behind, stands_cases}
-use Rattle.merge_media.specs.Union.{Agree, IsDisputed, IsUnion, StandsInOne}
+use Rattle.merge_media.specs.Union.{Agree, IsDisputed, IsJoinedOf, IsUnion, StandsInOne}
 use Rattle.store_spec.specs.Ballot.{Ballot, ballot_of}
 
 pub union_same : (xs ys : List (List Ballot)) (union : List Ballot) → StandsWithin xs ys → StandsWithin ys xs → IsUnion xs union → IsUnion ys union
@@ -44,3 +46,16 @@ split_union parts set up split = record {
   only = λ b c. (split b).1 c;
   ascending = up;
 }
+
+-- ---- the store that is made of what is kept
+
+pub closed_same : {E : Type 0} (r : Result Contents E) (kept : List Ballot) → Ascend kept → IfOk r (λ store. IsPermutation kept store.ballots) → IfOk r IsStored
+    → IfOk r (λ store. store.ballots ≡ kept)
+closed_same (Ok store) kept up same stored = sym (same_in_order kept store.ballots up stored.set.ascending same)
+closed_same (Err e) kept up same stored = tt
+
+pub closed_union : {E : Type 0} (r : Result Contents E) (kept : List Ballot) (dispute : Option ℕ) → dispute ≡ None → IfOk r (λ store. store.ballots ≡ kept)
+    → IfOk r (λ store. (sets : List (List Ballot)) → IsJoinedOf sets kept dispute → IsUnion sets store.ballots)
+closed_union (Ok store) kept dispute none same =
+    λ sets j. subst (IsUnion sets) (sym same) (joined_union sets kept (subst (IsJoinedOf sets kept) none j))
+closed_union (Err e) kept dispute none same = tt

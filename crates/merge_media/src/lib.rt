@@ -1,7 +1,7 @@
 //! The union of several media of one election.
 #![tactic(auto)]
 
-mod joining;
+mod adding;
 pub mod laws;
 mod union;
 

@@ -1,10 +1,11 @@
 //! The union of the stores of one election.
 
-ghost use Rattle.std.specs.Prelude.{◌≡◌, ◌+◌, ◌^◌, ◌<◌, ◌≤◌, ◌∷◌, [], None, List, MatchOption, OnErr, OnOk, length};
-ghost use Rattle.merge_media.specs.Union.{Agree, IsLeastDisputed, Joins};
+ghost use Rattle.std.specs.Prelude.{◌≡◌, ◌+◌, ◌^◌, ◌<◌, ◌≤◌, ◌∷◌, [], IfOk, None, List, MatchOption, OnErr, OnOk, length};
+ghost use Rattle.body_store.specs.Contents.{IsStored};
+ghost use Rattle.merge_media.specs.Union.{Agree, IsLeastDisputed, IsUnion, Joins};
 ghost use Rattle.store_spec.specs.Ballot.{Ballot};
 
-use crate::joining::joined;
+use crate::adding::joined;
 use ballot_record::{BallotList, Election};
 use body_store::Closed;
 use outside_io::Memory;
@@ -75,5 +76,21 @@ impl Union {
         ensures { result ≡ length self.now.ballots }
     {
         self.ballots.len() as u32
+    }
+
+    /// The store of their union. After `Memory` nothing was taken.
+    pub fn closed(&self, alloc: Global, election: &Election) -> Result<Closed, Memory>
+        requires election { election.now ≡ self.now.election }
+        requires agree { self.now.dispute ≡ None }
+        requires within_limit { length self.now.ballots ≤ election.now.limit }
+        ensures union { IfOk result (λ store. (sets : List (List Ballot)) → Joins sets self.now
+            → IsUnion sets store.ballots) }
+        ensures same { IfOk result (λ store. store.ballots ≡ self.now.ballots) }
+        ensures election { IfOk result (λ store. store.election ≡ election.now) }
+        ensures stored { IfOk result IsStored }
+    {
+        // That its ballots are valid is told by a call of the list alone.
+        let _ = self.ballots.len();
+        Closed::from_records(alloc, election, &self.ballots)
     }
 }
