@@ -1,0 +1,164 @@
+-- The ballots of a set are joined one after another with those that are kept, both in ascending order.
+use Rattle.std.proofs.Common.{◌≡◌, ◌≢◌, ◌⊎◌, ℕ, zero, suc, ◌+◌, ◌-◌, ◌<◌, ◌≤◌, inl, inr, ⊎_elim, List, [], ◌∷◌, ◌++◌, length, get_or, map, take, drop, Option, Some, None, refl, sym, ap, subst, ◌∙◌, append_assoc, length-append, arith}
+use Rattle.std.proofs.lemmas.Bool.{cases_lt}
+use Rattle.std.proofs.lemmas.List.{append-nil, get_or-drop, get_or-map, get_or_default, length-drop, length-map, take_all, take_more}
+use Rattle.std.proofs.lemmas.List.Elements.{All-append, All-push, All-weaker, Contains-append_right, Contains-get_or}
+use Rattle.std.proofs.lemmas.Option.{get_or_from_slice_get, slice_get_within}
+use Rattle.std.specs.List.{All, Contains}
+use Rattle.std.specs.Prelude.{slice_get, slice_range}
+use Rattle.ballot_record.proofs.BallotNumbers.{length-numbers_of, no_ballot, number_at}
+use Rattle.ballot_record.proofs.BallotSets.{Ascend}
+use Rattle.ballot_record.proofs.Lookups.{AreDistinct, found_once}
+use Rattle.body_store.specs.declared.lookup.Place.{Place}
+use Rattle.merge_media.proofs.Ascending.{AreAbove, AreBelow, ascend_right}
+use Rattle.merge_media.proofs.Joining.{joined_begins, joined_disputed, joined_kept, joined_new}
+use Rattle.merge_media.proofs.Ranges.{range_end, range_more, range_none, range_rest}
+use Rattle.merge_media.specs.Union.{IsJoinedOf, least_with}
+use Rattle.store_spec.specs.Ballot.{Ballot, ballot_of, numbers_of}
+
+-- ---- one ballot
+
+module _ (kept : List Ballot) (next n : ℕ) (within : next ≤ length kept) (not_below : next < length kept → n ≤ get_or (numbers_of kept) next 0) where
+  -- the numbers from there on are above it, where the next one is another
+  pub above_rest : Ascend (drop next kept) → (next < length kept → get_or (numbers_of kept) next 0 ≢ n) → AreAbove n (drop next kept)
+  above_rest up other k d lt =
+      let size = length-drop next kept in
+      let first : n < (get_or (drop next kept) 0 no_ballot).number =
+          let here : next < length kept = omega arith in
+          let at : get_or (drop next kept) 0 no_ballot ≡ get_or kept next no_ballot = get_or-drop next kept 0 no_ballot ∙ ap (λ k. get_or kept k no_ballot) (let e : next + 0 ≡ next = omega arith in e) in
+          let number : (get_or (drop next kept) 0 no_ballot).number ≡ get_or (numbers_of kept) next 0 = ap (λ (b : Ballot). b.number) at ∙ sym (number_at kept next 0 here) in
+          let not_same = other here in
+          let least = not_below here in
+          omega arith in
+      let zeroth : (get_or (drop next kept) 0 d).number ≡ (get_or (drop next kept) 0 no_ballot).number = ap (λ (b : Ballot). b.number) (get_or_default (drop next kept) 0 d no_ballot (omega arith)) in
+      ⊎_elim
+      (λ (later : 0 < k). let less = up 0 k d later lt in omega arith)
+      (λ (none : k ≤ 0).
+      let is : 0 ≡ k = omega arith in
+      subst (λ j. n < (get_or (drop next kept) j d).number) is (omega arith))
+      (cases_lt 0 k)
+
+-- ---- a run
+
+pub record IsRun (kept set out : List Ballot) (next i : ℕ) (start now : Option ℕ) : Type 0 where
+  pub within : next ≤ length kept
+  pub ascending : Ascend (out ++ drop next kept)
+  pub below : (d : Ballot) → i < length set → AreBelow (get_or set i d).number out
+  pub few : length out + (length kept - next) ≤ length kept + i
+  pub joined : (sets : List (List Ballot)) → IsJoinedOf sets kept start → IsJoinedOf (take i set ∷ sets) (out ++ drop next kept) now
+
+pub run_begins : (kept set : List Ballot) (start : Option ℕ) → Ascend kept → IsRun kept set [] 0 0 start start
+run_begins kept set start up = record {
+  within = omega arith;
+  ascending = up;
+  below = λ d lt k e none. absurd (omega arith);
+  few = omega arith;
+  joined = λ sets j. joined_begins sets kept start j;
+}
+
+module _ (kept set : List Ballot) (start : Option ℕ) where
+  -- those below the next one are put out
+  put_below : (out more : List Ballot) (next end : ℕ) → next ≤ end → more ≡ out ++ slice_range kept next end → more ++ drop end kept ≡ out ++ drop next kept
+  put_below out more next end le is =
+      ap (λ xs. xs ++ drop end kept) is ∙ append_assoc out (slice_range kept next end) (drop end kept)
+      ∙ ap (λ xs. out ++ xs) (range_rest kept next end le)
+
+  pub below_next : (out more : List Ballot) (next end i n : ℕ) (now : Option ℕ) (d : Ballot) → IsRun kept set out next i start now → i < length set
+      → (get_or set i d).number ≡ n → more ≡ out ++ slice_range kept next end → AreBelow n (slice_range kept next end) → AreBelow n more
+  below_next out more next end i n now d run lt is made below =
+      subst (AreBelow n) (sym made)
+      (All-append (λ (b : Ballot). b.number < n) out (slice_range kept next end)
+      (subst (λ n. AreBelow n out) is (run.below d lt)) below)
+
+  -- and that one is joined
+  pub run_on : (out more after : List Ballot) (next end i : ℕ) (now then' : Option ℕ) (s : Ballot) → Ascend set → IsRun kept set out next i start now → i < length set
+      → get_or set i s ≡ s → next ≤ end → end ≤ length kept → more ≡ out ++ slice_range kept next end
+      → ((before : List Ballot) (sets : List (List Ballot)) → IsJoinedOf (before ∷ sets) (more ++ drop end kept) now → IsJoinedOf ((before ++ s ∷ []) ∷ sets) (after ++ drop end kept) then')
+      → (Ascend (more ++ drop end kept) → Ascend (after ++ drop end kept)) → All (λ b. b.number ≤ s.number) after → length after ≤ length more + 1
+      → IsRun kept set after end (i + 1) start then'
+  run_on out more after next end i now then' s up run lt is onward within made joins ascends below count =
+      let same = put_below out more next end onward made in
+      let size : length more ≡ length out + (length kept - next - (length kept - end)) =
+          let all : length (more ++ drop end kept) ≡ length (out ++ drop next kept) = ap length same in
+          omega (arith, all, length-append more (drop end kept), length-append out (drop next kept), length-drop end kept, length-drop next kept, run.within) in
+      record {
+        within = within;
+        ascending = ascends (subst Ascend (sym same) run.ascending);
+        below = λ d more.
+            let less = up i (i + 1) d (omega arith) more in
+            let number : (get_or set i d).number ≡ s.number = ap (λ (b : Ballot). b.number) (get_or_default set i d s lt ∙ is) in
+            All-weaker (λ (b : Ballot). b.number ≤ s.number) (λ (b : Ballot). b.number < (get_or set (i + 1) d).number) (λ b le. omega arith) after below;
+        few = omega (arith, run.few, run.within);
+        joined = λ sets j.
+            let before = subst (λ xs. IsJoinedOf (take i set ∷ sets) xs now) (sym same) (run.joined sets j) in
+            let next_set : take i set ++ s ∷ [] ≡ take (i + 1) set = ap (λ b. take i set ++ b ∷ []) (sym is) ∙ sym (take_more set i s lt) in
+            subst (λ xs. IsJoinedOf (xs ∷ sets) (after ++ drop end kept) then') next_set (joins (take i set) sets before);
+      }
+
+  -- all of the set were joined, and the rest of what is kept is put out
+  pub run_ends : (out all : List Ballot) (next i : ℕ) (now : Option ℕ) → IsRun kept set out next i start now → length set ≤ i → all ≡ out ++ slice_range kept next (length kept)
+      → Ascend all × ((sets : List (List Ballot)) → IsJoinedOf sets kept start → IsJoinedOf (set ∷ sets) all now)
+  run_ends out all next i now run far made =
+      let is : all ≡ out ++ drop next kept = made ∙ ap (λ xs. out ++ xs) (range_end kept next run.within) in
+      (subst Ascend (sym is) run.ascending,
+      λ sets j.
+      subst (λ xs. IsJoinedOf (set ∷ sets) xs now) (sym is)
+      (subst (λ xs. IsJoinedOf (xs ∷ sets) (out ++ drop next kept) now) (take_all i set far) (run.joined sets j)))
+
+  pub run_few : (out all : List Ballot) (next i : ℕ) (now : Option ℕ) → IsRun kept set out next i start now → all ≡ out ++ slice_range kept next (length kept)
+      → length all ≤ length kept + i
+  run_few out all next i now run made =
+      let is : all ≡ out ++ drop next kept = made ∙ ap (λ xs. out ++ xs) (range_end kept next run.within) in
+      omega (arith, ap length is, length-append out (drop next kept), length-drop next kept, run.few)
+
+-- the ballot of a set with the number at a place
+pub found_at : (set : List Ballot) (i n : ℕ) → Ascend set → i < length set → get_or (numbers_of set) i 0 ≡ n → ballot_of set n ≡ Some (get_or set i no_ballot)
+found_at set i n up lt is =
+    found_once set n (get_or set i no_ballot) (λ i j d less within same. let above = up i j d less within in omega arith)
+    (Contains-get_or set i no_ballot lt) (sym (number_at set i 0 lt) ∙ is)
+
+pub found_is : (set : List Ballot) (i n : ℕ) (s : Ballot) → Ascend set → i < length set → get_or (numbers_of set) i 0 ≡ n → ballot_of set n ≡ Some s
+    → (get_or set i s ≡ s) × (s.number ≡ n)
+found_is set i n s up lt is found =
+    let both : Some (get_or set i no_ballot) ≡ Some s = sym (found_at set i n up lt is) ∙ found in
+    let same : get_or set i no_ballot ≡ s = cc in
+    (get_or_default set i s no_ballot lt ∙ same, ap (λ (b : Ballot). b.number) (sym same) ∙ sym (number_at set i 0 lt) ∙ is)
+
+-- ---- a part of a list is put behind another
+
+pub put_none : (kept out : List Ballot) (from : ℕ) → out ≡ out ++ slice_range kept from from
+put_none kept out from = sym (ap (λ xs. out ++ xs) (range_none kept from) ∙ append-nil out)
+
+pub put_more : (kept start out after : List Ballot) (from at : ℕ) (b : Ballot) → from ≤ at → slice_get kept at ≡ Some b → out ≡ start ++ slice_range kept from at
+    → after ≡ out ++ b ∷ [] → after ≡ start ++ slice_range kept from (at + 1)
+put_more kept start out after from at b le there before pushed =
+    pushed ∙ ap (λ xs. xs ++ b ∷ []) before ∙ append_assoc start (slice_range kept from at) (b ∷ [])
+    ∙ ap (λ c. start ++ (slice_range kept from at ++ c ∷ [])) (sym (get_or_from_slice_get kept at b b there))
+    ∙ ap (λ xs. start ++ xs) (sym (range_more kept from at b le (slice_get_within kept at b there)))
+
+-- ---- the ballot that stands next
+
+pub next_kept : (out kept : List Ballot) (next : ℕ) (b : Ballot) → slice_get kept next ≡ Some b → Contains (out ++ drop next kept) b
+next_kept out kept next b there =
+    let lt = slice_get_within kept next b there in
+    let at : get_or (drop next kept) 0 b ≡ b = get_or-drop next kept 0 b ∙ ap (λ k. get_or kept k b) (let e : next + 0 ≡ next = omega arith in e) ∙ get_or_from_slice_get kept next b b there in
+    Contains-append_right out (drop next kept) b (0, omega (arith, length-drop next kept), at)
+
+pub below_after : (out after : List Ballot) (s : Ballot) → AreBelow s.number out → after ≡ out ++ s ∷ [] → All (λ b. b.number ≤ s.number) after
+below_after out after s below pushed =
+    subst (All (λ (b : Ballot). b.number ≤ s.number)) (sym pushed)
+    (All-push (λ (b : Ballot). b.number ≤ s.number) out s
+    (All-weaker (λ (b : Ballot). b.number < s.number) (λ (b : Ballot). b.number ≤ s.number) (λ b lt. omega arith) out below) (omega arith))
+
+-- ---- the places of a set, one after another
+
+pub numbered : (set : List Ballot) (listed held : List Place) (i : ℕ) (d : Place) → listed ≡ held → map (λ place. place.number) held ≡ numbers_of set → i < length listed
+    → (i < length set) × (get_or (numbers_of set) i 0 ≡ (get_or listed i d).number)
+numbered set listed held i d same numbers lt =
+    let all : map (λ place. place.number) listed ≡ numbers_of set = ap (map (λ (place : Place). place.number)) same ∙ numbers in
+    let size : length listed ≡ length set = sym (length-map listed (λ place. place.number)) ∙ ap length all ∙ length-numbers_of set in
+    (omega arith, ap (λ ns. get_or ns i 0) (sym all) ∙ get_or-map (λ (place : Place). place.number) listed i d 0 lt)
+
+pub listed_all : (set : List Ballot) (listed held : List Place) → listed ≡ held → map (λ place. place.number) held ≡ numbers_of set → length listed ≡ length set
+listed_all set listed held same numbers =
+    sym (length-map listed (λ place. place.number)) ∙ ap length (ap (map (λ (place : Place). place.number)) same ∙ numbers) ∙ length-numbers_of set
