@@ -1,0 +1,7 @@
+//! A sample of a store's ballots for an audit by hand, and lines that are compared with it.
+#![tactic(auto)]
+
+mod drawing;
+mod tickets;
+
+pub use tickets::{TICKET_BYTES, ticket};
