@@ -12,7 +12,7 @@ use Rattle.std.specs.Prelude.{nat_lt}
 
 -- ---- counts
 
-bool_cases : (b : Bool) → (b ≡ true) ⊎ (b ≡ false)
+pub bool_cases : (b : Bool) → (b ≡ true) ⊎ (b ≡ false)
 bool_cases true = inl refl
 bool_cases false = inr refl
 

@@ -1,7 +1,8 @@
 -- What the steps of drawing a sample give.
-use Rattle.std.specs.Prelude.{◌≡◌, ◌≢◌, ℕ, List, All, AllPairs, Vec, count_by, filter, length, map, nat_lt}
+use Rattle.std.specs.Prelude.{◌≡◌, ◌≢◌, ℕ, ◌<◌, List, All, AllPairs, count_by, map, nat_lt, slice_index}
 use Rattle.std.specs.Ordering.{is_lt}
 use Rattle.body_store.specs.declared.lookup.Place.{Place}
+use Rattle.store_spec.specs.Election.{Election, cell_count}
 use Rattle.ticket_sample.specs.Ticket.{Lot, lot_cmp, lot_of}
 
 abbrev pub numbers_at : List Place → List ℕ
@@ -18,3 +19,7 @@ AreApart numbers = AllPairs (λ a b. a ≢ b) numbers
 abbrev pub IsBound : List Lot → ℕ → Lot → Type 0
 IsBound lots count bound =
     All (λ lot. is_lt (lot_cmp lot bound) ≡ nat_lt (count_by (λ other. is_lt (lot_cmp other lot)) lots) count) lots
+
+-- each number of the places stands in its cell
+abbrev pub StandIn : Election → List ℕ → List Place → Type 0
+StandIn e cells places = All (λ place. (place.cell < cell_count e) × (slice_index cells place.cell ≡ place.number)) places

@@ -2,12 +2,14 @@
 
 ghost use Rattle.std.specs.Prelude.{◌≡◌, ◌<◌, IfOk, length, map, filter};
 ghost use Rattle.body_store.specs.Contents.{ballots_of};
-ghost use Rattle.body_store.specs.Places.{AreAt};
-ghost use Rattle.ticket_sample.specs.Drawing.{AreApart, IsBound, lots_of, numbers_at};
+ghost use Rattle.body_store.specs.Held.{held_in};
+ghost use Rattle.store_spec.specs.Image.{cells_of};
+ghost use Rattle.ticket_sample.specs.Drawing.{AreApart, IsBound, StandIn, lots_of, numbers_at};
 ghost use Rattle.ticket_sample.specs.Sample.{is_drawn, sample_of};
 
 use crate::tickets::{TICKET_BYTES, ticket};
-use body_store::Place;
+use ballot_record::Record;
+use body_store::{Closed, Place};
 use outside_io::Memory;
 use std::alloc::Global;
 
@@ -62,4 +64,39 @@ fn drawn(alloc: Global, dice: &[u8], places: &[Place], count: usize) -> Result<V
         }
     }
     Ok(chosen)
+}
+
+/// The ballots of a store at some of its places, in the order of the places.
+fn records_at(alloc: Global, closed: &Closed, places: &[Place]) -> Result<Vec<Record>, Memory>
+    requires { StandIn closed.now.election (cells_of closed.now.election closed.now.ballots) places.now }
+    ensures { IfOk result (λ records. ballots_of records.items
+        ≡ held_in closed.now.ballots (numbers_at places.now)) }
+{
+    let mut records = Vec::with_capacity(alloc, places.len())?;
+    for place in places {
+        if let Some(record) = closed.record_in(place.cell as usize) {
+            records.push(record)?;
+        }
+    }
+    Ok(records)
+}
+
+/// The sample of a store: its k ballots whose tickets are the least, or all that it holds, in ascending order of number.
+/// Of two numbers with one ticket the lesser comes first. It takes time and memory as tickets of all numbers do, and
+/// copies no ballot that is not in the sample.
+pub fn sample(
+    alloc: Global,
+    closed: &Closed,
+    dice: &[u8],
+    k: u32,
+) -> Result<Vec<Record>, Memory>
+    ensures { IfOk result (λ records. ballots_of records.items
+        ≡ sample_of closed.now.ballots dice.now k) }
+{
+    let places = closed.in_order(alloc)?;
+    if places.len() <= k as usize {
+        return records_at(alloc, closed, &places);
+    }
+    let chosen = drawn(alloc, dice, &places, k as usize)?;
+    records_at(alloc, closed, &chosen)
 }
