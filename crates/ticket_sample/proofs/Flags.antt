@@ -1,9 +1,10 @@
 -- The ballots whose flags are not set.
-use Rattle.std.proofs.Common.{◌≡◌, ◌≢◌, ℕ, zero, suc, ◌+◌, ◌<◌, ◌≤◌, List, [], ◌∷◌, Bool, true, false, cond, length, get_or, set, refl, sym, ap, subst, ◌∙◌, arith, not, ◌==◌, ◌||◌}
+use Rattle.std.proofs.Common.{◌≡◌, ◌≢◌, ℕ, zero, suc, ◌<◌, List, [], ◌∷◌, Bool, true, false, cond, drop, length, get_or, replicate, set, refl, sym, ap, ◌∙◌, arith, not, ◌==◌, ◌||◌}
 use Rattle.std.proofs.lemmas.Bool.{cond-true, cond-false, eq-eqb, ne_eqb}
 use Rattle.std.proofs.lemmas.List.Elements.{Contains-get_or}
 use Rattle.std.proofs.lemmas.List.Kept.{AllPairs-cons}
-use Rattle.std.specs.List.{All, AllPairs, Contains, filter, list_any}
+use Rattle.std.proofs.lemmas.List.Sums.{sum_by-cons}
+use Rattle.std.specs.List.{Contains, count_by, list_any}
 use Rattle.ballot_record.proofs.BallotNumbers.{ballot_with, contains_number}
 use Rattle.ballot_record.proofs.BallotSets.{Ascend}
 use Rattle.body_store.specs.Contents.{ballots_without}
@@ -47,6 +48,10 @@ first_alone b ballots flags up c =
     let at : (get_or ballots among.0 found.0).number ≡ found.0.number = ap (λ (b : Ballot). b.number) among.2 in
     omega (arith, less, at, found.2)
 
+first_or_later : (b : Ballot) (ballots : List Ballot) (number : ℕ) → Contains (numbers_of (b ∷ ballots)) number → b.number ≢ number → ¬ Contains (numbers_of ballots) number → ⊥
+first_or_later b ballots number (zero, lt, same) other none = other same
+first_or_later b ballots number (suc k, lt, same) other none = none (k, omega (arith, lt), same)
+
 -- the ballot at a place is among them exactly where its flag is not set
 pub flag_set : (ballots : List Ballot) (flags : List Bool) (i : ℕ) (d : Ballot) → Ascend ballots → i < length ballots → length flags ≡ length ballots → get_or flags i false ≡ true → ¬ Contains (numbers_of (unset ballots flags)) (get_or ballots i d).number
 flag_set [] flags i d up within long is = λ c. absurd (omega (arith, within))
@@ -54,16 +59,10 @@ flag_set (b ∷ ballots) [] i d up within long is = λ c. absurd (omega (arith, 
 flag_set (b ∷ ballots) (true ∷ flags) zero d up within long is = first_alone b ballots flags up
 flag_set (b ∷ ballots) (false ∷ flags) zero d up within long is = absurd (let clash : false ≡ true = is in cc)
 flag_set (b ∷ ballots) (true ∷ flags) (suc i) d up within long is = flag_set ballots flags i d (behind b ballots up) (omega arith) (omega arith) is
-flag_set (b ∷ ballots) (false ∷ flags) (suc i) d up within long is = λ c. first_or_later c where
-  later : ¬ Contains (numbers_of (unset ballots flags)) (get_or ballots i d).number
-  later = flag_set ballots flags i d (behind b ballots up) (omega arith) (omega arith) is
-
-  first_or_later : Contains (numbers_of (b ∷ unset ballots flags)) (get_or ballots i d).number → ⊥
-  first_or_later (zero, lt, same) =
-      let less = up 0 (suc i) d (omega arith) (omega (arith, within)) in
-      let equal : b.number ≡ (get_or ballots i d).number = same in
-      omega (arith, less, equal)
-  first_or_later (suc k, lt, same) = later (k, omega (arith, lt), same)
+flag_set (b ∷ ballots) (false ∷ flags) (suc i) d up within long is =
+    λ c. first_or_later b (unset ballots flags) (get_or ballots i d).number c
+    (λ same. let less = up 0 (suc i) d (omega arith) (omega (arith, within)) in omega (arith, less, same))
+    (flag_set ballots flags i d (behind b ballots up) (omega arith) (omega arith) is)
 
 pub flag_unset : (ballots : List Ballot) (flags : List Bool) (i : ℕ) (d : Ballot) → i < length ballots → length flags ≡ length ballots → get_or flags i false ≡ false → Contains (unset ballots flags) (get_or ballots i d)
 flag_unset [] flags i d within long is = absurd (omega (arith, within))
@@ -105,3 +104,18 @@ flag_taken (b ∷ ballots) (false ∷ flags) (suc i) d up within long =
     let less = up 0 (suc i) d (omega arith) (omega (arith, within)) in
     ap (λ more. b ∷ more) (flag_taken ballots flags i d (behind b ballots up) (omega arith) (omega arith))
     ∙ sym (cond-true (others number b) (b ∷ rest) rest (is_other number b (λ same. omega (arith, less, same))))
+
+-- how many they are
+pub count_unset : (ballots : List Ballot) (flags : List Bool) → length flags ≡ length ballots → length (unset ballots flags) ≡ count_by (λ flag. not flag) flags
+count_unset [] [] same = refl
+count_unset [] (flag ∷ flags) same = absurd (omega (arith, same))
+count_unset (b ∷ ballots) [] same = absurd (omega (arith, same))
+count_unset (b ∷ ballots) (true ∷ flags) same = omega (arith, count_unset ballots flags (omega (arith, same)), sum_by-cons (λ flag. cond (not flag) 1 0) true flags)
+count_unset (b ∷ ballots) (false ∷ flags) same = omega (arith, count_unset ballots flags (omega (arith, same)), sum_by-cons (λ flag. cond (not flag) 1 0) false flags)
+
+-- where none is set they are all
+pub none_set : (ballots : List Ballot) (flags : List Bool) → flags ≡ replicate (length ballots) false → unset ballots flags ≡ ballots
+none_set [] flags same = refl
+none_set (b ∷ ballots) [] same = absurd (let short : 0 ≡ suc (length (replicate (length ballots) false)) = ap length same in omega (arith, short))
+none_set (b ∷ ballots) (true ∷ flags) same = absurd (let clash : true ≡ false = ap (λ (flags : List Bool). get_or flags 0 true) same in cc)
+none_set (b ∷ ballots) (false ∷ flags) same = ap (λ more. b ∷ more) (none_set ballots flags (ap (drop 1) same))

@@ -1,5 +1,5 @@
 -- Lines that are compared with a sample, and the replies to them.
-use Rattle.std.specs.Prelude.{◌≡◌, ◌≢◌, ◌↔◌, ℕ, List, [], ◌∷◌, All, AllPairs, Any, Contains, length, take, slice_get, Option, Some, None}
+use Rattle.std.specs.Prelude.{◌≡◌, ◌↔◌, ◌<◌, ℕ, List, AllPairs, Any, Contains, length, take, slice_get, Option, Some, None}
 use Rattle.store_spec.specs.Ballot.{Ballot, numbers_of}
 use Rattle.store_spec.specs.BallotLine.{IsLineOf, IsRecordLine, Spells}
 use Rattle.store_spec.specs.Election.{Election}

@@ -1,6 +1,6 @@
 //! Lines, as they are read off the sheets that were pulled, compared with a sample.
 
-ghost use Rattle.std.specs.Prelude.{◌≡◌, ◌<◌, ◌≤◌, AllPairs, Contains, IfOk, MatchOption, length, slice_index};
+ghost use Rattle.std.specs.Prelude.{◌≡◌, ◌<◌, ◌≤◌, ◌↔◌, AllPairs, Contains, IfOk, IsTrue, MatchOption, count_by, length, not, slice_index};
 ghost use Rattle.body_store.specs.Contents.{ballots_of};
 ghost use Rattle.ballot_record.specs.Record.{ballot};
 ghost use Rattle.store_spec.specs.Ballot.{numbers_of};
@@ -78,14 +78,15 @@ impl Compare {
     pub fn missing(&self) -> u32
         ensures { result ≡ length self.now.rest }
     {
-        let mut missing = 0;
-        for compared in &self.compared {
-            if !*compared {
-                missing += 1;
-            }
-        }
-        missing
+        count_unset(&self.compared) as u32
     }
+}
+
+/// How many of these flags are not set.
+fn count_unset(flags: &[bool]) -> usize
+    ensures { result ≡ count_by (λ flag. not flag) flags.now }
+{
+    flags.iter().filter(|flag| !**flag).count()
 }
 
 /// Where the ballot with this number stands. `None` where the sample has none.
@@ -94,19 +95,27 @@ fn place_of(sample: &[Record], number: u64) -> Option<usize>
     ensures { MatchOption result (¬ Contains (numbers_of (ballots_of sample.now)) number)
         (λ place. (place < length sample.now) × (slice_index (numbers_of (ballots_of sample.now)) place ≡ number)) }
 {
-    sample
-        .binary_search_by_key(&number, |record| record.number)
-        .ok()
+    match sample.binary_search_by_key(&number, |record| record.number) {
+        Ok(place) => Some(place),
+        Err(_) => None,
+    }
+}
+
+fn are_same(one: &Record, other: &Record) -> bool
+    ensures { IsTrue result ↔ (ballot one.now ≡ ballot other.now) }
+{
+    *one == *other
 }
 
 /// What is said of a ballot that was read. One that is compared is noted.
-fn look(sample: &[Record], compared: &mut [bool], read: &Record) -> CompareReply
+fn look(sample: &[Record], compared: &mut Vec<bool>, read: &Record) -> CompareReply
     requires ascending { AllPairs (λ a b. a.number < b.number) (ballots_of sample.now) }
-    requires flags { length compared.old ≡ length sample.now }
+    requires flags { length compared.old.items ≡ length sample.now }
     ensures reply { IsLook (ballots_of sample.now)
-        (IsDone (unset (ballots_of sample.now) compared.old)) (ballot read.now) result }
+        (IsDone (unset (ballots_of sample.now) compared.old.items)) (ballot read.now) result }
     ensures rest { TakesOut (ballot read.now) result
-        (unset (ballots_of sample.now) compared.old) (unset (ballots_of sample.now) compared.new) }
+        (unset (ballots_of sample.now) compared.old.items) (unset (ballots_of sample.now) compared.new.items) }
+    ensures flags { length compared.new.items ≡ length compared.old.items }
 {
     let Some(place) = place_of(sample, read.number) else {
         return CompareReply::Outside;
@@ -115,7 +124,7 @@ fn look(sample: &[Record], compared: &mut [bool], read: &Record) -> CompareReply
         return CompareReply::Repeated;
     }
     compared[place] = true;
-    if sample[place] == *read {
+    if are_same(&sample[place], read) {
         CompareReply::Match
     } else {
         CompareReply::Differs

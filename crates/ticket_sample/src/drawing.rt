@@ -84,12 +84,7 @@ fn records_at(alloc: Global, closed: &Closed, places: &[Place]) -> Result<Vec<Re
 /// The sample of a store: its k ballots whose tickets are the least, or all that it holds, in ascending order of number.
 /// Of two numbers with one ticket the lesser comes first. It takes time and memory as tickets of all numbers do, and
 /// copies no ballot that is not in the sample.
-pub fn sample(
-    alloc: Global,
-    closed: &Closed,
-    dice: &[u8],
-    k: u32,
-) -> Result<Vec<Record>, Memory>
+pub fn sample(alloc: Global, closed: &Closed, dice: &[u8], k: u32) -> Result<Vec<Record>, Memory>
     ensures { IfOk result (λ records. ballots_of records.items
         ≡ sample_of closed.now.ballots dice.now k) }
 {

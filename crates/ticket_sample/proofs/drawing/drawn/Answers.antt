@@ -1,4 +1,4 @@
-use Rattle.std.proofs.Common.{◌≡◌, ◌∙◌, List, ap, arith, subst, sym}
+use Rattle.std.proofs.Common.{◌∙◌, List, ap, arith, subst, sym}
 use Rattle.std.specs.Ordering.{is_lt}
 use Rattle.ticket_sample.specs.Drawing.{IsBound, numbers_at}
 use Rattle.ticket_sample.specs.Ticket.{Lot}

@@ -1,4 +1,4 @@
-use Rattle.std.proofs.Common.{◌≡◌, ◌∙◌, ap, arith, sym}
+use Rattle.std.proofs.Common.{◌∙◌, ap, arith, sym}
 use Rattle.body_store.specs.Contents.{ballots_of}
 use Rattle.store_spec.specs.Image.{cells_of}
 use Rattle.ticket_sample.proofs.Holding.{none_more, nowhere, one_more, some_more}
