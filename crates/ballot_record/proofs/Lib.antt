@@ -1,3 +1,5 @@
+pub mod BallotListKept
+pub mod BallotLists
 pub mod BallotNumbers
 pub mod BallotSets
 pub mod BuildLaws

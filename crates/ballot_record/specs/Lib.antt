@@ -1,4 +1,6 @@
 pub mod Format
+pub mod BallotList
+pub mod BallotListKept
 pub mod Contest
 pub mod Kept
 pub mod Line

@@ -5,6 +5,7 @@
 ghost use Rattle.std.specs.Prelude.{◌≡◌, ◌+◌, ◌-◌, ◌*◌, ◌≤◌, ◌++◌, ◌↔◌, length, take, drop, replicate, All, IsTrue};
 ghost use Rattle.std.specs.Int.{from_be_bytes, w32};
 ghost use Rattle.store_spec.specs.Ballot.{Ballot, IsValid, MARK_SETS};
+ghost use Rattle.store_spec.specs.Damage.{number_at};
 ghost use Rattle.store_spec.specs.Election.{IsElection, bank_size, cell_size, medium_size};
 ghost use Rattle.store_spec.specs.Image.{IsEmptyCell, IsCellOf, ballot_bytes, header_of};
 ghost use Rattle.ballot_record.specs.Format.{ballot_at, largest_bank, largest_cell, number_size, sets_at};
@@ -47,6 +48,7 @@ impl Election {
         ensures size { result ≡ cell_size self.now }
         ensures number { number_size ≤ result }
         ensures at_most { result ≤ largest_cell }
+        ensures valid { IsElection self.now }
     {
         FRONT_BYTES + SET_BYTES * self.contests()
     }
@@ -231,4 +233,12 @@ impl Record {
         out[8] = self.style;
         BigEndian::write_u32_into(&self.marks[..contests], &mut out[9..]);
     }
+}
+
+/// The number that stands in front of a cell.
+pub fn number_of(bytes: &[u8]) -> u64
+    requires { number_size ≤ length bytes.now }
+    ensures { result ≡ number_at bytes.now }
+{
+    BigEndian::read_u64(bytes)
 }

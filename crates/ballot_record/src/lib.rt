@@ -7,6 +7,7 @@ mod fault;
 mod format;
 pub mod laws;
 mod line;
+mod list;
 mod print;
 mod record;
 
@@ -18,5 +19,6 @@ pub use format::{
     take_cell_into,
 };
 pub use line::{read_line, read_line_into, take_number};
+pub use list::BallotList;
 pub use print::put_line;
 pub use record::{MAX_MARK_SETS, Record};

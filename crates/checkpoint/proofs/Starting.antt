@@ -1,17 +1,17 @@
--- The runs of calls that make an unused disk the medium of the empty set.
-use Rattle.std.proofs.Common.{◌≡◌, ℕ, ◌+◌, ◌*◌, ◌≤◌, List, [], ◌∷◌, ◌++◌, length, Option, Some, None, is_some, sym, ◌∙◌, ap, subst, inl, inr, arith}
+-- The runs of calls that make an unused disk the medium of a set.
+use Rattle.std.proofs.Common.{◌≡◌, ℕ, ◌+◌, ◌*◌, ◌≤◌, List, [], ◌∷◌, ◌++◌, length, Option, Some, None, is_some, sym, ◌∙◌, ap, inl, inr, arith}
 use Rattle.std.specs.Prelude.{option_map, IfSome}
 use Rattle.crash_disk.proofs.Moments.{goes_on, joined, weaker}
 use Rattle.crash_disk.proofs.TornBytes.{overwritten-next}
 use Rattle.checkpoint.proofs.Pages.{Fits}
 use Rattle.checkpoint.proofs.Unused.{opened_medium, opening_holds, unused_holds, unused_small, unused_torn}
-use Rattle.checkpoint.specs.Unused.{IsUntouchedOrNew}
+use Rattle.checkpoint.specs.Unused.{IsUntouchedOr}
 use Rattle.outside_io.specs.Told.{IfTold}
 use Rattle.store_spec.specs.Ballot.{Ballot}
 use Rattle.store_spec.specs.Disk.{leaves_now, overwritten, torn_from, IsTorn, LeavesOnly, TearsAtMost}
 use Rattle.store_spec.specs.Election.{Election, bank_size}
 use Rattle.store_spec.specs.Image.{image_of}
-use Rattle.store_spec.specs.Medium.{HoldsAtMost, IsMediumOf, IsUnused, medium_of, open_gate}
+use Rattle.store_spec.specs.Medium.{IsMediumOf, IsUnused, medium_of, open_gate}
 
 -- one page more of its banks is written
 pub run_page : {D : Type 0} (calls : D → ℕ) (may_leave : D → ℕ → List ℕ → Type 0) (e : Election) (first mid new : D) (at k : ℕ) → at + k ≤ 2 * bank_size e → LeavesOnly calls may_leave first mid (IsUnused e)
@@ -19,26 +19,26 @@ pub run_page : {D : Type 0} (calls : D → ℕ) (may_leave : D → ℕ → List 
 run_page calls may_leave e first mid new at k within run write =
     goes_on calls may_leave first mid new (IsUnused e) (torn_from at k (leaves_now calls may_leave mid)) run write (λ c left. unused_torn e at k left.0 c within (run.now left.0 left.1) left.2)
 
-module _ {D : Type 0} (calls : D → ℕ) (may_leave : D → ℕ → List ℕ → Type 0) (e : Election) (bytes : List ℕ) where
+module _ {D : Type 0} (calls : D → ℕ) (may_leave : D → ℕ → List ℕ → Type 0) (e : Election) (ballots : List Ballot) (bytes : List ℕ) where
   -- it is looked at
-  pub run_looking : (synced looked : D) → LeavesOnly calls may_leave synced looked (λ c. c ≡ bytes) → LeavesOnly calls may_leave synced looked (IsUntouchedOrNew e bytes)
-  run_looking synced looked run = weaker calls may_leave synced looked (λ c. c ≡ bytes) (IsUntouchedOrNew e bytes) (λ c same. inl same) run
+  pub run_looking : (synced looked : D) → LeavesOnly calls may_leave synced looked (λ c. c ≡ bytes) → LeavesOnly calls may_leave synced looked (IsUntouchedOr e ballots bytes)
+  run_looking synced looked run = weaker calls may_leave synced looked (λ c. c ≡ bytes) (IsUntouchedOr e ballots bytes) (λ c same. inl same) run
 
   -- its banks are written
-  pub run_writing : (synced looked written : D) → IsUnused e bytes → LeavesOnly calls may_leave synced looked (IsUntouchedOrNew e bytes) → LeavesOnly calls may_leave looked written (IsUnused e)
-      → LeavesOnly calls may_leave synced written (IsUntouchedOrNew e bytes)
+  pub run_writing : (synced looked written : D) → IsUnused e bytes → LeavesOnly calls may_leave synced looked (IsUntouchedOr e ballots bytes) → LeavesOnly calls may_leave looked written (IsUnused e)
+      → LeavesOnly calls may_leave synced written (IsUntouchedOr e ballots bytes)
   run_writing synced looked written unused run writing =
-      joined calls may_leave synced looked written (IsUntouchedOrNew e bytes) run
-      (weaker calls may_leave looked written (IsUnused e) (IsUntouchedOrNew e bytes) (λ c still. inr (unused, inr (unused_holds e c still))) writing)
+      joined calls may_leave synced looked written (IsUntouchedOr e ballots bytes) run
+      (weaker calls may_leave looked written (IsUnused e) (IsUntouchedOr e ballots bytes) (λ c still. inr (unused, inr (unused_holds e c still))) writing)
 
   -- its gates are opened
-  pub run_opening : (synced written opened : D) (ballots : List Ballot) → ballots ≡ [] → Fits e ballots → IsUnused e bytes → LeavesOnly calls may_leave synced written (IsUntouchedOrNew e bytes)
+  pub run_opening : (synced written opened : D) → Fits e ballots → IsUnused e bytes → LeavesOnly calls may_leave synced written (IsUntouchedOr e ballots bytes)
       → LeavesOnly calls may_leave written opened (IsTorn (2 * bank_size e) 2 (overwritten 0 (image_of e ballots ++ image_of e ballots) bytes))
-      → LeavesOnly calls may_leave synced opened (IsUntouchedOrNew e bytes)
-  run_opening synced written opened ballots none fits unused run opening =
-      joined calls may_leave synced written opened (IsUntouchedOrNew e bytes) run
-      (weaker calls may_leave written opened (IsTorn (2 * bank_size e) 2 (overwritten 0 (image_of e ballots ++ image_of e ballots) bytes)) (IsUntouchedOrNew e bytes)
-      (λ c torn. inr (unused, subst (λ (set : List Ballot). HoldsAtMost e set c) none (opening_holds e ballots bytes fits (unused_small e bytes unused) c torn))) opening)
+      → LeavesOnly calls may_leave synced opened (IsUntouchedOr e ballots bytes)
+  run_opening synced written opened fits unused run opening =
+      joined calls may_leave synced written opened (IsUntouchedOr e ballots bytes) run
+      (weaker calls may_leave written opened (IsTorn (2 * bank_size e) 2 (overwritten 0 (image_of e ballots ++ image_of e ballots) bytes)) (IsUntouchedOr e ballots bytes)
+      (λ c torn. inr (unused, opening_holds e ballots bytes fits (unused_small e bytes unused) c torn)) opening)
 
 -- ---- where the bytes may not be told
 
@@ -52,14 +52,14 @@ banks_told now mid (Some x) image n long one two =
     ∙ ap Some (ap (λ k. overwritten k image (overwritten 0 image x)) from ∙ overwritten-next 0 n image image x (omega arith) long)
 
 -- the gates were opened
-pub made_told : (e : Election) (now written old : Option (List ℕ)) (ballots : List Ballot) → ballots ≡ [] → Fits e ballots → IfSome old (IsUnused e)
+pub made_told : (e : Election) (now written old : Option (List ℕ)) (ballots : List Ballot) → Fits e ballots → IfSome old (IsUnused e)
     → written ≡ option_map (overwritten 0 (image_of e ballots ++ image_of e ballots)) old → now ≡ option_map (overwritten (2 * bank_size e) (open_gate ∷ open_gate ∷ [])) written
-    → IfTold old now (λ _ bytes. IsMediumOf e bytes [])
-made_told e now written None ballots none fits unused one two = record {
+    → IfTold old now (λ _ bytes. IsMediumOf e bytes ballots)
+made_told e now written None ballots fits unused one two = record {
   told = ap is_some (two ∙ ap (option_map (overwritten (2 * bank_size e) (open_gate ∷ open_gate ∷ []))) one);
   related = λ x y was is. let no : None ≡ Some x = was in absurd (let no : ⊥ = cc in no);
 }
-made_told e now written (Some bytes) ballots none fits unused one two =
+made_told e now written (Some bytes) ballots fits unused one two =
     let last = overwritten (2 * bank_size e) (open_gate ∷ open_gate ∷ []) (overwritten 0 (image_of e ballots ++ image_of e ballots) bytes) in
     let sees : now ≡ Some last = two ∙ ap (option_map (overwritten (2 * bank_size e) (open_gate ∷ open_gate ∷ []))) one in
     let medium : last ≡ medium_of e ballots = opened_medium e ballots bytes fits (unused_small e bytes unused) in
@@ -68,5 +68,5 @@ made_told e now written (Some bytes) ballots none fits unused one two =
       related = λ x y was is.
           let same : Some y ≡ Some last = sym is ∙ sees in
           let made : y ≡ last = cc in
-          subst (λ (set : List Ballot). IsMediumOf e y set) none (record { set = fits.set; within_limit = fits.within_limit; bytes = made ∙ medium });
+          record { set = fits.set; within_limit = fits.within_limit; bytes = made ∙ medium };
     }

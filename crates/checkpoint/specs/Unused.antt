@@ -1,11 +1,20 @@
 -- Why a disk is not taken for a new store, and what a crash may leave of one that is.
 use Rattle.std.specs.Prelude.{◌≡◌, ◌⊎◌, ◌<◌, ℕ, List, [], length, Option}
+use Rattle.checkpoint.specs.declared.fresh.FillFault.{FillFault}
+use Rattle.checkpoint.specs.declared.fresh.FillFault.TheVariants as fills
 use Rattle.checkpoint.specs.declared.fresh.InitFault.{InitFault}
 use Rattle.checkpoint.specs.declared.fresh.InitFault.TheVariants.{WrongSize, Exists, DiskFault, Memory}
+use Rattle.store_spec.specs.Ballot.{Ballot}
 use Rattle.store_spec.specs.Disk.{DiskModel, LeavesOnly, leaves_now}
 use Rattle.store_spec.specs.Election.{Election, medium_size}
 use Rattle.store_spec.specs.Medium.{IsOpen, IsUnused, HoldsAtMost}
 use Rattle.store_spec.specs.Medium.Bank.{A, B}
+
+-- a disk that is not filled is not made a new medium either
+abbrev pub init_fault : FillFault → InitFault
+init_fault (fills.WrongSize size) = WrongSize size
+init_fault fills.Exists = Exists
+init_fault fills.DiskFault = DiskFault
 
 -- There are more bytes than a medium has, or as many and a gate is open. Faults of the disk and want of memory are told
 -- by no bytes.
@@ -26,6 +35,9 @@ IsUnharmedAt model DiskFault old new = Unit {0}
 IsUnharmedAt model fault old new =
     LeavesOnly model.calls model.may_leave old new (leaves_now model.calls model.may_leave old)
 
--- Nothing was written yet to a disk that had the first bytes, or it was unused, and these hold nothing or the empty set.
+-- Nothing was written yet to a disk that had the first bytes, or it was unused, and these hold nothing or this set.
+abbrev pub IsUntouchedOr : Election → List Ballot → List ℕ → List ℕ → Type 0
+IsUntouchedOr e set bytes image = (image ≡ bytes) ⊎ (IsUnused e bytes × HoldsAtMost e set image)
+
 abbrev pub IsUntouchedOrNew : Election → List ℕ → List ℕ → Type 0
-IsUntouchedOrNew e bytes image = (image ≡ bytes) ⊎ (IsUnused e bytes × HoldsAtMost e [] image)
+IsUntouchedOrNew e = IsUntouchedOr e []

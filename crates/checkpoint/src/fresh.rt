@@ -1,9 +1,9 @@
-//! A medium of the empty set, on a disk that holds no store yet.
+//! A medium of a store, or of the empty set, on a disk that holds no store yet.
 
 ghost use Rattle.std.specs.Prelude.{◌≡◌, ◌⊎◌, ◌+◌, ◌≤◌, ◌++◌, ℕ, List, [], Some, option_map, is_some, IsErrOf, IfErr, IfSome, OnOk, length};
 ghost use Rattle.std.specs.Option.{ForSome};
 ghost use Rattle.bank_medium.specs.Banks.{place_of};
-ghost use Rattle.checkpoint.specs.Unused.{IsRefusedDisk, IsUnchangedAt, IsUnharmedAt, IsUntouchedOrNew};
+ghost use Rattle.checkpoint.specs.Unused.{init_fault, IsRefusedDisk, IsUnchangedAt, IsUnharmedAt, IsUntouchedOr, IsUntouchedOrNew};
 ghost use Rattle.outside_io.specs.Told.{AsTold};
 ghost use Rattle.store_spec.specs.Disk.{disk_model, leaves_now, overwritten, IsSettled, LeavesOnly, SyncsFirst};
 ghost use Rattle.store_spec.specs.Fault.{CountsFault, CountsFaultIf};
@@ -18,6 +18,28 @@ use image_builder::PAGE_BYTES;
 use outside_io::{Failed, Memory};
 use std::alloc::Global;
 
+/// Why a disk is not filled.
+#[derive(Clone, Copy, Debug, PartialEq, Eq)]
+pub enum FillFault {
+    /// The disk has more bytes than a medium, so many.
+    WrongSize { size: u64 },
+    /// The disk has as many bytes as a medium, and a gate is open.
+    Exists,
+    /// The disk failed.
+    DiskFault,
+}
+
+impl From<Failed> for FillFault {
+    ghost use Rattle.std.specs.Prelude.{◌≡◌};
+    ghost use Rattle.checkpoint.specs.declared.fresh.FillFault.TheVariants as faults;
+
+    ghost from_gives = { λ _ fault. fault ≡ faults.DiskFault };
+
+    fn from(_: Failed) -> Self {
+        FillFault::DiskFault
+    }
+}
+
 /// Why no medium was made.
 #[derive(Clone, Copy, Debug, PartialEq, Eq)]
 pub enum InitFault {
@@ -31,31 +53,23 @@ pub enum InitFault {
     Memory,
 }
 
-impl From<Failed> for InitFault {
+impl From<FillFault> for InitFault {
     ghost use Rattle.std.specs.Prelude.{◌≡◌};
-    ghost use Rattle.checkpoint.specs.declared.fresh.InitFault.TheVariants as faults;
+    ghost use Rattle.checkpoint.specs.Unused.{init_fault};
 
-    ghost from_gives = { λ _ fault. fault ≡ faults.DiskFault };
+    ghost from_gives = { λ why fault. fault ≡ init_fault why };
 
-    fn from(_: Failed) -> Self {
-        InitFault::DiskFault
+    fn from(why: FillFault) -> Self {
+        match why {
+            FillFault::WrongSize { size } => InitFault::WrongSize { size },
+            FillFault::Exists => InitFault::Exists,
+            FillFault::DiskFault => InitFault::DiskFault,
+        }
     }
 }
 
-impl From<Memory> for InitFault {
-    ghost use Rattle.std.specs.Prelude.{◌≡◌};
-    ghost use Rattle.checkpoint.specs.declared.fresh.InitFault.TheVariants as faults;
-
-    ghost from_gives = { λ _ fault. fault ≡ faults.Memory };
-
-    fn from(_: Memory) -> Self {
-        InitFault::Memory
-    }
-}
-
-/// Makes an unused disk the medium of the empty set: both banks are written and settled before the gates are opened.
-/// Until the first sync has returned a crash leaves what it might have left before. From then on nothing was written
-/// yet, or it leaves what holds nothing or the empty set.
+/// Makes an unused disk the medium of the empty set: it is filled from the store that holds nothing. Where there is no
+/// memory for that store, the disk is looked at all the same.
 pub fn init<D: Disk>(alloc: Global, disk: &mut D, election: &Election) -> Result<(), InitFault>
     ensures medium { OnOk result (AsTold D.seen disk.old disk.new
         (λ _ bytes. IsMediumOf election.now bytes [])) }
@@ -74,38 +88,91 @@ pub fn init<D: Disk>(alloc: Global, disk: &mut D, election: &Election) -> Result
     ensures fault { CountsFaultIf (IsErrOf result InitFault.DiskFault)
         (D.faults disk.old) (D.faults disk.new) }
 {
+    match Closed::empty(alloc, election) {
+        Ok(closed) => Ok(fill(disk, &closed, election)?),
+        Err(Memory) => {
+            find_unused(disk, election)?;
+            Err(InitFault::Memory)
+        }
+    }
+}
+
+/// Makes an unused disk the medium of a store: both banks are written and settled before the gates are opened. Until
+/// the first sync has returned a crash leaves what it might have left before. From then on nothing was written yet, or
+/// it leaves what holds nothing or the set of the store.
+pub fn fill<D: Disk>(disk: &mut D, closed: &Closed, election: &Election) -> Result<(), FillFault>
+    requires { closed.now.election ≡ election.now }
+    ensures medium { OnOk result (AsTold D.seen disk.old disk.new
+        (λ _ bytes. IsMediumOf election.now bytes closed.now.ballots)) }
+    ensures settled { OnOk result (IsSettled D.seen D.calls D.may_leave disk.new) }
+    ensures unused { OnOk result (IfSome (D.seen disk.old) (IsUnused election.now)) }
+    ensures refused { IfErr result (λ fault. IfSome (D.seen disk.old)
+        (λ bytes. IsRefusedDisk election.now bytes (init_fault fault))) }
+    ensures unchanged { IfErr result
+        (λ fault. IsUnchangedAt (init_fault fault) (D.seen disk.old) (D.seen disk.new)) }
+    ensures unharmed { IfErr result (λ fault. (bytes : List ℕ) → D.seen disk.old ≡ Some bytes
+        → IsUnharmedAt (disk_model D.seen D.calls D.may_leave D.faults) (init_fault fault)
+        disk.old disk.new) }
+    ensures told { is_some (D.seen disk.new) ≡ is_some (D.seen disk.old) }
+    ensures any_moment { (bytes : List ℕ) → D.seen disk.old ≡ Some bytes
+        → SyncsFirst D.calls D.may_leave disk.old disk.new
+        (IsUntouchedOr election.now closed.now.ballots bytes) }
+    ensures later { D.calls disk.old ≤ D.calls disk.new }
+    ensures fault { CountsFaultIf (IsErrOf result FillFault.DiskFault)
+        (D.faults disk.old) (D.faults disk.new) }
+{
     settle(disk)?;
     look(disk, election)?;
-    let closed = Closed::empty(alloc, election)?;
     write_banks(disk, election, closed.image())?;
     open_both_gates(disk, election)?;
     Ok(())
 }
 
+/// Tells whether a disk is unused, and syncs it first.
+fn find_unused<D: Disk>(disk: &mut D, election: &Election) -> Result<(), FillFault>
+    ensures same_bytes { OnOk result (D.seen disk.new ≡ D.seen disk.old) }
+    ensures refused { IfErr result (λ fault. IfSome (D.seen disk.old)
+        (λ bytes. IsRefusedDisk election.now bytes (init_fault fault))) }
+    ensures unchanged { IfErr result
+        (λ fault. IsUnchangedAt (init_fault fault) (D.seen disk.old) (D.seen disk.new)) }
+    ensures unharmed { (bytes : List ℕ) → D.seen disk.old ≡ Some bytes
+        → LeavesOnly D.calls D.may_leave disk.old disk.new
+        (leaves_now D.calls D.may_leave disk.old) }
+    ensures told { is_some (D.seen disk.new) ≡ is_some (D.seen disk.old) }
+    ensures any_moment { (bytes : List ℕ) → D.seen disk.old ≡ Some bytes
+        → SyncsFirst D.calls D.may_leave disk.old disk.new (IsUntouchedOrNew election.now bytes) }
+    ensures later { D.calls disk.old ≤ D.calls disk.new }
+    ensures fault { CountsFaultIf (IsErrOf result FillFault.DiskFault)
+        (D.faults disk.old) (D.faults disk.new) }
+{
+    settle(disk)?;
+    look(disk, election)
+}
+
 /// Tells whether a disk is unused.
-fn look<D: Disk>(disk: &mut D, election: &Election) -> Result<(), InitFault>
+fn look<D: Disk>(disk: &mut D, election: &Election) -> Result<(), FillFault>
     requires { IsSettled D.seen D.calls D.may_leave disk.old }
     ensures unused { OnOk result (IfSome (D.seen disk.old) (IsUnused election.now)) }
-    ensures refused { IfErr result
-        (λ fault. IfSome (D.seen disk.old) (λ bytes. IsRefusedDisk election.now bytes fault)) }
+    ensures refused { IfErr result (λ fault. IfSome (D.seen disk.old)
+        (λ bytes. IsRefusedDisk election.now bytes (init_fault fault))) }
     ensures same_bytes { D.seen disk.new ≡ D.seen disk.old }
     ensures settled { IsSettled D.seen D.calls D.may_leave disk.new }
     ensures any_moment { (bytes : List ℕ) → D.seen disk.old ≡ Some bytes
         → LeavesOnly D.calls D.may_leave disk.old disk.new (λ c. c ≡ bytes) }
     ensures later { D.calls disk.old ≤ D.calls disk.new }
-    ensures fault { CountsFaultIf (IsErrOf result InitFault.DiskFault)
+    ensures fault { CountsFaultIf (IsErrOf result FillFault.DiskFault)
         (D.faults disk.old) (D.faults disk.new) }
 {
     let size = disk.size()?;
     if size > election.medium_bytes() {
-        return Err(InitFault::WrongSize { size });
+        return Err(FillFault::WrongSize { size });
     }
     if size < election.medium_bytes() {
         return Ok(());
     }
     match gates(disk, election)? {
         (false, false) => Ok(()),
-        _ => Err(InitFault::Exists),
+        _ => Err(FillFault::Exists),
     }
 }
 

@@ -1,10 +1,10 @@
-//! A medium is made anew: for a store that takes another's place, and for the empty store on an unused disk.
+//! A medium is made anew: for a store that takes another's place, and on an unused disk.
 #![tactic(auto)]
 
 mod fresh;
 mod medium;
 mod renewal;
 
-pub use fresh::{InitFault, init};
+pub use fresh::{FillFault, InitFault, fill, init};
 pub use medium::checkpoint;
 pub use renewal::{fill_bank, renew_bank};

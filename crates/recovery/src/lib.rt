@@ -3,9 +3,9 @@
 
 mod fault;
 pub mod laws;
-mod look;
+mod reading;
 mod restoring;
 
 pub use fault::RecoverFault;
-pub use look::{choose, first_difference, read_bank};
+pub use reading::{choose, first_difference, look, read_bank};
 pub use restoring::{other_of, recover};

@@ -17,7 +17,7 @@ ghost use Rattle.store_spec.specs.Image.{IsImageOf};
 ghost use Rattle.store_spec.specs.Medium.{HoldsSet, HoldsTheSame, IsMediumOf, IsOpen, other_bank};
 
 use crate::fault::RecoverFault;
-use crate::look::{choose, has_bytes, read_bank};
+use crate::reading::{choose, has_bytes, read_bank};
 use ballot_record::Election;
 use bank_medium::{Bank, settle};
 use body_store::Closed;

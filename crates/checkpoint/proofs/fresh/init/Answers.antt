@@ -1,99 +1,11 @@
-use Rattle.std.proofs.Common.{◌≡◌, ℕ, ◌*◌, List, [], ◌++◌, length, Option, sym, ◌∙◌, ap, inl, subst, arith, length-append}
-use Rattle.std.specs.Prelude.{option_map, IfSome}
+use Rattle.std.proofs.Common.{ap, subst, List}
 use Rattle.body_store.specs.Contents.{Contents}
-use Rattle.crash_disk.proofs.Moments.{synced_first}
-use Rattle.checkpoint.proofs.Pages.{pages_begin, stored_fits}
-use Rattle.checkpoint.proofs.Starting.{made_told, run_looking, run_opening, run_writing}
 use Rattle.checkpoint.proofs.fresh.init.Goals as goal
-use Rattle.checkpoint.specs.Unused.{IsUntouchedOrNew}
-use Rattle.outside_io.proofs.Told.{told_holds}
-use Rattle.store_spec.specs.Disk.{overwritten}
+use Rattle.outside_io.specs.Told.{IfTold}
 use Rattle.store_spec.specs.Ballot.{Ballot}
-use Rattle.store_spec.specs.Election.{Election, bank_size}
-use Rattle.store_spec.specs.Image.{image_of}
-use Rattle.store_spec.specs.Medium.{IsUnused}
+use Rattle.store_spec.specs.Medium.{IsMediumOf}
 
--- both banks have the image that was made
-both_made : (e : Election) (ballots : List Ballot) (made : List ℕ) (now old : Option (List ℕ)) → made ≡ image_of e ballots → now ≡ option_map (overwritten 0 (made ++ made)) old
-    → now ≡ option_map (overwritten 0 (image_of e ballots ++ image_of e ballots)) old
-both_made e ballots made now old is written = subst (λ (xs : List ℕ). now ≡ option_map (overwritten 0 (xs ++ xs)) old) is written
-
-pub returns-in_err-look-clause-any_moment : goal.returns-in_err-look-clause-any_moment
-returns-in_err-look-clause-any_moment g c bytes sees =
-    let e = c.args.election.now in
-    inl (synced_first g.D.Disk.calls g.D.Disk.may_leave c.args.disk.now c.settle.new.disk c.look.new.disk (IsUntouchedOrNew e bytes) c.settle.ensures.crash_images
-    (run_looking g.D.Disk.calls g.D.Disk.may_leave e bytes c.settle.new.disk c.look.new.disk (c.look.ensures.any_moment bytes (c.in_ok-settle.ensures.same_bytes ∙ sees))))
-
-pub returns-in_err-closed-clause-any_moment : goal.returns-in_err-closed-clause-any_moment
-returns-in_err-closed-clause-any_moment g c bytes sees =
-    let e = c.args.election.now in
-    inl (synced_first g.D.Disk.calls g.D.Disk.may_leave c.args.disk.now c.settle.new.disk c.look.new.disk (IsUntouchedOrNew e bytes) c.settle.ensures.crash_images
-    (run_looking g.D.Disk.calls g.D.Disk.may_leave e bytes c.settle.new.disk c.look.new.disk (c.look.ensures.any_moment bytes (c.in_ok-settle.ensures.same_bytes ∙ sees))))
-
-pub returns-in_err-write_banks-clause-any_moment : goal.returns-in_err-write_banks-clause-any_moment
-returns-in_err-write_banks-clause-any_moment g c bytes sees =
-    let e = c.args.election.now in
-    let synced = c.in_ok-settle.ensures.same_bytes ∙ sees in
-    let unused = told_holds (IsUnused e) bytes synced c.in_ok-look.ensures.unused in
-    inl (synced_first g.D.Disk.calls g.D.Disk.may_leave c.args.disk.now c.settle.new.disk c.write_banks.new.disk (IsUntouchedOrNew e bytes) c.settle.ensures.crash_images
-    (run_writing g.D.Disk.calls g.D.Disk.may_leave e bytes c.settle.new.disk c.look.new.disk c.write_banks.new.disk unused
-    (run_looking g.D.Disk.calls g.D.Disk.may_leave e bytes c.settle.new.disk c.look.new.disk (c.look.ensures.any_moment bytes synced)) c.write_banks.ensures.any_moment))
-
-pub open_both_gates-requires-clause-banks : goal.open_both_gates-requires-clause-banks
-open_both_gates-requires-clause-banks g c y is =
-    let e = c.args.election.now in
-    let store = c.in_ok-closed.closed in
-    let own : e ≡ store.election = sym (ap (λ (s : Contents). s.election) c.in_ok-closed.ensures) in
-    let fits = stored_fits e store own c.image.ensures.stored in
-    let image = image_of e store.ballots in
-    let long : length (image ++ image) ≡ 2 * bank_size e = omega (arith, length-append image image, fits.long) in
-    let here = pages_begin (g.D.Disk.seen c.write_banks.new.disk) (g.D.Disk.seen c.look.new.disk) (image ++ image) 0 (2 * bank_size e) long (λ x _. omega arith) (both_made e store.ballots c.image.result.now (g.D.Disk.seen c.write_banks.new.disk) (g.D.Disk.seen c.look.new.disk) (c.image.ensures.image ∙ ap (λ (s : Contents). image_of s.election store.ballots) c.in_ok-closed.ensures) c.in_ok-write_banks.ensures.written) y is in
-    omega (arith, here)
-
-pub returns-in_err-open_both_gates-clause-any_moment : goal.returns-in_err-open_both_gates-clause-any_moment
-returns-in_err-open_both_gates-clause-any_moment g c bytes sees =
-    let e = c.args.election.now in
-    let store = c.in_ok-closed.closed in
-    let own : e ≡ store.election = sym (ap (λ (s : Contents). s.election) c.in_ok-closed.ensures) in
-    let none : store.ballots ≡ [] = ap (λ (s : Contents). s.ballots) c.in_ok-closed.ensures in
-    let fits = stored_fits e store own c.image.ensures.stored in
-    let image = image_of e store.ballots in
-    let synced = c.in_ok-settle.ensures.same_bytes ∙ sees in
-    let unused = told_holds (IsUnused e) bytes synced c.in_ok-look.ensures.unused in
-    let written = (both_made e store.ballots c.image.result.now (g.D.Disk.seen c.write_banks.new.disk) (g.D.Disk.seen c.look.new.disk) (c.image.ensures.image ∙ ap (λ (s : Contents). image_of s.election store.ballots) c.in_ok-closed.ensures) c.in_ok-write_banks.ensures.written) ∙ ap (option_map (overwritten 0 (image ++ image))) (c.look.ensures.same_bytes ∙ synced) in
-    inl (synced_first g.D.Disk.calls g.D.Disk.may_leave c.args.disk.now c.settle.new.disk c.open_both_gates.new.disk (IsUntouchedOrNew e bytes) c.settle.ensures.crash_images
-    (run_opening g.D.Disk.calls g.D.Disk.may_leave e bytes c.settle.new.disk c.write_banks.new.disk c.open_both_gates.new.disk store.ballots none fits unused
-    (run_writing g.D.Disk.calls g.D.Disk.may_leave e bytes c.settle.new.disk c.look.new.disk c.write_banks.new.disk unused
-    (run_looking g.D.Disk.calls g.D.Disk.may_leave e bytes c.settle.new.disk c.look.new.disk (c.look.ensures.any_moment bytes synced)) c.write_banks.ensures.any_moment)
-    (c.open_both_gates.ensures.any_moment (overwritten 0 (image ++ image) bytes) written)))
-
-pub returns-clause-medium : goal.returns-clause-medium
-returns-clause-medium g c =
-    let e = c.args.election.now in
-    let store = c.in_ok-closed.closed in
-    let own : e ≡ store.election = sym (ap (λ (s : Contents). s.election) c.in_ok-closed.ensures) in
-    let none : store.ballots ≡ [] = ap (λ (s : Contents). s.ballots) c.in_ok-closed.ensures in
-    let fits = stored_fits e store own c.image.ensures.stored in
-    let image = image_of e store.ballots in
-    let same = c.look.ensures.same_bytes ∙ c.in_ok-settle.ensures.same_bytes in
-    made_told e (g.D.Disk.seen c.open_both_gates.new.disk) (g.D.Disk.seen c.write_banks.new.disk) (g.D.Disk.seen c.args.disk.now) store.ballots none fits
-    (subst (λ o. IfSome o (IsUnused e)) c.in_ok-settle.ensures.same_bytes c.in_ok-look.ensures.unused)
-    ((both_made e store.ballots c.image.result.now (g.D.Disk.seen c.write_banks.new.disk) (g.D.Disk.seen c.look.new.disk) (c.image.ensures.image ∙ ap (λ (s : Contents). image_of s.election store.ballots) c.in_ok-closed.ensures) c.in_ok-write_banks.ensures.written) ∙ ap (option_map (overwritten 0 (image ++ image))) same)
-    c.in_ok-open_both_gates.ensures.written
-
-pub returns-clause-any_moment : goal.returns-clause-any_moment
-returns-clause-any_moment g c bytes sees =
-    let e = c.args.election.now in
-    let store = c.in_ok-closed.closed in
-    let own : e ≡ store.election = sym (ap (λ (s : Contents). s.election) c.in_ok-closed.ensures) in
-    let none : store.ballots ≡ [] = ap (λ (s : Contents). s.ballots) c.in_ok-closed.ensures in
-    let fits = stored_fits e store own c.image.ensures.stored in
-    let image = image_of e store.ballots in
-    let synced = c.in_ok-settle.ensures.same_bytes ∙ sees in
-    let unused = told_holds (IsUnused e) bytes synced c.in_ok-look.ensures.unused in
-    let written = (both_made e store.ballots c.image.result.now (g.D.Disk.seen c.write_banks.new.disk) (g.D.Disk.seen c.look.new.disk) (c.image.ensures.image ∙ ap (λ (s : Contents). image_of s.election store.ballots) c.in_ok-closed.ensures) c.in_ok-write_banks.ensures.written) ∙ ap (option_map (overwritten 0 (image ++ image))) (c.look.ensures.same_bytes ∙ synced) in
-    inl (synced_first g.D.Disk.calls g.D.Disk.may_leave c.args.disk.now c.settle.new.disk c.open_both_gates.new.disk (IsUntouchedOrNew e bytes) c.settle.ensures.crash_images
-    (run_opening g.D.Disk.calls g.D.Disk.may_leave e bytes c.settle.new.disk c.write_banks.new.disk c.open_both_gates.new.disk store.ballots none fits unused
-    (run_writing g.D.Disk.calls g.D.Disk.may_leave e bytes c.settle.new.disk c.look.new.disk c.write_banks.new.disk unused
-    (run_looking g.D.Disk.calls g.D.Disk.may_leave e bytes c.settle.new.disk c.look.new.disk (c.look.ensures.any_moment bytes synced)) c.write_banks.ensures.any_moment)
-    (c.open_both_gates.ensures.any_moment (overwritten 0 (image ++ image) bytes) written)))
+pub returns-in_ok-fill-in-Ok-clause-medium : goal.returns-in_ok-fill-in-Ok-clause-medium
+returns-in_ok-fill-in-Ok-clause-medium g c =
+    subst (λ (set : List Ballot). IfTold (g.D.Disk.seen c.args.disk.now) (g.D.Disk.seen c.fill.new.disk) (λ _ bytes. IsMediumOf c.args.election.now bytes set))
+    (ap (λ (store : Contents). store.ballots) c.in-Ok.ensures) c.in_ok-fill-in-Ok.ensures.medium

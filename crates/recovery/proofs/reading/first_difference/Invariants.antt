@@ -1,7 +1,7 @@
 use Rattle.std.proofs.Common.{◌≡◌, ◌-◌, ◌≤◌, take}
 use Rattle.std.specs.Prelude.{IfSome}
 use Rattle.bank_medium.specs.Banks.{bytes_of}
-use Rattle.recovery.proofs.look.first_difference.Given as goal
+use Rattle.recovery.proofs.reading.first_difference.Given as goal
 use Rattle.recovery.specs.ReadsOnly.{WritesNothing}
 
 -- the pages so far agree

@@ -13,6 +13,7 @@ ghost use Rattle.recovery.specs.Refused.{IsRefusedMedium};
 ghost use Rattle.store_spec.specs.Disk.{KeepsCrashImages};
 ghost use Rattle.store_spec.specs.Election.{IsElection, bank_size};
 ghost use Rattle.store_spec.specs.Fault.{CountsFault, CountsFaultIf};
+ghost use Rattle.store_spec.specs.Medium.{HoldsSet};
 
 use crate::fault::RecoverFault;
 use ballot_record::Election;
@@ -22,6 +23,28 @@ use crash_disk::Disk;
 use image_builder::{CellsRead, PAGE_BYTES};
 use outside_io::{Failed, Memory};
 use std::alloc::Global;
+
+/// The store that the bytes read now hold. It asks for the size and reads: it neither writes nor syncs, so the disk need
+/// not be settled, and at each moment a crash leaves what it might have left at the start, whatever is answered.
+pub fn look<D: Disk>(
+    alloc: Global,
+    disk: &mut D,
+    election: &Election,
+) -> Result<Closed, RecoverFault>
+    ensures held { IfOk result (λ store. IfSome (D.seen disk.old)
+        (λ bytes. HoldsSet election.now bytes store.ballots)) }
+    ensures election { IfOk result (λ store. store.election ≡ election.now) }
+    ensures stored { IfOk result IsStored }
+    ensures refused { IfErr result
+        (λ fault. IfSome (D.seen disk.old) (λ bytes. IsRefusedMedium election.now bytes fault)) }
+    ensures reads { WritesNothing D.seen D.calls D.may_leave disk.old disk.new }
+    ensures later { D.calls disk.old ≤ D.calls disk.new }
+    ensures fault { CountsFaultIf (IsErrOf result RecoverFault.DiskFault)
+        (D.faults disk.old) (D.faults disk.new) }
+{
+    let (bank, _) = choose(disk, election)?;
+    read_bank(alloc, disk, election, bank)
+}
 
 /// The bank that is read, and whether the gate of the other one is open.
 pub fn choose<D: Disk>(disk: &mut D, election: &Election) -> Result<(Bank, bool), RecoverFault>

@@ -8,7 +8,7 @@ use Rattle.bank_medium.specs.Banks.{bank_named, bytes_of}
 use Rattle.image_builder.specs.Feeding.{Feeding}
 use Rattle.recovery.proofs.OnlyReading.{nothing_on}
 use Rattle.recovery.proofs.Paging.{IsFedFrom, all_told, fed_more, refused_told}
-use Rattle.recovery.proofs.look.read_pages.Goals as goal
+use Rattle.recovery.proofs.reading.read_pages.Goals as goal
 
 -- the next page is kept behind those before it
 kept_more : (made page : List ℕ) (at count : ℕ) → at + count ≤ length made → length page ≡ count → take (at + count) (put_mid at (at + count - at) made page) ≡ take at made ++ page

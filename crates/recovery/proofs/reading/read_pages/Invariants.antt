@@ -2,7 +2,7 @@ use Rattle.std.proofs.Common.{◌≡◌, ◌-◌, ◌≤◌, take, length}
 use Rattle.bank_medium.specs.Banks.{bank_named}
 use Rattle.image_builder.specs.Cells.{AreJudged}
 use Rattle.recovery.proofs.Paging.{IsFedFrom}
-use Rattle.recovery.proofs.look.read_pages.Given as goal
+use Rattle.recovery.proofs.reading.read_pages.Given as goal
 use Rattle.recovery.specs.ReadsOnly.{WritesNothing}
 
 -- the pages so far were read, and judged

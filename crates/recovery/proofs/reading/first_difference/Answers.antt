@@ -5,7 +5,7 @@ use Rattle.checkpoint.proofs.Pages.{page_long}
 use Rattle.recovery.proofs.Differences.{none_of}
 use Rattle.recovery.proofs.OnlyReading.{nothing_on}
 use Rattle.recovery.proofs.Paging.{agrees_told, differs_told, whole_told}
-use Rattle.recovery.proofs.look.first_difference.Goals as goal
+use Rattle.recovery.proofs.reading.first_difference.Goals as goal
 use Rattle.recovery.specs.Differing.{IsFirstDifference}
 
 pub returns-in-Some-clause-difference : goal.returns-in-Some-clause-difference

@@ -1,5 +1,5 @@
 use Rattle.std.proofs.Common.{◌≡◌, take}
-use Rattle.recovery.proofs.look.first_differing.Given as goal
+use Rattle.recovery.proofs.reading.first_differing.Given as goal
 
 -- the bytes so far are the same
 abbrev pub invariant-loop-place : goal.invariant-loop-place

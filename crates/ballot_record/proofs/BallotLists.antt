@@ -1,0 +1,93 @@
+-- The bytes of the cells of ballots, one behind another, and the ballots that they spell.
+use Rattle.std.proofs.Common.{◌≡◌, ℕ, zero, suc, ◌+◌, ◌*◌, ◌^◌, ◌<◌, ◌≤◌, List, [], ◌∷◌, ◌++◌, Some, None, length, get_or, take, drop, refl, sym, ap, ap₂, subst, ◌∙◌, arith, length-append, mul-le-mul_right}
+use Rattle.std.proofs.lemmas.List.{drop-drop, drop_at, flat_map_more, length-map, take_at}
+use Rattle.std.proofs.lemmas.List.Concat.{flat_map-cons}
+use Rattle.std.proofs.lemmas.List.Elements.{All-contains, All-head, All-push, All-tail}
+use Rattle.std.proofs.lemmas.Option.{get_or_from_slice_get, slice_get-get_or, slice_get-map, slice_get_within}
+use Rattle.std.specs.List.{All, flat_map, slice_get}
+use Rattle.ballot_record.proofs.CellFormat.{length-ballot_bytes, number_of_bytes, spells_itself}
+use Rattle.ballot_record.specs.BallotList.{ballots_at}
+use Rattle.ballot_record.specs.Format.{ballot_at}
+use Rattle.store_spec.specs.Ballot.{Ballot, IsValid, numbers_of}
+use Rattle.store_spec.specs.Damage.{number_at}
+use Rattle.store_spec.specs.Election.{Election, IsElection, cell_size}
+use Rattle.store_spec.specs.Image.{ballot_bytes}
+
+-- the bytes are those of the cells of valid ballots
+pub record AreCellsOf (e : Election) (bytes : List ℕ) (ballots : List Ballot) : Type 0 where
+  pub election : IsElection e
+  pub valid : All (IsValid e) ballots
+  pub cells : bytes ≡ flat_map (ballot_bytes e) ballots
+
+pub length-ballots_at : (e : Election) (n : ℕ) (bytes : List ℕ) → length (ballots_at e n bytes) ≡ n
+unfolding ballots_at
+length-ballots_at e zero bytes = refl
+length-ballots_at e (suc n) bytes = ap suc (length-ballots_at e n (drop (cell_size e) bytes))
+
+-- ballots are spelled by their cells
+pub spelled_again : (e : Election) (ballots : List Ballot) → IsElection e → All (IsValid e) ballots → ballots_at e (length ballots) (flat_map (ballot_bytes e) ballots) ≡ ballots
+unfolding ballots_at
+spelled_again e [] election valid = refl
+spelled_again e (b ∷ ballots) election valid =
+    let own = All-head (IsValid e) b ballots valid in
+    let more = flat_map (ballot_bytes e) ballots in
+    let long = length-ballot_bytes e b election own in
+    ap (ballots_at e (suc (length ballots))) (flat_map-cons (ballot_bytes e) b ballots)
+    ∙ ap₂ (λ x xs. x ∷ xs)
+    (ap (ballot_at (length e.contests)) (take_at (ballot_bytes e b) more (cell_size e) long) ∙ spells_itself e b election own)
+    (ap (ballots_at e (length ballots)) (drop_at (ballot_bytes e b) more (cell_size e) long)
+    ∙ spelled_again e ballots election (All-tail (IsValid e) b ballots valid))
+
+pub length-cells : (e : Election) (ballots : List Ballot) → IsElection e → All (IsValid e) ballots → length (flat_map (ballot_bytes e) ballots) ≡ length ballots * cell_size e
+length-cells e [] election valid = let none : 0 ≡ 0 * cell_size e = omega arith in none
+length-cells e (b ∷ ballots) election valid =
+    let f = ballot_bytes e in
+    omega (
+      arith,
+      ap length (flat_map-cons f b ballots),
+      length-append (f b) (flat_map f ballots),
+      length-ballot_bytes e b election (All-head (IsValid e) b ballots valid),
+      length-cells e ballots election (All-tail (IsValid e) b ballots valid),
+    )
+
+-- the cell at a place is that of the ballot there
+pub cell_at_place : (e : Election) (ballots : List Ballot) (place : ℕ) (b : Ballot) → IsElection e → All (IsValid e) ballots → slice_get ballots place ≡ Some b
+    → take (cell_size e) (drop (place * cell_size e) (flat_map (ballot_bytes e) ballots)) ≡ ballot_bytes e b
+cell_at_place e [] place b election valid there = absurd cc
+cell_at_place e (x ∷ xs) zero b election valid there =
+    let f = ballot_bytes e in
+    let same : x ≡ b = cc in
+    ap (λ k. take (cell_size e) (drop k (flat_map f (x ∷ xs)))) (let none : 0 * cell_size e ≡ 0 = omega arith in none)
+    ∙ ap (take (cell_size e)) (flat_map-cons f x xs)
+    ∙ take_at (f x) (flat_map f xs) (cell_size e) (length-ballot_bytes e x election (All-head (IsValid e) x xs valid))
+    ∙ ap f same
+cell_at_place e (x ∷ xs) (suc place) b election valid there =
+    let f = ballot_bytes e in
+    let size = cell_size e in
+    ap (λ k. take size (drop k (flat_map f (x ∷ xs)))) (let next : suc place * size ≡ size + place * size = omega arith in next)
+    ∙ ap (λ bytes. take size (drop (size + place * size) bytes)) (flat_map-cons f x xs)
+    ∙ ap (take size) (sym (drop-drop (place * size) size (f x ++ flat_map f xs)))
+    ∙ ap (λ bytes. take size (drop (place * size) bytes))
+    (drop_at (f x) (flat_map f xs) size (length-ballot_bytes e x election (All-head (IsValid e) x xs valid)))
+    ∙ cell_at_place e xs place b election (All-tail (IsValid e) x xs valid) there
+
+-- a cell ends within the bytes
+pub cell_within : (place count size : ℕ) → place < count → place * size + size ≤ count * size
+cell_within place count size within =
+    let next : (place + 1) * size ≡ place * size + size = omega arith in
+    let fits : (place + 1) * size ≤ count * size = mul-le-mul_right size (let le : place + 1 ≤ count = omega arith in le) in
+    omega (arith, next, fits)
+
+-- one ballot more
+pub one_more : (e : Election) (n : ℕ) (bytes cell : List ℕ) (b : Ballot) → AreCellsOf e bytes (ballots_at e n bytes) → IsValid e b → cell ≡ ballot_bytes e b
+    → (ballots_at e (n + 1) (bytes ++ cell) ≡ ballots_at e n bytes ++ b ∷ []) × AreCellsOf e (bytes ++ cell) (ballots_at e n bytes ++ b ∷ [])
+one_more e n bytes cell b are own is =
+    let f = ballot_bytes e in
+    let ballots = ballots_at e n bytes in
+    let all = ballots ++ b ∷ [] in
+    let valid = All-push (IsValid e) ballots b are.valid own in
+    let parted : bytes ++ cell ≡ flat_map f all = ap₂ (λ xs ys. xs ++ ys) are.cells is ∙ flat_map_more f [] ballots b in
+    let count : n + 1 ≡ length all = omega (arith, length-ballots_at e n bytes, length-append ballots (b ∷ [])) in (
+      ap₂ (ballots_at e) count parted ∙ spelled_again e all are.election valid,
+      record { election = are.election; valid = valid; cells = parted },
+    )

@@ -1,0 +1,42 @@
+use Rattle.std.proofs.Common.{◌≡◌, ◌+◌, ◌≤◌, length, refl, sym, ap, subst, ◌∙◌, arith, vec_capacity}
+use Rattle.std.proofs.lemmas.Bool.{false≢true}
+use Rattle.ballot_record.proofs.BallotListKept.{few_kept, put_behind, room_for_one}
+use Rattle.ballot_record.proofs.list.BallotList.push_from.Goals as goal
+use Rattle.ballot_record.specs.BallotList.{ListedBallots, with_more}
+use Rattle.ballot_record.specs.declared.list.BallotList.TheInside.{Inside}
+use Rattle.store_spec.specs.Election.{Election, cell_size}
+use Rattle.store_spec.specs.Image.{IsCellOf}
+
+pub prove-unreachable-requires : goal.prove-unreachable-requires
+prove-unreachable-requires c =
+    let a = c.self.inside in
+    omega (arith, few_kept a c.len-long.result c.self.invariant (c.len-long.ensures ∙ a.bytes.ok.0), c.if-prove.true)
+
+pub returns-in_err-extend_from_slice-clause-room : goal.returns-in_err-extend_from_slice-clause-room
+returns-in_err-extend_from_slice-clause-room c some =
+    let a = c.self.inside in
+    let own = c.requires.election ∙ sym (ap (λ (list : ListedBallots). list.election) c.self.view_is) in
+    let fits = room_for_one a c.args.self.now c.self.invariant c.self.view_is some in
+    absurd (false≢true (c.in_err-extend_from_slice.ensures.succeeds (omega (arith, fits, c.cell.ensures.long, ap cell_size own, a.bytes.ok.0))))
+
+pub invariant_of-self-2 : goal.invariant_of-self-2
+invariant_of-self-2 c =
+    let a = c.self.inside in
+    let there = c.cell.ensures.cell in
+    let own = c.requires.election ∙ sym (ap (λ (list : ListedBallots). list.election) c.self.view_is) in
+    let now : Inside = record { of = a.of; size = a.size; bytes = c.extend_from_slice.new.self; count = a.count + 1; places = a.places } in
+    (put_behind a now c.cell.result.now there.0 c.self.invariant (subst (λ (e : Election). IsCellOf e c.cell.result.now there.0) own there.2)
+    refl refl refl refl c.in_ok-extend_from_slice.ensures.items c.in_ok-extend_from_slice.ensures.capacity).0
+
+pub returns-clause-pushed : goal.returns-clause-pushed
+returns-clause-pushed c =
+    let a = c.self.inside in
+    let there = c.cell.ensures.cell in
+    let own = c.requires.election ∙ sym (ap (λ (list : ListedBallots). list.election) c.self.view_is) in
+    let now : Inside = record { of = a.of; size = a.size; bytes = c.extend_from_slice.new.self; count = a.count + 1; places = a.places } in (
+      there.0,
+      there.1,
+      (put_behind a now c.cell.result.now there.0 c.self.invariant (subst (λ (e : Election). IsCellOf e c.cell.result.now there.0) own there.2)
+          refl refl refl refl c.in_ok-extend_from_slice.ensures.items c.in_ok-extend_from_slice.ensures.capacity).1
+          ∙ ap (λ list. with_more list there.0) c.self.view_is,
+    )
