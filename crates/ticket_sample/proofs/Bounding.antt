@@ -50,7 +50,7 @@ no_tie a b other not = told (lot_cmp a b) refl where
   told Equal is = absurd (other (same_numbers a.1 b.1 (second (slice_cmp nat_cmp a.0 b.0) (nat_cmp a.1 b.1) is)))
   told Greater is = absurd (true≢false (sym (ap is_lt (back ∙ ap ordering_reverse is)) ∙ not))
 
-numbers_apart : (xs ys : List ℕ) → IsPermutation xs ys → AreApart xs → AreApart ys
+pub numbers_apart : (xs ys : List ℕ) → IsPermutation xs ys → AreApart xs → AreApart ys
 numbers_apart xs ys p apart =
     AllPairs-from_IsDistinct Decides-eqb ys (IsDistinct-IsPermutation nat_eq (λ x y. grind (arith, nat_tests)) xs ys p (IsDistinct-from_AllPairs Decides-eqb xs apart))
 

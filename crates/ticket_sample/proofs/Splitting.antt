@@ -23,7 +23,7 @@ count_all p (x ∷ xs) all =
     let rest = count_all p xs (All-tail (λ x. p x ≡ true) x xs all) in
     omega (arith, first, rest, sum_by-cons (λ x. cond (p x) 1 0) x xs)
 
-count_none : {X : Type 0} (p : X → Bool) (xs : List X) → All (λ x. p x ≡ false) xs → count_by p xs ≡ 0
+pub count_none : {X : Type 0} (p : X → Bool) (xs : List X) → All (λ x. p x ≡ false) xs → count_by p xs ≡ 0
 count_none p [] all = refl
 count_none p (x ∷ xs) all =
     let first = cond-false {A = ℕ} (p x) 1 0 (All-head (λ x. p x ≡ false) x xs all) in

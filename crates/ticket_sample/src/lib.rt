@@ -3,6 +3,7 @@
 
 mod compare;
 mod drawing;
+pub mod laws;
 mod tickets;
 
 pub use compare::{Compare, CompareReply};
