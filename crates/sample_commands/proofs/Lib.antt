@@ -1,2 +1,7 @@
+pub mod Answering
+pub mod CompareLaws
+pub mod Deciding
 pub mod Numbers
+pub mod SampleLaws
 pub mod Sampling
+pub mod Telling

@@ -108,21 +108,21 @@ LinesEnd e sample status.Memory before after =
 LinesEnd e sample other before after = ⊥
 
 -- the disk holds a set, and the lines were compared with its sample
-pub record Compares {S K D : Type 0} (model : DiskModel D) (e : Election) (asked : Asked) (status : Status) (before after : World S K D) : Type 0 where
+pub record Compares {S K D : Type 0} (model : DiskModel D) (e : Election) (asked : Asked) (status : Status) (before after : Outside S K) (old new : D) : Type 0 where
   pub set : List Ballot
-  pub shows : ShowsSet model e set before.disk after.disk
-  pub ends : LinesEnd e (asked_sample asked set) status before.streams after.streams
+  pub shows : ShowsSet model e set old new
+  pub ends : LinesEnd e (asked_sample asked set) status before after
 
 -- it shows none, and script and sink were left alone
-pub record ComparesNone {S K D : Type 0} (model : DiskModel D) (e : Election) (status : Status) (before after : World S K D) : Type 0 where
-  pub shows : ShowsNone model e status before.disk after.disk
-  pub untouched : after.streams ≡ before.streams
+pub record ComparesNone {S K D : Type 0} (model : DiskModel D) (e : Election) (status : Status) (before after : Outside S K) (old new : D) : Type 0 where
+  pub shows : ShowsNone model e status old new
+  pub untouched : after ≡ before
 
--- All that a run of `compare` promises under an election. Nothing is written to the disk: a read gives what it gave, and a
--- crash at each moment leaves what it might have left before.
-pub record CompareEnds {S K D : Type 0} (model : DiskModel D) (e : Election) (asked : Asked) (status : Status) (before after : World S K D) : Type 0 where
-  pub tells : ComparesNone model e status before after ⊎ Compares model e asked status before after
-  pub writes_nothing : WritesNothing model.seen model.calls model.may_leave before.disk after.disk
+-- All that a run of `compare` promises under an election; `old` and `new` are the disk before and after. Nothing is written
+-- to it: a read gives what it gave, and a crash at each moment leaves what it might have left before.
+pub record CompareEnds {S K D : Type 0} (model : DiskModel D) (e : Election) (asked : Asked) (status : Status) (before after : Outside S K) (old new : D) : Type 0 where
+  pub tells : ComparesNone model e status before after old new ⊎ Compares model e asked status before after old new
+  pub writes_nothing : WritesNothing model.seen model.calls model.may_leave old new
 
 -- ---- the row
 
@@ -131,7 +131,7 @@ abbrev pub HasLines : Election → Content → Type 0
 HasLines e content = HoldsSome e content.disk × (length content.script ≤ script_limit)
 
 abbrev compare_ends : {S K D : Type 0} → Asked → DiskModel D → Election → Status → Reported → World S K D → World S K D → Type 0
-compare_ends asked model e status report before after = CompareEnds model e asked status before after
+compare_ends asked model e status report before after = CompareEnds model e asked status before.streams after.streams before.disk after.disk
 
 abbrev pub compare_row : Asked → Row
 compare_row asked = record {

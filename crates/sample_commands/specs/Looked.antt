@@ -1,5 +1,5 @@
 -- What is found on a medium that is read, and not written.
-use Rattle.std.specs.Prelude.{◌≡◌, ℕ, List, IfSome}
+use Rattle.std.specs.Prelude.{◌≡◌, List, IfSome}
 use Rattle.medium_commands.specs.Audit.{FindsNone}
 use Rattle.recovery.specs.declared.fault.RecoverFault.TheVariants as faults
 use Rattle.run_outcome.specs.declared.status.Status.{Status}

@@ -3,9 +3,9 @@
 ghost use Rattle.std.specs.Prelude.{◌≡◌, ◌≤◌, ◌∷◌, ◌++◌, ◌<◌, [], AllPairs, IfOk, OnOk, codes, string_bytes};
 ghost use Rattle.outside_io.specs.Outside.{input, output, outside};
 ghost use Rattle.run_outcome.specs.Status.{ended};
-ghost use Rattle.run_outcome.specs.World.{world};
 ghost use Rattle.sample_commands.specs.Compare.{CompareEnds, LinesEnd, Tells, reply_line, reply_word};
 ghost use Rattle.store_spec.specs.Disk.{disk_model};
+ghost use Rattle.store_spec.specs.Election.{IsElection};
 ghost use Rattle.store_spec.specs.Input.{line_end};
 ghost use Rattle.store_spec.specs.Report.{count_line, lines_text};
 
@@ -101,11 +101,17 @@ fn answer_lines<S: Source, K: Sink>(
             Ok(NextLine::Whole) => {
                 count += 1;
                 let reply = compare.line(lines.line(), election);
-                answer(out, count, reply, &mut text)?;
+                match answer(out, count, reply, &mut text) {
+                    Ok(()) => {}
+                    Err(status) => return Err(status),
+                }
             }
             Ok(NextLine::TooWide) => {
                 count += 1;
-                answer(out, count, CompareReply::Malformed, &mut text)?;
+                match answer(out, count, CompareReply::Malformed, &mut text) {
+                    Ok(()) => {}
+                    Err(status) => return Err(status),
+                }
             }
             Ok(NextLine::End) => return tell_missing(alloc, out, compare.missing()),
             Err(LineEndFault::TooLong) => {
@@ -120,4 +126,25 @@ fn answer_lines<S: Source, K: Sink>(
             }
         }
     }
+}
+
+/// Compares the lines of a script with the sample of a medium: each is answered as soon as it is whole, and at the end
+/// of the script it is told how many ballots of the sample were compared with no line. Nothing is written to the disk.
+pub fn compare<S: Source, K: Sink, D: Disk>(
+    alloc: Global,
+    election: &Election,
+    asked: &Asked,
+    script: &mut S,
+    out: &mut K,
+    disk: &mut D,
+) -> Result<(), Status>
+    requires dice { asked.now.rolled ≤ MAX_DICE }
+    requires election { IsElection election.now }
+    ensures { CompareEnds (disk_model D.seen D.calls D.may_leave D.faults) election.now asked.now (ended result)
+        (outside (input S.left S.faults script.old) (output K.taken K.faults out.old))
+        (outside (input S.left S.faults script.new) (output K.taken K.faults out.new)) disk.old disk.new }
+{
+    let records = drawn(alloc, election, asked, disk)?;
+    let mut compare = Compare::new(alloc, records)?;
+    answer_lines(alloc, election, &mut compare, script, out)
 }

@@ -6,5 +6,4 @@ pub mod compare;
 mod drawn;
 pub mod sample;
 
-
 pub use asked::{Asked, MAX_DICE, asked_of};

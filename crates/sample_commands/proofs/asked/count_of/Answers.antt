@@ -1,4 +1,4 @@
-use Rattle.std.proofs.Common.{ap, arith, eqb-true, sym, ◌∙◌}
+use Rattle.std.proofs.Common.{arith, eqb-true, sym, ◌∙◌}
 use Rattle.std.proofs.lemmas.Bool.{eqb-false}
 use Rattle.std.proofs.lemmas.List.{nil_from_length}
 use Rattle.sample_commands.proofs.Numbers.{count_read, more_behind, none_read}

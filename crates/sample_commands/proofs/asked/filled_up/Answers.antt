@@ -1,4 +1,4 @@
-use Rattle.std.proofs.Common.{◌≡◌, ◌∙◌, List, ◌++◌, ap, drop, length, replicate}
+use Rattle.std.proofs.Common.{◌∙◌, ◌++◌, ap, drop, length, replicate}
 use Rattle.std.proofs.lemmas.List.{drop-replicate}
 use Rattle.sample_commands.proofs.asked.filled_up.Goals as goal
 

@@ -1,9 +1,8 @@
-use Rattle.std.proofs.Common.{◌≡◌, ◌∙◌, List, ℕ, ap, refl, subst, sym}
+use Rattle.std.proofs.Common.{◌∙◌, List, ℕ}
 use Rattle.outside_io.specs.Outside.{output}
 use Rattle.outside_io.specs.Stream.{TakesAll, TakesSome}
-use Rattle.run_outcome.proofs.Laws.{ended_told, ended_with}
-use Rattle.run_outcome.specs.declared.status.Status.TheVariants.{Memory}
-use Rattle.sample_commands.proofs.Sampling.{drawn_valid, none_told, text_drawn}
+use Rattle.run_outcome.proofs.Laws.{ended_told}
+use Rattle.sample_commands.proofs.Sampling.{drawn_valid, text_drawn}
 use Rattle.sample_commands.specs.Sample.{SampleTells}
 use Rattle.store_spec.specs.Disk.{disk_model}
 use Rattle.sample_commands.proofs.sample.sample.Goals as goal

@@ -1,4 +1,4 @@
-use Rattle.std.proofs.Common.{◌≡◌, ◌∙◌, [], arith, subst}
+use Rattle.std.proofs.Common.{[], arith, subst}
 use Rattle.std.proofs.lemmas.List.{get_or-map, length-map}
 use Rattle.ballot_record.specs.Record.{ballot}
 use Rattle.ballot_record.specs.declared.record.Record.{Record}
