@@ -22,10 +22,9 @@ pub struct Asked {
 impl Asked {
     /// The digits of the dice.
     pub fn dice(&self) -> &[u8]
-        requires { self.now.rolled ≤ MAX_DICE }
         ensures { result.now ≡ dice_of self.now }
     {
-        &self.digits[..self.rolled]
+        &self.digits[..self.rolled.min(MAX_DICE)]
     }
 }
 

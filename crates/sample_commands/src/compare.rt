@@ -9,7 +9,7 @@ ghost use Rattle.store_spec.specs.Election.{IsElection};
 ghost use Rattle.store_spec.specs.Input.{line_end};
 ghost use Rattle.store_spec.specs.Report.{count_line, lines_text};
 
-use crate::asked::{Asked, MAX_DICE};
+use crate::asked::Asked;
 use crate::drawn::drawn;
 use ballot_record::Election;
 use crash_disk::Disk;
@@ -138,8 +138,7 @@ pub fn compare<S: Source, K: Sink, D: Disk>(
     out: &mut K,
     disk: &mut D,
 ) -> Result<(), Status>
-    requires dice { asked.now.rolled ≤ MAX_DICE }
-    requires election { IsElection election.now }
+    requires { IsElection election.now }
     ensures { CompareEnds (disk_model D.seen D.calls D.may_leave D.faults) election.now asked.now (ended result)
         (outside (input S.left S.faults script.old) (output K.taken K.faults out.old))
         (outside (input S.left S.faults script.new) (output K.taken K.faults out.new)) disk.old disk.new }

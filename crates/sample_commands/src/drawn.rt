@@ -8,7 +8,7 @@ ghost use Rattle.sample_commands.specs.Sample.{asked_sample};
 ghost use Rattle.store_spec.specs.Ballot.{Ballot};
 ghost use Rattle.store_spec.specs.Disk.{disk_model};
 
-use crate::asked::{Asked, MAX_DICE};
+use crate::asked::Asked;
 use ballot_record::{Election, Record};
 use crash_disk::Disk;
 use medium_commands::refused::status_of;
@@ -23,7 +23,6 @@ pub fn drawn<D: Disk>(
     asked: &Asked,
     disk: &mut D,
 ) -> Result<Vec<Record>, Status>
-    requires { asked.now.rolled ≤ MAX_DICE }
     ensures drawn { IfOk result (λ records. (set : List Ballot)
         × ShowsSet (disk_model D.seen D.calls D.may_leave D.faults) election.now set disk.old disk.new
         × (ballots_of records.items ≡ asked_sample asked.now set)) }

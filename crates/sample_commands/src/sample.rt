@@ -11,7 +11,7 @@ ghost use Rattle.store_spec.specs.Disk.{disk_model};
 ghost use Rattle.store_spec.specs.Input.{line_end};
 ghost use Rattle.store_spec.specs.Report.{count_line};
 
-use crate::asked::{Asked, MAX_DICE};
+use crate::asked::Asked;
 use crate::drawn::drawn;
 use ballot_record::{Election, Record, put_line};
 use crash_disk::Disk;
@@ -48,7 +48,6 @@ pub fn sample<K: Sink, D: Disk>(
     out: &mut K,
     disk: &mut D,
 ) -> Result<(), Status>
-    requires { asked.now.rolled ≤ MAX_DICE }
     ensures { SampleEnds (disk_model D.seen D.calls D.may_leave D.faults) election.now asked.now (ended result)
         (output K.taken K.faults out.old) (output K.taken K.faults out.new) disk.old disk.new }
 {

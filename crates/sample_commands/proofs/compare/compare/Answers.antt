@@ -8,4 +8,4 @@ new-requires-clause-ascending g c =
 
 pub new-requires-clause-few : goal.new-requires-clause-few
 new-requires-clause-few g c =
-    drawn_few (disk_model g.D.Disk.seen g.D.Disk.calls g.D.Disk.may_leave g.D.Disk.faults) c.args.election.now c.args.asked.now c.in_ok-records.records.items c.args.disk.now c.drawn.new.disk c.requires.election c.in_ok-records.ensures.drawn
+    drawn_few (disk_model g.D.Disk.seen g.D.Disk.calls g.D.Disk.may_leave g.D.Disk.faults) c.args.election.now c.args.asked.now c.in_ok-records.records.items c.args.disk.now c.drawn.new.disk c.requires c.in_ok-records.ensures.drawn
