@@ -1,4 +1,5 @@
 pub mod Answering
+pub mod Asking
 pub mod CompareLaws
 pub mod Deciding
 pub mod Numbers
