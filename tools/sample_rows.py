@@ -101,7 +101,7 @@ def many_rows(table, election, program):
     roomy = Path(election).read_bytes().replace(b'"limit":8', b'"limit":32768').replace(b'"bits":3', b'"bits":16')
     roomy = table.file("sample.json", roomy)
     path = str(table.room / "many.medium")
-    numbers = random.Random(7).sample(range(1, 2**64), 32_768)
+    numbers = random.Random(7).sample(range(1, 2**63), 32_768)
     casts = b"".join(b"cast 1 %d 1 %d/-\n" % (number, number % 4 + 1) for number in numbers)
     script = b"open cast 1\n" + casts + b"close\ncheckpoint\nexport\n"
     subprocess.run([program, path, roomy, "init"], capture_output=True, check=True)
