@@ -3,7 +3,7 @@ use Rattle.std.proofs.Common.{◌≡◌, ℕ, ◌+◌, ◌*◌, List, [], ◌∷
 use Rattle.std.specs.Prelude.{IfErr, codes, length}
 use Rattle.ballot_store_cli.specs.Command.{row}
 use Rattle.ballot_store_cli.specs.declared.command.Command.{Command}
-use Rattle.ballot_store_cli.specs.declared.command.Command.TheVariants.{Build, Init, Session, Audit, Replay, Large}
+use Rattle.ballot_store_cli.specs.declared.command.Command.TheVariants.{Build, Init, Session, Audit, Replay, Large, Sample, Compare}
 use Rattle.large_options.proofs.Orders.{one_reading, ordered}
 use Rattle.large_options.specs.Options.{AreOptions, IsOptions}
 use Rattle.large_options.specs.declared.options.Options.{Options}
@@ -11,6 +11,9 @@ use Rattle.medium_commands.proofs.AuditLaws.{audit_laws}
 use Rattle.medium_commands.proofs.InitLaws.{init_laws}
 use Rattle.run_outcome.proofs.Laws.{Laws}
 use Rattle.run_outcome.specs.Row.{IsNamed}
+use Rattle.sample_commands.proofs.Asking.{none_asked, one_asked}
+use Rattle.sample_commands.proofs.CompareLaws.{compare_laws}
+use Rattle.sample_commands.proofs.SampleLaws.{sample_laws}
 use Rattle.script_commands.proofs.BuildLaws.{build_laws}
 use Rattle.script_commands.proofs.ReplayLaws.{replay_laws}
 use Rattle.session_commands.proofs.LargeLaws.{large_laws}
@@ -24,6 +27,8 @@ laws Session = session_laws
 laws Audit = audit_laws
 laws Replay = replay_laws
 laws (Large o) = large_laws o
+laws (Sample asked) = sample_laws asked
+laws (Compare asked) = compare_laws asked
 
 -- ---- commands are told apart by their words
 
@@ -46,6 +51,8 @@ one_row Session Session words same x y = refl
 one_row Audit Audit words same x y = refl
 one_row Replay Replay words same x y = refl
 one_row (Large o) (Large p) words same x y = one_large words o p x y
+one_row (Sample a) (Sample b) words same x y = ap Sample (one_asked words a b x y)
+one_row (Compare a) (Compare b) words same x y = ap Compare (one_asked words a b x y)
 one_row a b words same x y = absurd (omega (arith, ap number_of same))
 
 -- ---- a word alone
@@ -73,6 +80,8 @@ names_none word other Session medium is = other.session is.word
 names_none word other Audit medium is = other.audit is.word
 names_none word other Replay medium is = other.replay is.word
 names_none word other (Large o) medium is = none_given [] refl (o.seed, o.count, o.tabs, is.further)
+names_none word other (Sample asked) medium is = none_asked asked is.further
+names_none word other (Compare asked) medium is = none_asked asked is.further
 
 -- ---- a word with others behind it
 

@@ -1,10 +1,12 @@
 -- The commands of the program, and the words that it is called with: a medium, an election, and a command.
 use Rattle.std.specs.Prelude.{ℕ, List, ◌∷◌}
 use Rattle.ballot_store_cli.specs.declared.command.Command.{Command}
-use Rattle.ballot_store_cli.specs.declared.command.Command.TheVariants.{Build, Init, Session, Audit, Replay, Large}
+use Rattle.ballot_store_cli.specs.declared.command.Command.TheVariants.{Build, Init, Session, Audit, Replay, Large, Sample, Compare}
 use Rattle.medium_commands.specs.Audit.{audit_row}
 use Rattle.medium_commands.specs.Init.{init_row}
 use Rattle.run_outcome.specs.Row.{IsNamed, IsPlain, Row}
+use Rattle.sample_commands.specs.Compare.{compare_row}
+use Rattle.sample_commands.specs.Sample.{sample_row}
 use Rattle.script_commands.specs.Build.{build_row}
 use Rattle.script_commands.specs.Replay.{replay_row}
 use Rattle.session_commands.specs.Large.{large_row}
@@ -18,6 +20,8 @@ row Session = session_row
 row Audit = audit_row
 row Replay = replay_row
 row (Large o) = large_row o
+row (Sample asked) = sample_row asked
+row (Compare asked) = compare_row asked
 
 -- the words form a command: a medium and an election, read by their place, and the words of the command's row
 abbrev pub Forms : List (List ℕ) → Command → Type 0

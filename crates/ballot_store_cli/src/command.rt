@@ -2,9 +2,12 @@ ghost use Rattle.std.specs.Prelude.{◌≡◌, ◌↔◌, ◌∷◌, [], IsTrue,
 ghost use Rattle.ballot_store_cli.specs.Command.{Forms, FormNone, row};
 ghost use Rattle.large_options.specs.Options.{AreOptions};
 ghost use Rattle.run_outcome.specs.Row.{IsNamed, IsPlain};
+ghost use Rattle.sample_commands.specs.Asked.{IsAsked};
+ghost use Rattle.sample_commands.specs.declared.asked.Asked.{Asked};
 
 use large_options::{Options, are_options, options_of};
 use outside_io::Memory;
+use sample_commands::{Asked, asked_of};
 use std::alloc::Global;
 
 /// What a run is asked to do.
@@ -20,6 +23,10 @@ pub enum Command {
     Audit,
     /// Replay a schedule of steps over a phase, and write what comes of it.
     Replay,
+    /// Write the sample of a medium that is asked for.
+    Sample(Asked),
+    /// Compare the lines of a script with that sample.
+    Compare(Asked),
     /// Handle a script that these options generate as a session does, and write the summary of its replies.
     Large(Options),
 }
@@ -61,6 +68,30 @@ fn large_named(alloc: Global, options: &[String]) -> Result<Option<Command>, Mem
     Ok(Some(Command::Large(options_of(alloc, options)?)))
 }
 
+/// The sample that these words ask for, if they do.
+fn sample_named(words: &[String]) -> Option<Command>
+    ensures named { IfSome result
+        (λ c. (medium : List ℕ) → IsNamed (row c) medium (codes "sample") (map string_bytes words.now)) }
+    ensures none { IfNone result ((asked : Asked) → ¬ IsAsked (map string_bytes words.now) asked) }
+{
+    match asked_of(words) {
+        Some(asked) => Some(Command::Sample(asked)),
+        None => None,
+    }
+}
+
+/// The comparison with the sample that these words ask for, if they do.
+fn compare_named(words: &[String]) -> Option<Command>
+    ensures named { IfSome result
+        (λ c. (medium : List ℕ) → IsNamed (row c) medium (codes "compare") (map string_bytes words.now)) }
+    ensures none { IfNone result ((asked : Asked) → ¬ IsAsked (map string_bytes words.now) asked) }
+{
+    match asked_of(words) {
+        Some(asked) => Some(Command::Compare(asked)),
+        None => None,
+    }
+}
+
 /// The command that this word names, with these further words behind it.
 fn named_with(alloc: Global, word: &str, words: &[String]) -> Result<Option<Command>, Memory>
     requires { 1 ≤ length words.now }
@@ -73,6 +104,8 @@ fn named_with(alloc: Global, word: &str, words: &[String]) -> Result<Option<Comm
 {
     match word {
         "large" => large_named(alloc, words),
+        "sample" => Ok(sample_named(words)),
+        "compare" => Ok(compare_named(words)),
         _ => Ok(None),
     }
 }

@@ -20,6 +20,8 @@ use medium_commands::init::init;
 use outside_io::{Sink, Source, Turns};
 use phase_gate::Report;
 use run_outcome::Status;
+use sample_commands::compare::compare;
+use sample_commands::sample::sample;
 use script_commands::build::build;
 use script_commands::replay::replay;
 use session_commands::large::large;
@@ -35,7 +37,9 @@ use std::thread::Threads;
 /// - `MEDIUM ELECTION audit` writes whether the medium is that of the set that it holds, or where it first differs;
 /// - `MEDIUM ELECTION replay` replays the schedule of a script over a phase;
 /// - `MEDIUM ELECTION large --seed S --count C --tabs T` handles the script that these options generate as a session does,
-///   and writes the summary of its replies.
+///   and writes the summary of its replies;
+/// - `MEDIUM ELECTION sample DICE K` writes the K ballots of the medium whose tickets under the dice are the least;
+/// - `MEDIUM ELECTION compare DICE K` compares the script's record lines with that sample.
 ///
 /// The report has how many calls the disk had seen at each checkpoint that a session acknowledged, and how many ballots
 /// its last closed store held. `more` has a disk for each word after the third.
@@ -112,6 +116,8 @@ fn carry_out<R: Threads + Sync, S: Source, K: Sink, D: Disk, T: Turns>(
         Command::Session => session(rt, alloc, election, script, out, disk, turns, report),
         Command::Audit => audit(alloc, election, out, disk),
         Command::Replay => replay(alloc, election, script, out),
+        Command::Sample(asked) => sample(alloc, election, &asked, out, disk),
+        Command::Compare(asked) => compare(alloc, election, &asked, script, out, disk),
         Command::Large(options) => large(rt, alloc, options, election, out, disk, turns, report),
     }
 }

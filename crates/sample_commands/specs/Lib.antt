@@ -1,0 +1,4 @@
+pub mod Asked
+pub mod Compare
+pub mod Looked
+pub mod Sample

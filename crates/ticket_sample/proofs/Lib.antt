@@ -1,0 +1,11 @@
+pub mod Bounding
+pub mod Flags
+pub mod Holding
+pub mod Looking
+pub mod Lots
+pub mod Removing
+pub mod Replying
+pub mod Samples
+pub mod Searching
+pub mod Sizing
+pub mod Splitting

@@ -1,0 +1,5 @@
+pub mod Compared
+pub mod Comparing
+pub mod Drawing
+pub mod Sample
+pub mod Ticket
