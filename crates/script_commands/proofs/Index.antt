@@ -1,50 +1,27 @@
--- Records under their numbers.
-use Rattle.std.proofs.Common.{◌≡◌, ◌≢◌, ℕ, zero, suc, ◌<◌, Bool, true, false, cond, eqb, List, [], ◌∷◌, ◌++◌, length, get_or, map, Option, Some, None, refl, ap, sym, ◌∙◌, inl, inr, arith}
+-- Numbers at their places.
+use Rattle.std.proofs.Common.{◌≡◌, ◌≢◌, ℕ, ◌<◌, true, false, List, [], ◌∷◌, ◌++◌, length, get_or, Some, ap, sym, ◌∙◌, inl, inr, arith}
 use Rattle.std.proofs.lemmas.Bool.{cases_lt}
-use Rattle.std.specs.Cmp.{nat_cmp_is}
-use Rattle.std.specs.declared.cmp.Ordering.TheVariants.{Less, Equal, Greater}
-use Rattle.std.proofs.lemmas.Bool.Decides.{nat_tests}
+use Rattle.std.proofs.lemmas.List.{get_or-map, length-map}
 use Rattle.std.proofs.lemmas.List.Elements.{All-push}
 use Rattle.std.proofs.lemmas.List.Quantifiers.{all_pairs_push}
+use Rattle.std.proofs.lemmas.Option.{get_or_from_slice_get, slice_get_within}
+use Rattle.std.specs.Cmp.{nat_cmp_is}
+use Rattle.std.specs.declared.cmp.Ordering.TheVariants.{Less, Equal, Greater}
 use Rattle.std.specs.Ordering.{nat_cmp, is_eq}
-use Rattle.std.specs.Prelude.{find, ◌==◌}
-use Rattle.ballot_record.specs.declared.record.Record.{Record}
-use Rattle.ballot_record.specs.Record.{ballot}
-use Rattle.store_spec.specs.Ballot.{Ballot, IsListing, IsValid}
+use Rattle.std.specs.Prelude.{Contains, slice_get}
+use Rattle.script_commands.specs.Index.{IsAbsent}
+use Rattle.store_spec.specs.Ballot.{Ballot, IsListing, IsValid, numbers_of}
 use Rattle.store_spec.specs.Election.{Election}
 
-abbrev pub found_in : List Record → ℕ → Option Record
-found_in records number = find (λ (r : Record). r.number == number) records
+-- what stands at a place is in the list
+pub stands : {X : Type 0} (xs : List X) (place : ℕ) (x : X) → slice_get xs place ≡ Some x → Contains xs x
+stands xs place x there = (place, slice_get_within xs place x there, get_or_from_slice_get xs place x x there)
 
--- what is found stands in the list, with its number
-pub record IsFound (records : List Record) (number : ℕ) (r : Record) : Type 0 where
-  pub place : ℕ
-  pub within : place < length records
-  pub is : (d : Record) → get_or records place d ≡ r
-  pub numbered : r.number ≡ number
-
-pub found : (records : List Record) (number : ℕ) (r : Record) → found_in records number ≡ Some r → IsFound records number r
-found [] number r is = absurd cc
-found (x ∷ xs) number r is =
-    let test : (b : Bool) → (b ≡ true → x.number ≡ number) → cond b (Some x) (found_in xs number) ≡ Some r → IsFound (x ∷ xs) number r = elim [
-      | true ↦ λ same here. let first : x ≡ r = cc in record { place = 0; within = omega arith; is = λ d. first; numbered = sym (ap (λ (r : Record). r.number) first) ∙ same refl }
-      | false ↦ λ same here. let rest = found xs number r here in record { place = suc rest.place; within = omega (arith, rest.within); is = λ d. rest.is d; numbered = rest.numbered }
-    ] in
-    test (eqb x.number number) (λ h. grind (arith, nat_tests)) is
-
-missing_front : (x : Record) (xs : List Record) (number : ℕ) → found_in (x ∷ xs) number ≡ None → (x.number ≢ number) × (found_in xs number ≡ None)
-missing_front x xs number is =
-    let test : (b : Bool) → (b ≡ false → x.number ≢ number) → cond b (Some x) (found_in xs number) ≡ None → (x.number ≢ number) × (found_in xs number ≡ None) = elim [
-      | true ↦ λ other none. absurd cc
-      | false ↦ λ other none. (other refl, none)
-    ] in
-    test (eqb x.number number) (λ h. grind (arith, nat_tests)) is
-
--- where nothing is found no ballot has the number
-pub ballot_missing : (records : List Record) (number : ℕ) → found_in records number ≡ None → (k : ℕ) (d : Ballot) → k < length (map ballot records) → (get_or (map ballot records) k d).number ≢ number
-ballot_missing [] number is k d below = absurd (omega arith)
-ballot_missing (x ∷ xs) number is zero d below = (missing_front x xs number is).0
-ballot_missing (x ∷ xs) number is (suc k) d below = ballot_missing xs number (missing_front x xs number is).1 k d (omega arith)
+-- no ballot has a number that is absent
+pub ballot_missing : (ballots : List Ballot) (number : ℕ) → IsAbsent (numbers_of ballots) number → (k : ℕ) (d : Ballot) → k < length ballots → (get_or ballots k d).number ≢ number
+ballot_missing ballots number absent k d below same =
+    let f : Ballot → ℕ = λ b. b.number in
+    absent (k, omega (arith, below, length-map ballots f), get_or-map f ballots k d number below ∙ same)
 
 pub same_number : (a b : ℕ) → a ≡ b → is_eq (nat_cmp a b) ≡ true
 same_number a b same = ap is_eq (sym (nat_cmp_is a b Equal same))
@@ -56,8 +33,8 @@ other_number a b other = elim (cases_lt a b) [
 ]
 
 -- a listing with one ballot more
-pub listing_grown : (e : Election) (ballots : List Ballot) (b : Ballot) → IsListing e ballots → IsValid e b → ((k : ℕ) (d : Ballot) → k < length ballots → (get_or ballots k d).number ≢ b.number) → IsListing e (ballots ++ b ∷ [])
-listing_grown e ballots b listing valid new = record {
+pub listing_grown : (e : Election) (ballots : List Ballot) (b : Ballot) → IsListing e ballots → IsValid e b → IsAbsent (numbers_of ballots) b.number → IsListing e (ballots ++ b ∷ [])
+listing_grown e ballots b listing valid absent = record {
   valid = All-push (IsValid e) ballots b listing.valid valid;
-  distinct = all_pairs_push (λ a b. a.number ≢ b.number) ballots b listing.distinct new;
+  distinct = all_pairs_push (λ a b. a.number ≢ b.number) ballots b listing.distinct (ballot_missing ballots b.number absent);
 }

@@ -1,5 +1,5 @@
 -- The ballots of the lines so far, and what the next line does to them.
-use Rattle.std.specs.Prelude.{◌≡◌, ◌≢◌, ℕ, ◌≤◌, List, ◌++◌, [], ◌∷◌, length, map, vec_capacity, Contains, Any, Result, Ok, Err}
+use Rattle.std.specs.Prelude.{◌≡◌, ◌≢◌, ℕ, List, ◌++◌, [], ◌∷◌, length, Contains, Any, Result, Ok, Err}
 use Rattle.ballot_record.specs.Record.{ballot}
 use Rattle.ballot_record.specs.LineWhy.{reason}
 use Rattle.ballot_record.specs.declared.record.Record.{Record}
@@ -8,26 +8,25 @@ use Rattle.script_commands.specs.Index.{IsIndexOf}
 use Rattle.script_commands.specs.declared.build.ballots.Ballots.{Ballots}
 use Rattle.script_commands.specs.declared.build.ballots.Refusal.{Refusal}
 use Rattle.script_commands.specs.declared.build.ballots.Refusal.TheVariants.{Bad, Memory}
-use Rattle.store_spec.specs.Ballot.{Ballot, IsListing, IsWithinLimit}
+use Rattle.store_spec.specs.Ballot.{Ballot, IsListing, IsWithinLimit, numbers_of}
 use Rattle.store_spec.specs.BallotLine.{Spells}
 use Rattle.store_spec.specs.Build.{IsRefused}
 use Rattle.store_spec.specs.Election.{Election}
 
 -- the ballots of the lines so far, in the order of the lines
 abbrev pub ballots_so_far : Ballots → List Ballot
-ballots_so_far ballots = map ballot ballots.records.items
+ballots_so_far ballots = ballots.list.ballots
 
--- each record is found by its number
+-- each ballot is found by its number
 abbrev pub IsIndexed : Ballots → Type 0
-IsIndexed ballots = IsIndexOf ballots.index ballots.records.items
+IsIndexed ballots = IsIndexOf ballots.index (numbers_of (ballots_so_far ballots))
 
--- the ballots so far are the listing of a set that the election's store may hold, and are found by their numbers; there is
--- room for as many as it may hold
+-- the ballots so far are the listing of a set that the election's store may hold, and are found by their numbers
 pub record IsSound (e : Election) (ballots : Ballots) : Type 0 where
+  pub election : ballots.list.election ≡ e
   pub listing : IsListing e (ballots_so_far ballots)
   pub within_limit : IsWithinLimit e (ballots_so_far ballots)
   pub indexed : IsIndexed ballots
-  pub room : e.limit ≤ vec_capacity ballots.records
 
 -- what becomes of a valid ballot after those of the lines before
 abbrev pub Adds : Result (Unit {0}) Refusal → Election → Record → Ballots → Ballots → Type 0

@@ -43,10 +43,10 @@ pub fn build<S: Source, K: Sink>(
         (outside (input S.left S.faults script.old) (output K.taken K.faults out.old))
         (outside (input S.left S.faults script.new) (output K.taken K.faults out.new)) }
 {
-    let records = match read_ballots(alloc, election, script) {
-        Ok(records) => records,
+    let ballots = match read_ballots(alloc, election, script) {
+        Ok(ballots) => ballots,
         Err(fault) => return Err(status_of(fault)),
     };
-    let store = Closed::from_records(alloc, election, records)?;
+    let store = Closed::from_records(alloc, election, &ballots)?;
     tell(out, store.image())
 }

@@ -1,10 +1,9 @@
 ghost use Rattle.std.specs.Prelude.{◌≡◌, [], IfOk};
 ghost use Rattle.store_spec.specs.Ballot.{IsValid};
 ghost use Rattle.ballot_record.specs.Record.{ballot};
-ghost use Rattle.body_store.specs.Contents.{ballots_of};
 
 use crate::build::index::Index;
-use ballot_record::{Election, LineFault, LineWhy, Record, read_line_into};
+use ballot_record::{BallotList, Election, LineFault, LineWhy, Record, read_line_into};
 use outside_io::Memory;
 use std::alloc::{AllocFailed, Global};
 
@@ -39,10 +38,10 @@ impl From<Memory> for Refusal {
     }
 }
 
-/// The records of the lines so far, in the order of the lines, and each under its number.
+/// The ballots of the lines so far, in the order of the lines, and each under its number.
 #[derive(Drop)]
 pub struct Ballots {
-    records: Vec<Record>,
+    list: BallotList,
     index: Index,
 }
 
@@ -55,7 +54,7 @@ impl Ballots {
         ensures sound { IfOk result (IsSound election.now) }
     {
         Ok(Ballots {
-            records: Vec::with_capacity(alloc, election.limit() as usize)?,
+            list: BallotList::with_room(alloc, election, election.limit() as usize)?,
             index: Index::new(alloc)?,
         })
     }
@@ -78,9 +77,9 @@ impl Ballots {
         requires valid { IsValid election.now (ballot cast.now) }
         ensures { Adds result election.now cast.now self.old self.new }
     {
-        let place = match self.index.look(&self.records, cast.number) {
+        let place = match self.index.look(&self.list, cast.number) {
             Ok(held) => {
-                return Err(Refusal::Bad(if *held == *cast {
+                return Err(Refusal::Bad(if self.list.record(held, election) == *cast {
                     LineWhy::Duplicate
                 } else {
                     LineWhy::Conflict
@@ -88,20 +87,20 @@ impl Ballots {
             }
             Err(place) => place,
         };
-        if self.records.len() >= election.limit() as usize {
+        if self.list.len() >= election.limit() as usize {
             return Err(Refusal::Bad(LineWhy::Full));
         }
-        self.index.note(&self.records, cast, place)?;
-        self.records.push_reserved(*cast);
+        self.index.note(&self.list, cast.number, place)?;
+        self.list.push(cast, election)?;
         Ok(())
     }
 
-    /// The records, in the order of their lines.
-    pub fn into_records(self) -> Vec<Record>
-        ensures { ballots_of result.items ≡ ballots_so_far self }
+    /// The ballots, in the order of their lines.
+    pub fn into_list(self) -> BallotList
+        ensures { result ≡ self.list }
     {
-        let Ballots { records, index } = self;
+        let Ballots { list, index } = self;
         drop(index);
-        records
+        list
     }
 }

@@ -1,8 +1,8 @@
-ghost use Rattle.std.specs.Prelude.{◌≡◌, ◌+◌, ◌^◌, ◌<◌, ◌==◌, ◌++◌, ◌∷◌, [], Some, find, length, IfOk, MatchResult, OnOk};
-ghost use Rattle.ballot_record.specs.declared.record.Record as declared;
+ghost use Rattle.std.specs.Prelude.{◌≡◌, ◌+◌, ◌^◌, ◌<◌, ◌++◌, ◌∷◌, [], Some, length, slice_get, IfOk, MatchResult, OnOk};
 ghost use Rattle.script_commands.specs.Index.{IsAbsent, IsIndexOf, IsPlaceOf, slot_of};
+ghost use Rattle.store_spec.specs.Ballot.{numbers_of};
 
-use ballot_record::Record;
+use ballot_record::BallotList;
 use outside_io::Memory;
 use std::alloc::Global;
 use std::collections::BTreeMap;
@@ -16,14 +16,14 @@ const REACH: usize = 8;
 /// 2 ^ 64 divided by the golden ratio, the multiplier of a Fibonacci hash.
 const MULTIPLIER: u64 = 0x9E37_79B9_7F4A_7C15;
 
-/// Where records stand in a list, by their numbers. A look-up goes through a few slots, and to a tree only where other
+/// Where ballots stand in a list, by their numbers. A look-up goes through a few slots, and to a tree only where other
 /// numbers have taken them all, so that numbers chosen on purpose cost no more than a tree and eight looks do.
 #[derive(Drop)]
 pub struct Index {
-    /// In each slot 1 more than the place of a record, or 0 where it is free. There are enough that no search wraps.
+    /// In each slot 1 more than the place of a ballot, or 0 where it is free. There are enough that no search wraps.
     slots: Vec<u16>,
-    /// The records whose slots others had all taken.
-    others: BTreeMap<u64, Record>,
+    /// The places of the ballots whose slots others had all taken.
+    others: BTreeMap<u64, u16>,
 }
 
 fn slot_of(number: u64) -> usize
@@ -34,7 +34,7 @@ fn slot_of(number: u64) -> usize
     (mixed.wrapping_mul(MULTIPLIER) >> 47) as usize
 }
 
-/// Where the record of a number is to be noted that no record has.
+/// Where a number is to be noted that no ballot has.
 #[derive(Clone, Copy)]
 pub enum Place {
     /// In this slot, which is the first free one of its search.
@@ -44,7 +44,7 @@ pub enum Place {
 }
 
 impl Index {
-    /// That of no record.
+    /// That of no ballot.
     pub fn new(alloc: Global) -> Result<Index, Memory>
         ensures { IfOk result (λ index. IsIndexOf index []) }
     {
@@ -54,12 +54,13 @@ impl Index {
         })
     }
 
-    /// The record of a number, or else where such a record is to be noted.
-    pub fn look<'a>(&'a self, records: &'a [Record], number: u64) -> Result<&'a Record, Place>
-        requires { IsIndexOf self.now records.now }
+    /// The place of the ballot with a number, or else where that number is to be noted.
+    pub fn look(&self, ballots: &BallotList, number: u64) -> Result<usize, Place>
+        requires { IsIndexOf self.now (numbers_of ballots.now.ballots) }
         ensures { MatchResult result
-            (λ held. find (λ (r : declared.Record). r.number == number) records.now ≡ Some held.now)
-            (λ place. IsAbsent records.now number × IsPlaceOf place self.now number) }
+            (λ held. slice_get (numbers_of ballots.now.ballots) held ≡ Some number)
+            (λ place. IsAbsent (numbers_of ballots.now.ballots) number
+            × IsPlaceOf place self.now number) }
     {
         let home = slot_of(number);
         for at in home..home + REACH {
@@ -67,29 +68,30 @@ impl Index {
             if place == 0 {
                 return Err(Place::Slot(at));
             }
-            let held = &records[place - 1];
-            if held.number == number {
-                return Ok(held);
+            if ballots.number(place - 1) == number {
+                return Ok(place - 1);
             }
         }
         match self.others.get(&number) {
-            Some(other) => Ok(other),
+            Some(held) => Ok(usize::from(*held)),
             None => Err(Place::Others),
         }
     }
 
-    /// Notes the record that comes behind these, at the place that a look at them gave.
-    pub fn note(&mut self, records: &[Record], cast: &Record, place: Place) -> Result<(), Memory>
-        requires index { IsIndexOf self.old records.now }
-        requires absent { IsAbsent records.now cast.now.number }
-        requires place { IsPlaceOf place self.old cast.now.number }
-        requires few { length records.now + 1 < 2 ^ 16 }
-        ensures { OnOk result (IsIndexOf self.new (records.now ++ cast.now ∷ [])) }
+    /// Notes the number of the ballot that comes behind these, at the place that a look at them gave.
+    pub fn note(&mut self, ballots: &BallotList, number: u64, place: Place) -> Result<(), Memory>
+        requires index { IsIndexOf self.old (numbers_of ballots.now.ballots) }
+        requires absent { IsAbsent (numbers_of ballots.now.ballots) number }
+        requires place { IsPlaceOf place self.old number }
+        requires few { length ballots.now.ballots + 1 < 2 ^ 16 }
+        ensures { OnOk result
+            (IsIndexOf self.new (numbers_of ballots.now.ballots ++ number ∷ [])) }
     {
+        let count = ballots.len() as u16;
         match place {
-            Place::Slot(at) => self.slots[at] = records.len() as u16 + 1,
+            Place::Slot(at) => self.slots[at] = count + 1,
             Place::Others => {
-                self.others.insert(cast.number, *cast)?;
+                self.others.insert(number, count)?;
             }
         }
         Ok(())

@@ -1,12 +1,11 @@
 ghost use Rattle.std.specs.Prelude.{◌≡◌, Err, IfOk};
-ghost use Rattle.body_store.specs.Contents.{ballots_of};
 ghost use Rattle.store_spec.specs.Ballot.{IsListing, IsWithinLimit};
 ghost use Rattle.outside_io.specs.Told.{AsTold};
 ghost use Rattle.store_spec.specs.Fault.{CountsFaultIf};
 ghost use Rattle.script_commands.specs.Script.{Reads};
 
 use crate::build::ballots::{Ballots, Refusal};
-use ballot_record::{Election, LineWhy, Record};
+use ballot_record::{BallotList, Election, LineWhy};
 use outside_io::{LineEndFault, Lines, Memory, NextLine, Source};
 use std::alloc::Global;
 
@@ -34,15 +33,16 @@ impl From<Memory> for ScriptFault {
     }
 }
 
-/// The records of a script of record lines, in the order of the lines. The first bad line ends the reading.
+/// The ballots of a script of record lines, in the order of the lines. The first bad line ends the reading.
 pub fn read_ballots<S: Source>(
     alloc: Global,
     election: &Election,
     script: &mut S,
-) -> Result<Vec<Record>, ScriptFault>
+) -> Result<BallotList, ScriptFault>
     ensures reads { AsTold S.left script.old script.new (Reads result election.now) }
-    ensures listing { IfOk result (λ records. IsListing election.now (ballots_of records.items)) }
-    ensures within_limit { IfOk result (λ records. IsWithinLimit election.now (ballots_of records.items)) }
+    ensures election { IfOk result (λ list. list.election ≡ election.now) }
+    ensures listing { IfOk result (λ list. IsListing election.now list.ballots) }
+    ensures within_limit { IfOk result (λ list. IsWithinLimit election.now list.ballots) }
     ensures fault { CountsFaultIf (result ≡ Err ScriptFault.ReadFault) (S.faults script.old) (S.faults script.new) }
 {
     let mut lines = Lines::new(alloc)?;
@@ -66,7 +66,7 @@ pub fn read_ballots<S: Source>(
                     why: LineWhy::Malformed,
                 });
             }
-            Ok(NextLine::End) => return Ok(ballots.into_records()),
+            Ok(NextLine::End) => return Ok(ballots.into_list()),
             Err(LineEndFault::TooLong) => return Err(ScriptFault::TooLong),
             Err(LineEndFault::ReadFault) => return Err(ScriptFault::ReadFault),
         }

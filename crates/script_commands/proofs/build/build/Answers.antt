@@ -1,5 +1,4 @@
 use Rattle.std.proofs.Common.{◌≡◌, ℕ, List, Err, ap, subst, refl, sym, ◌∙◌}
-use Rattle.body_store.specs.Contents.{ballots_of}
 use Rattle.outside_io.specs.Outside.{input, output, outside}
 use Rattle.outside_io.specs.Stream.{TakesAll, TakesSome}
 use Rattle.run_outcome.proofs.Laws.{ended_told, ended_with}
@@ -31,7 +30,7 @@ returns-in_err-store g c =
     let before = outside (input g.S.Source.left g.S.Source.faults c.args.script.now) sink in
     let after = outside (input g.S.Source.left g.S.Source.faults c.read_ballots.new.script) sink in
     ended_with c.from_residual.result Memory (λ status. BuildEnds c.args.election.now status before after) c.from_residual.ensures.1
-    (no_memory c.args.election.now (ballots_of c.in-Ok.records.items) before after c.in-Ok.ensures.reads refl (c.in-Ok.ensures.fault.steady (λ failed. cc)))
+    (no_memory c.args.election.now c.in-Ok.ballots.ballots before after c.in-Ok.ensures.reads refl (c.in-Ok.ensures.fault.steady (λ failed. cc)))
 
 pub returns : goal.returns
 returns g c =
@@ -42,7 +41,7 @@ returns g c =
     let s = subst (λ (other : Election). IsBallotSet other set × IsWithinLimit other set) c.in_ok-store.ensures.election (c.in_ok-store.ensures.stored.set, c.in_ok-store.ensures.stored.within_limit) in
     let bytes = c.image.ensures.image ∙ ap (λ e. image_of e set) c.in_ok-store.ensures.election in
     let written = λ (Takes : List ℕ → Type 0) (takes : Takes (image_of e set)).
-    writes_image e (ballots_of c.in-Ok.records.items) set before after Takes c.in-Ok.ensures.reads c.in_ok-store.ensures.same s.0 s.1 takes in
+    writes_image e c.in-Ok.ballots.ballots set before after Takes c.in-Ok.ensures.reads c.in_ok-store.ensures.same s.0 s.1 takes in
     ended_told c.tell.result _ _ before.sink.faults after.sink.faults (λ status. BuildEnds e status before after) c.tell.ensures.all c.tell.ensures.some c.tell.ensures.failed c.tell.ensures.fault
     (λ told steady. (
       written (λ image. TakesAll before.sink.taken image after.sink.taken) (subst (λ (image : List ℕ). TakesAll before.sink.taken image after.sink.taken) bytes told),

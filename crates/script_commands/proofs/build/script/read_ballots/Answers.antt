@@ -1,5 +1,6 @@
 use Rattle.std.proofs.Common.{◌+◌, Err, List, [], ◌∷◌, ◌++◌, length, Some, None, ap, subst, sym, refl, ◌∙◌, arith, length-append}
 use Rattle.std.specs.List.{AllZip}
+use Rattle.ballot_record.specs.BallotList.{ListedBallots}
 use Rattle.ballot_record.specs.LineWhy.{reason}
 use Rattle.script_commands.specs.Ballots.{ballots_so_far, Judges}
 use Rattle.script_commands.specs.Build.{HasBadLine}
@@ -64,7 +65,7 @@ returns-in-Ok-TooWide-clause-reads g c =
 
 pub returns-in-Ok-End-clause-reads : goal.returns-in-Ok-End-clause-reads
 returns-in-Ok-End-clause-reads g c =
-    subst (λ ballots. AsTold g.S.Source.left c.args.script.now c.next_line.new.source (λ text left. IsReadOut text left × AllZip (Spells c.args.election.now) (lines_of text) ballots)) (sym c.into_records.ensures)
+    subst (λ (list : ListedBallots). AsTold g.S.Source.left c.args.script.now c.next_line.new.source (λ text left. IsReadOut text left × AllZip (Spells c.args.election.now) (lines_of text) list.ballots)) (sym c.into_list.ensures)
     (told_all c.args.election.now (ballots_so_far c.lines.ballots) (read_out c.lines.invariant.read c.in-Ok-End.field-0-is c.in-Ok-End.ensures.answers))
 
 pub returns-in-Err-TooLong-clause-reads : goal.returns-in-Err-TooLong-clause-reads

@@ -1,57 +1,73 @@
-use Rattle.std.proofs.Common.{◌≡◌, ◌≢◌, ◌<◌, List, ◌++◌, [], ◌∷◌, length, map, None, Some, ap, sym, subst, ◌∙◌, arith, rules, length-append}
-use Rattle.std.proofs.lemmas.List.{map_push, get_or-map, length-map}
+use Rattle.std.proofs.Common.{◌≡◌, ◌≢◌, ◌<◌, ◌++◌, [], ◌∷◌, length, Some, ap, sym, subst, ◌∙◌, arith, rules, length-append}
+use Rattle.std.proofs.lemmas.List.{map_push, length-map}
+use Rattle.std.proofs.lemmas.Option.{get_or_from_slice_get, slice_get_within}
+use Rattle.ballot_record.proofs.BallotLists.{number_at_place}
+use Rattle.ballot_record.specs.BallotList.{ListedBallots, with_more}
 use Rattle.ballot_record.specs.declared.record.Record.{Record}
 use Rattle.ballot_record.specs.Record.{ballot}
-use Rattle.store_spec.specs.Ballot.{Ballot, IsListing}
+use Rattle.store_spec.specs.Ballot.{Ballot, IsListing, numbers_of}
 use Rattle.script_commands.specs.Index.{IsIndexOf}
-use Rattle.script_commands.proofs.Index.{found, found_in, ballot_missing, listing_grown}
+use Rattle.script_commands.proofs.Index.{ballot_missing, listing_grown, stands}
 use Rattle.script_commands.proofs.build.ballots.Ballots.add.Goals as goal
 
 abbrev record_like : Ballot → Record
 record_like b = record { number = b.number; style = b.style; marks = b.marks }
 
+pub record-requires : goal.record-requires
+record-requires c =
+    let ballots = c.args.self.now.list.ballots in
+    let within = slice_get_within (numbers_of ballots) c.in-Ok.held c.args.cast.now.number c.in-Ok.ensures in
+    record {
+      within = omega (arith, within, length-map ballots (λ (b : Ballot). b.number));
+      election = sym c.requires.sound.election;
+    }
+
 pub returns-then-eq : goal.returns-then-eq
 returns-then-eq c =
-    let records = c.args.self.now.records.items in
-    let held = c.in-Ok.held.now in
-    let is : found_in records c.args.cast.now.number ≡ Some held = ap (λ records. found_in records c.args.cast.now.number) (sym c.deref.ensures.value) ∙ c.in-Ok.ensures in
-    let f = found records c.args.cast.now.number held is in
-    let same : held ≡ c.args.cast.now = search rules in
-    (f.place, omega (arith, length-map records ballot, f.within), get_or-map ballot records f.place held (ballot c.args.cast.now) f.within ∙ ap ballot (f.is held ∙ same))
+    let same : c.record.result ≡ c.args.cast.now = search rules in
+    stands c.args.self.now.list.ballots c.in-Ok.held (ballot c.args.cast.now) (c.record.ensures ∙ ap (λ r. Some (ballot r)) same)
 
 pub returns-else-eq : goal.returns-else-eq
 returns-else-eq c =
-    let records = c.args.self.now.records.items in
-    let held = c.in-Ok.held.now in
-    let is : found_in records c.args.cast.now.number ≡ Some held = ap (λ records. found_in records c.args.cast.now.number) (sym c.deref.ensures.value) ∙ c.in-Ok.ensures in
-    let f = found records c.args.cast.now.number held is in
-    let other : held ≢ c.args.cast.now = search rules in
-    (f.place, ballot held, omega (arith, length-map records ballot, f.within), get_or-map ballot records f.place held (ballot held) f.within ∙ ap ballot (f.is held), (f.numbered, λ same. other (ap (λ (b : Ballot). record_like b) same)))
+    let ballots = c.args.self.now.list.ballots in
+    let number = c.args.cast.now.number in
+    let held = ballot c.record.result in
+    let there = stands ballots c.in-Ok.held held c.record.ensures in
+    let other : c.record.result ≢ c.args.cast.now = search rules in
+    let numbered : held.number ≡ number =
+    sym (number_at_place ballots c.in-Ok.held held c.record.ensures) ∙ get_or_from_slice_get (numbers_of ballots) c.in-Ok.held number 0 c.in-Ok.ensures in
+    (there.0, held, there.1, there.2, (numbered, λ same. other (ap (λ (b : Ballot). record_like b) same)))
 
 pub returns-then-len-limit : goal.returns-then-len-limit
 returns-then-len-limit c =
-    let records = c.args.self.now.records.items in
-    let none : found_in records c.args.cast.now.number ≡ None = ap (λ records. found_in records c.args.cast.now.number) (sym c.deref.ensures.value) ∙ c.in-Err.ensures.0 in
-    let counted = length-map records ballot in
-    (λ any. ballot_missing records c.args.cast.now.number none any.0 any.1 any.2 (ap (λ (b : Ballot). b.number) any.3 ∙ any.4), omega (arith, counted, c.requires.sound.within_limit, c.if-len-limit.true))
+    let ballots = c.args.self.now.list.ballots in (
+      λ any. ballot_missing ballots c.args.cast.now.number c.in-Err.ensures.0 any.0 any.1 any.2 (ap (λ (b : Ballot). b.number) any.3 ∙ any.4),
+      omega (arith, c.len.ensures.count, c.limit.ensures.limit, c.requires.sound.within_limit, c.if-len-limit.true),
+    )
+
+pub note-requires-clause-few : goal.note-requires-clause-few
+note-requires-clause-few c = omega (arith, c.len.ensures.count, c.limit.ensures.limit, c.if-len-limit.false, c.limit.ensures.valid.few_ballots)
+
+pub push-requires-clause-election : goal.push-requires-clause-election
+push-requires-clause-election c = sym c.requires.sound.election
 
 pub returns : goal.returns
 returns c =
-    let old = c.args.self.now in
-    let cast = c.args.cast.now in
-    let records = old.records.items in
-    let none : found_in records cast.number ≡ None = ap (λ records. found_in records cast.number) (sym c.deref.ensures.value) ∙ c.in-Err.ensures.0 in
-    let so_far : map ballot c.push_reserved.new.self.items ≡ map ballot records ++ ballot cast ∷ [] = ap (map ballot) c.push_reserved.ensures.items ∙ map_push ballot records cast in
-    let room : length (map ballot records) < c.args.election.now.limit = omega (arith, length-map records ballot, c.if-len-limit.false, c.limit.ensures.limit) in
-    let listing = listing_grown c.args.election.now (map ballot records) (ballot cast) c.requires.sound.listing c.requires.valid (ballot_missing records cast.number none) in
-    let P : List Ballot → Type 0 = λ ballots. IsListing c.args.election.now ballots in
-    let noted : IsIndexOf c.note.new.self (records ++ cast ∷ []) = subst (λ (records : List Record). IsIndexOf c.note.new.self (records ++ cast ∷ [])) c.deref-2.ensures.value c.in_ok-note.ensures in
-    let grown = subst (λ (records : List Record). IsIndexOf c.note.new.self records) (sym c.push_reserved.ensures.items) noted in (
+    let e = c.args.election.now in
+    let old = c.args.self.now.list in
+    let b = ballot c.args.cast.now in
+    let list = c.push.new.self in
+    let pushed : list ≡ with_more old b = c.in_ok-push.ensures.pushed in
+    let so_far : list.ballots ≡ old.ballots ++ b ∷ [] = ap (λ (list : ListedBallots). list.ballots) pushed in
+    let room : length old.ballots < e.limit = omega (arith, c.len.ensures.count, c.if-len-limit.false, c.limit.ensures.limit) in
+    let listing = listing_grown e old.ballots b c.requires.sound.listing c.requires.valid c.in-Err.ensures.0 in
+    let numbers : numbers_of old.ballots ++ b.number ∷ [] ≡ numbers_of list.ballots =
+    sym (map_push (λ (b : Ballot). b.number) old.ballots b) ∙ ap numbers_of (sym so_far) in (
       so_far,
       record {
-        listing = subst P (sym so_far) listing;
-        within_limit = omega (arith, ap length so_far, length-append (map ballot records) (ballot cast ∷ []), room);
-        indexed = grown;
-        room = omega (arith, c.push_reserved.ensures.capacity, c.requires.sound.room);
+        election = ap (λ (list : ListedBallots). list.election) pushed ∙ c.requires.sound.election;
+        listing = subst (IsListing e) (sym so_far) listing;
+        within_limit = omega (arith, ap length so_far, length-append old.ballots (b ∷ []), room);
+        indexed = subst (IsIndexOf c.note.new.self) numbers c.in_ok-note.ensures;
       },
     )

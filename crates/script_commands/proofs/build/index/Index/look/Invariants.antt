@@ -1,6 +1,7 @@
 use Rattle.script_commands.proofs.Slots.{HasPassed}
+use Rattle.store_spec.specs.Ballot.{numbers_of}
 use Rattle.script_commands.proofs.build.index.Index.look.Given as goal
 
--- each slot that was passed has a record of another number
+-- each slot that was passed has another number
 abbrev pub invariant-loop-at : goal.invariant-loop-at
-invariant-loop-at l = HasPassed l.self.slots.items l.records l.number l.at
+invariant-loop-at l = HasPassed l.self.slots.items (numbers_of l.ballots.ballots) l.number l.at

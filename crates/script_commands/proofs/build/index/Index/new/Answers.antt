@@ -11,7 +11,6 @@ returns c =
     record {
       slots = omega (arith, c.in_ok-vec.field-0.ok.0, c.in_ok-vec.ensures.len);
       places = λ at. omega (arith, free at);
-      first = λ k r is. absurd cc;
-      noted = λ k r is. absurd cc;
-      others = λ number r is. sym (ap (lookup (is_at (nat_cmp number))) c.new.ensures.empty) ∙ is;
+      noted = λ k number is. absurd cc;
+      others = λ number k is. let none = sym (ap (lookup (is_at (nat_cmp number))) c.new.ensures.empty) ∙ is in absurd cc;
     }
