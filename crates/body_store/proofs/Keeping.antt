@@ -88,23 +88,6 @@ cell_held e ballots bytes numbers cell b shown within there =
       ap (cell_at e cell) shown.image ∙ cell_of_image e ballots cell shown.election held within ∙ cell_of_found e ballots number b there,
     )
 
--- the same of a part of the image, where a cell has so many bytes
-pub part_spelled : (e : Election) (ballots : List Ballot) (bytes numbers : List ℕ) (cell size : ℕ) → size ≡ cell_size e → Shows e ballots bytes numbers → cell < cell_count e → get_or numbers cell 0 ≢ 0
-    → Some (ballot_at (length e.contests) (take (HEADER_BYTES + cell * size + size - (HEADER_BYTES + cell * size)) (drop (HEADER_BYTES + cell * size) bytes))) ≡ ballot_of ballots (get_or numbers cell 0)
-part_spelled e ballots bytes numbers cell size wide shown within some =
-    let at = HEADER_BYTES + cell * size in
-    let spelt = λ (part : List ℕ). Some (ballot_at (length e.contests) part) in
-    ap (λ n. spelt (take n (drop at bytes))) (let long : at + size - at ≡ size = omega arith in long)
-    ∙ ap (λ header. spelt (take size (drop (header + cell * size) bytes))) (sym header_width)
-    ∙ ap (λ size. spelt (take size (drop (header_size + cell * size) bytes))) wide
-    ∙ cell_spelled e ballots bytes numbers cell shown within some
-
--- that part ends within the image
-pub part_within : (e : Election) (ballots : List Ballot) (bytes numbers : List ℕ) (cell size : ℕ) → size ≡ cell_size e → Shows e ballots bytes numbers → cell < cell_count e
-    → HEADER_BYTES + cell * size + size ≤ length bytes
-part_within e ballots bytes numbers cell size wide shown within =
-    omega (arith, header_width, ap (λ size. header_size + cell * size + size) wide, cell_within e cell within, shown_size e ballots bytes numbers shown)
-
 -- ---- the inside of a store
 
 -- what an image and its cells show is what the store holds

@@ -182,20 +182,6 @@ impl Closed {
         lookup::bytes_in(&self.image, self.election.cell_bytes(), cell)
     }
 
-    /// Puts the ballots of cells from one on in place of these records, up to `end` or as far as there is room. It
-    /// answers how many it put, and the first cell that it did not look at.
-    pub fn put_records(&self, from: usize, end: usize, out: &mut [Record]) -> (usize, usize)
-        requires within { (from ≤ end) × (end ≤ cell_count self.now.election) }
-        ensures room { result.0 ≤ length out.new }
-        ensures onward { (from ≤ result.1) × (result.1 ≤ end) }
-        ensures progress { from < end → 0 < length out.new → from < result.1 }
-        ensures records { ballots_of (take result.0 out.new)
-            ≡ held_in self.now.ballots (take (result.1 - from)
-            (drop from (cells_of self.now.election self.now.ballots))) }
-    {
-        lookup::put_records(&self.election, &self.image, &self.cells, from, end, out)
-    }
-
     /// Adds ballots whose numbers are new to the store. `cells` is the layout of all. After `Memory` it is as it was.
     pub fn merge(
         &mut self,

@@ -17,11 +17,6 @@ use layout_def::{build, place_of};
 use outside_io::Memory;
 use std::alloc::Global;
 
-/// How many empty cells are passed at once.
-const EIGHT: usize = 8;
-
-const EIGHT_EMPTY: [u64; EIGHT] = [0; EIGHT];
-
 /// A number, and the cell in which it stands.
 #[derive(Clone, Copy)]
 pub struct Place {
@@ -110,63 +105,4 @@ pub fn in_order(alloc: Global, cells: &[u64]) -> Result<Vec<Place>, Memory>
     }
     places.sort_unstable_by_key(|place| place.number);
     Ok(places)
-}
-
-/// Puts the ballots of cells from one on in place of these records, up to `end` or as far as there is room. It answers
-/// how many it put, and the first cell that it did not look at.
-pub fn put_records(
-    election: &Election,
-    image: &[u8],
-    cells: &[u64],
-    from: usize,
-    end: usize,
-    out: &mut [Record],
-) -> (usize, usize)
-    ghost ballots: { List Ballot }
-    requires shown { Shows election.now ballots image.now cells.now }
-    requires within { (from ≤ end) × (end ≤ cell_count election.now) }
-    ensures room { result.0 ≤ length out.new }
-    ensures onward { (from ≤ result.1) × (result.1 ≤ end) }
-    ensures progress { from < end → 0 < length out.new → from < result.1 }
-    ensures records { ballots_of (take result.0 out.new)
-        ≡ held_in ballots (take (result.1 - from) (drop from cells.now)) }
-{
-    let size = election.cell_bytes();
-    let mut filled = 0;
-    let mut cell = past_empty(cells, from, end);
-    'cells: while cell < end && filled < out.len() {
-        let at = HEADER_BYTES + cell * size;
-        out[filled] = Record::of_cell(&image[at..at + size], election);
-        filled += 1;
-        cell = past_empty(cells, cell + 1, end);
-    }
-    (filled, cell)
-}
-
-/// The first cell from one on that has a number, or `end`.
-fn past_empty(cells: &[u64], from: usize, end: usize) -> usize
-    requires within { (from ≤ end) × (end ≤ length cells.now) }
-    ensures onward { (from ≤ result) × (result ≤ end) }
-    ensures empty { (k : ℕ) → from ≤ k → k < result → slice_index cells.now k ≡ 0 }
-    ensures some { result < end → slice_index cells.now result ≢ 0 }
-{
-    let mut cell = from;
-    'cells: while cell < end && cells[cell] == 0 {
-        cell += empty_onward(cells, cell, end);
-    }
-    cell
-}
-
-/// How many cells are known to be empty from one on that is: eight, or this one.
-fn empty_onward(cells: &[u64], cell: usize, end: usize) -> usize
-    requires within { (cell < end) × (end ≤ length cells.now) }
-    requires empty { slice_index cells.now cell ≡ 0 }
-    ensures some { 0 < result }
-    ensures within { cell + result ≤ end }
-    ensures empty { (k : ℕ) → cell ≤ k → k < cell + result → slice_index cells.now k ≡ 0 }
-{
-    if cell % EIGHT == 0 && cell + EIGHT <= end && cells[cell..cell + EIGHT] == EIGHT_EMPTY[..] {
-        return EIGHT;
-    }
-    1
 }
