@@ -30,11 +30,7 @@ pub struct Place {
 }
 
 /// The cells of a store that holds these ballots.
-pub fn layout(
-    alloc: Global,
-    election: &Election,
-    ballots: &BallotList,
-) -> Result<Vec<u64>, Memory>
+pub fn layout(alloc: Global, election: &Election, ballots: &BallotList) -> Result<Vec<u64>, Memory>
     requires listing { IsListing election.now ballots.now.ballots }
     requires within_limit { IsWithinLimit election.now ballots.now.ballots }
     ensures cells { IfOk result
