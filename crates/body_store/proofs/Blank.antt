@@ -4,8 +4,6 @@ use Rattle.std.proofs.lemmas.List.{get_or-replicate}
 use Rattle.std.proofs.lemmas.List.Elements.{All-map}
 use Rattle.std.proofs.lemmas.Nat.{pow_pos}
 use Rattle.std.specs.List.{All, AllPairs}
-use Rattle.ballot_record.specs.declared.record.Record.{Record}
-use Rattle.body_store.specs.Contents.{ballots_of}
 use Rattle.ballot_record.proofs.BallotNumbers.{pairs_of_ballots}
 use Rattle.ballot_record.proofs.BallotSets.{same_in_order}
 use Rattle.std.specs.List.Sorted.{IsPermutation}
@@ -14,9 +12,6 @@ use Rattle.store_spec.specs.Election.{Election, example, choices_on}
 
 abbrev pub blank : ℕ → Ballot
 blank number = record { number = number; style = 1; marks = replicate 16 0 }
-
-abbrev pub blank_record : ℕ → Record
-blank_record number = record { number = number; style = 1; marks = replicate 16 0 }
 
 blank_valid : (number : ℕ) → 1 ≤ number → number < 2 ^ 64 → IsValid example (blank number)
 blank_valid number some short = record {
@@ -39,10 +34,6 @@ blank_listing ns some short apart = record {
   valid = All-map (IsValid example) blank ns (λ k d lt. let one = some k d lt in blank_valid _ (omega arith) (short k d lt));
   distinct = pairs_of_ballots (λ a b. a ≢ b) (map blank ns) (subst (λ (l : List ℕ). AllPairs (λ a b. a ≢ b) l) (sym (numbers_of-blank ns)) apart);
 }
-
-pub ballots_of-blank : (ns : List ℕ) → ballots_of (map blank_record ns) ≡ map blank ns
-ballots_of-blank [] = refl
-ballots_of-blank (n ∷ ns) = ap (λ rest. blank n ∷ rest) (ballots_of-blank ns)
 
 blanks_rise : (ns : List ℕ) → AllPairs (λ a b. a < b) ns → AllPairs (λ a b. a.number < b.number) (map blank ns)
 blanks_rise ns rise =

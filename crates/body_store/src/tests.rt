@@ -1,12 +1,11 @@
 //! The example election's store, as ballots come and go.
 
-ghost use Rattle.body_store.specs.Contents.{ballots_of};
 ghost use Rattle.std.specs.Prelude.{◌≡◌, ◌≢◌, ◌≤◌, All, AllPairs, IfOk, length, map, replicate};
 ghost use Rattle.store_spec.specs.Ballot.{IsListing, IsWithinLimit, MARK_SETS};
 ghost use Rattle.store_spec.specs.Election.{example};
 
 use crate::{Closed, lookup};
-use ballot_record::{Election, MAX_MARK_SETS, Record};
+use ballot_record::{BallotList, Election, MAX_MARK_SETS, Record};
 use outside_io::Memory;
 use std::alloc::Global;
 use std::process::Abort;
@@ -21,21 +20,24 @@ fn blank(number: u64) -> Record
     }
 }
 
-fn blanks(alloc: Global, numbers: &[u64]) -> Result<Vec<Record>, Memory>
+/// Ballots with no marks and these numbers.
+fn blanks(alloc: Global, numbers: &[u64]) -> Result<BallotList, Memory>
     requires some { All (λ number. number ≢ 0) numbers.now }
     requires distinct { AllPairs (λ a b. a ≢ b) numbers.now }
     requires few { length numbers.now ≤ 8 }
-    ensures listing { IfOk result (λ v. IsListing example (ballots_of v.items)) }
-    ensures within_limit { IfOk result (λ v. IsWithinLimit example (ballots_of v.items)) }
+    ensures election { IfOk result (λ list. list.election ≡ example) }
+    ensures listing { IfOk result (λ list. IsListing example list.ballots) }
+    ensures within_limit { IfOk result (λ list. IsWithinLimit example list.ballots) }
     ensures blank { IfOk result
-        (λ v. ballots_of v.items
+        (λ list. list.ballots
         ≡ map (λ n. record { number = n; style = 1; marks = replicate MARK_SETS 0 }) numbers.now) }
 {
-    let mut ballots = Vec::new(alloc);
+    let election = Election::example();
+    let mut list = BallotList::new(alloc, &election);
     for number in numbers {
-        ballots.push(blank(*number))?;
+        list.push(&blank(*number), &election)?;
     }
-    Ok(ballots)
+    Ok(list)
 }
 
 fn holds(rt: &impl Abort, cells: &[u64], wanted: &[(usize, u64)]) {
@@ -66,7 +68,7 @@ fn three_ballots(rt: HostRuntime) {
     assert_eq!(rt; empty.len(), 0);
     is_found(&rt, rt.alloc(), &empty, &[]);
     let three = blanks(rt.alloc(), &[14, 1, 9]).expect(&rt, "memory");
-    let store = Closed::from_records(rt.alloc(), &election, three).expect(&rt, "memory");
+    let store = Closed::from_records(rt.alloc(), &election, &three).expect(&rt, "memory");
     holds(&rt, store.cells(), &[(4, 9), (5, 14), (6, 1)]);
     is_found(&rt, rt.alloc(), &store, &[1, 9, 14]);
     assert_eq!(rt; store.record_of(10), None);
@@ -79,9 +81,9 @@ fn one_more(rt: HostRuntime) {
     let three = blanks(rt.alloc(), &[1, 9, 14]).expect(&rt, "memory");
     let four = blanks(rt.alloc(), &[1, 9, 14, 22]).expect(&rt, "memory");
     let cells = lookup::layout(rt.alloc(), &election, &four).expect(&rt, "memory");
-    let mut store = Closed::from_records(rt.alloc(), &election, three).expect(&rt, "memory");
+    let mut store = Closed::from_records(rt.alloc(), &election, &three).expect(&rt, "memory");
     let new = blanks(rt.alloc(), &[22]).expect(&rt, "memory");
-    store.merge(rt.alloc(), new, cells).expect(&rt, "memory");
+    store.merge(rt.alloc(), &new, cells).expect(&rt, "memory");
     assert_eq!(rt; store.len(), 4);
     holds(&rt, store.cells(), &[(4, 22), (5, 14), (6, 9), (7, 1)]);
     is_found(&rt, rt.alloc(), &store, &[1, 9, 14, 22]);
@@ -93,7 +95,7 @@ fn one_less(rt: HostRuntime) {
     let three = blanks(rt.alloc(), &[1, 9, 14]).expect(&rt, "memory");
     let two = blanks(rt.alloc(), &[1, 14]).expect(&rt, "memory");
     let cells = lookup::layout(rt.alloc(), &election, &two).expect(&rt, "memory");
-    let mut store = Closed::from_records(rt.alloc(), &election, three).expect(&rt, "memory");
+    let mut store = Closed::from_records(rt.alloc(), &election, &three).expect(&rt, "memory");
     store.without(rt.alloc(), cells).expect(&rt, "memory");
     assert_eq!(rt; store.len(), 2);
     holds(&rt, store.cells(), &[(4, 1), (5, 14)]);

@@ -1,12 +1,11 @@
 //! Withdrawing phases of the example election and of a crowded one, in which all withdrawers work at once, with what is
 //! seen of them at their turns.
 
-ghost use Rattle.body_store.specs.Contents.{ballots_of};
 ghost use Rattle.std.specs.Prelude.{◌≡◌, ◌≤◌, IfOk, length, map};
 ghost use Rattle.store_spec.specs.Ballot.{IsListing};
 
 use crate::{WithdrawPhase, Withdrawal, Withdrawer, run_withdraw};
-use ballot_record::{Contest, Election, MAX_MARK_SETS, Record};
+use ballot_record::{BallotList, Contest, Election, MAX_MARK_SETS, Record};
 use body_store::Closed;
 use fake_turns::{Meeting, SeenWords, Turn};
 use outside_io::{Memory, NoTurns, Turns};
@@ -52,10 +51,11 @@ fn blanks(
     alloc: Global,
     election: &Election,
     numbers: &[u64],
-) -> Result<Vec<Record>, Memory>
-    ensures { IfOk result (λ ballots. IsListing election.now (ballots_of ballots.items)) }
+) -> Result<BallotList, Memory>
+    ensures election { IfOk result (λ ballots. ballots.election ≡ election.now) }
+    ensures listing { IfOk result (λ ballots. IsListing election.now ballots.ballots) }
 {
-    let mut ballots = Vec::with_capacity(alloc, numbers.len())?;
+    let mut ballots = BallotList::new(alloc, election);
     let mut last = 0;
     for number in numbers {
         let ballot = Record {
@@ -65,7 +65,7 @@ fn blanks(
         };
         assert!(rt; last < *number);
         assert!(rt; ballot.valid(election));
-        ballots.push(ballot)?;
+        ballots.push(&ballot, election)?;
         last = *number;
     }
     Ok(ballots)
@@ -80,7 +80,7 @@ fn store(
 ) -> Result<Closed, Memory> {
     let ballots = blanks(rt, alloc, election, numbers)?;
     assert!(rt; ballots.len() <= election.limit() as usize);
-    Closed::from_records(alloc, election, ballots)
+    Closed::from_records(alloc, election, &ballots)
 }
 
 /// The length of each list.

@@ -1,6 +1,5 @@
 //! The example election's store: numbers that share a home, and numbers that are not held.
 
-ghost use Rattle.body_store.specs.Contents.{ballots_of};
 ghost use Rattle.std.specs.Prelude.{◌≡◌, ◌∷◌, [], IfOk, map, replicate};
 ghost use Rattle.store_spec.specs.Ballot.{IsListing, IsWithinLimit, MARK_SETS};
 ghost use Rattle.store_spec.specs.Election.{example};
@@ -8,7 +7,7 @@ ghost use Rattle.store_spec.specs.Election.{example};
 mod running;
 
 use crate::find;
-use ballot_record::{Election, MAX_MARK_SETS, Record};
+use ballot_record::{BallotList, Election, MAX_MARK_SETS, Record};
 use body_store::Closed;
 use outside_io::Memory;
 use std::alloc::Global;
@@ -23,18 +22,25 @@ fn blank(number: u64) -> Record
     }
 }
 
-fn four_ballots(alloc: Global) -> Result<Vec<Record>, Memory>
-    ensures listing { IfOk result (λ v. IsListing example (ballots_of v.items)) }
-    ensures within_limit { IfOk result (λ v. IsWithinLimit example (ballots_of v.items)) }
+fn four_ballots(alloc: Global) -> Result<BallotList, Memory>
+    ensures election { IfOk result (λ list. list.election ≡ example) }
+    ensures listing { IfOk result (λ list. IsListing example list.ballots) }
+    ensures within_limit { IfOk result (λ list. IsWithinLimit example list.ballots) }
 {
-    Ok(vec![in alloc; blank(14), blank(1), blank(22), blank(9)]?)
+    let election = Election::example();
+    let mut list = BallotList::new(alloc, &election);
+    list.push(&blank(14), &election)?;
+    list.push(&blank(1), &election)?;
+    list.push(&blank(22), &election)?;
+    list.push(&blank(9), &election)?;
+    Ok(list)
 }
 
 #[test]
 fn held_and_not_held(rt: HostRuntime) {
     let election = Election::example();
     let ballots = four_ballots(rt.alloc()).expect(&rt, "memory");
-    let store = Closed::from_records(rt.alloc(), &election, ballots).expect(&rt, "memory");
+    let store = Closed::from_records(rt.alloc(), &election, &ballots).expect(&rt, "memory");
     for number in [1, 9, 14, 22] {
         assert_eq!(rt; find(&store, number), Some(blank(number)), "{number}");
     }

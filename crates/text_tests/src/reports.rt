@@ -2,10 +2,9 @@
 
 ghost use Rattle.std.specs.Prelude.{◌≡◌, IfOk, length};
 ghost use Rattle.ballot_record.specs.Record as seen;
-ghost use Rattle.body_store.specs.Contents.{ballots_of};
 ghost use Rattle.store_spec.specs.Ballot.{IsListing, IsValid};
 
-use ballot_record::{Election, MAX_MARK_SETS, Record};
+use ballot_record::{BallotList, Election, MAX_MARK_SETS, Record};
 use body_store::Closed;
 use outside_io::Memory;
 use std::alloc::Global;
@@ -30,25 +29,25 @@ fn ballot(rt: &impl Abort, election: &Election, number: u64, first: u32, second:
     ballot
 }
 
-fn five_ballots(alloc: Global, rt: &impl Abort, election: &Election) -> Result<Vec<Record>, Memory>
-    ensures listing { IfOk result (λ v. IsListing election.now (ballots_of v.items)) }
-    ensures count { IfOk result (λ v. length (ballots_of v.items) ≡ 5) }
+fn five_ballots(alloc: Global, rt: &impl Abort, election: &Election) -> Result<BallotList, Memory>
+    ensures election { IfOk result (λ list. list.election ≡ election.now) }
+    ensures listing { IfOk result (λ list. IsListing election.now list.ballots) }
+    ensures count { IfOk result (λ list. length list.ballots ≡ 5) }
 {
-    let ballots = [
-        ballot(rt, election, 1, 1, 3),
-        ballot(rt, election, 2, 2, 0),
-        ballot(rt, election, 3, 3, 7),
-        ballot(rt, election, 5, 8, 4),
-        ballot(rt, election, 9, 0, 5),
-    ];
-    Ok(Vec::from_slice(alloc, &ballots)?)
+    let mut list = BallotList::new(alloc, election);
+    list.push(&ballot(rt, election, 1, 1, 3), election)?;
+    list.push(&ballot(rt, election, 2, 2, 0), election)?;
+    list.push(&ballot(rt, election, 3, 3, 7), election)?;
+    list.push(&ballot(rt, election, 5, 8, 4), election)?;
+    list.push(&ballot(rt, election, 9, 0, 5), election)?;
+    Ok(list)
 }
 
 #[test]
 fn a_tally_by_parts(rt: HostRuntime) {
     let election = Election::example();
     let ballots = five_ballots(rt.alloc(), &rt, &election).expect(&rt, "memory");
-    let five = Closed::from_records(rt.alloc(), &election, ballots).expect(&rt, "memory");
+    let five = Closed::from_records(rt.alloc(), &election, &ballots).expect(&rt, "memory");
     let empty = Closed::empty(rt.alloc(), &election).expect(&rt, "memory");
     let whole = tally(&five);
     assert_eq!(rt; &whole.choices[0][..5], [1, 1, 0, 1, 0].as_slice());

@@ -13,7 +13,7 @@ use std::test::Fail;
 /// The example election's store of the ballots 1, 9, 14 and 22.
 fn store(rt: &impl Abort, alloc: Global) -> Closed {
     let ballots = four_ballots(alloc).expect(rt, "memory");
-    Closed::from_records(alloc, &Election::example(), ballots).expect(rt, "memory")
+    Closed::from_records(alloc, &Election::example(), &ballots).expect(rt, "memory")
 }
 
 #[test]

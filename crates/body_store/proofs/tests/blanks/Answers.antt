@@ -1,16 +1,14 @@
-use Rattle.std.proofs.Common.{◌≡◌, ◌^◌, ◌<◌, List, All, length, map, sym, subst, ap, ◌∙◌, arith}
-use Rattle.body_store.proofs.Blank.{blank, blank_record, blank_listing, ballots_of-blank}
+use Rattle.std.proofs.Common.{◌^◌, ◌<◌, List, All, length, map, sym, subst, ap, ◌∙◌, arith}
+use Rattle.body_store.proofs.Blank.{blank, blank_listing}
 use Rattle.body_store.proofs.tests.blanks.Goals as goal
-use Rattle.body_store.specs.Contents.{ballots_of}
+use Rattle.ballot_record.specs.BallotList.{ListedBallots}
 use Rattle.std.proofs.lemmas.List.{get_or_default, length-map, take_all}
 use Rattle.store_spec.specs.Ballot.{Ballot, IsListing}
 use Rattle.store_spec.specs.Election.{example}
 
 pub returns-clause-blank : goal.returns-clause-blank
 returns-clause-blank c =
-    let each : c.loop-number.ballots.items ≡ map blank_record c.args.numbers.now =
-    c.loop-number.invariant ∙ ap (map blank_record) (take_all _ c.args.numbers.now (omega arith)) in
-    ap ballots_of each ∙ ballots_of-blank c.args.numbers.now
+    ap (λ (list : ListedBallots). list.ballots) c.loop-number.invariant ∙ ap (map blank) (take_all _ c.args.numbers.now (omega arith))
 
 pub returns-clause-within_limit : goal.returns-clause-within_limit
 returns-clause-within_limit c =

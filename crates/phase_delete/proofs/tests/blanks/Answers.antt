@@ -4,4 +4,4 @@ use Rattle.phase_delete.proofs.tests.blanks.Goals as goal
 
 pub loop-number-preserved : goal.loop-number-preserved
 loop-number-preserved g c =
-    one_more c.args.election.now c.loop-number.ballots.items c.push.new.self.items _ c.loop-number.last c.in_ok-push.ensures.items (search rules) (search rules) c.loop-number.invariant
+    one_more c.args.election.now c.loop-number.ballots c.push.new.self _ c.loop-number.last c.in_ok-push.ensures.pushed (search rules) (search rules) c.loop-number.invariant

@@ -1,9 +1,9 @@
-use Rattle.std.proofs.Common.{◌≡◌, ◌≢◌, ◌<◌, List, [], ◌∷◌, ap, arith, subst, sym}
+use Rattle.std.proofs.Common.{◌≡◌, ◌≢◌, ◌<◌, List, [], ◌∷◌, ◌∙◌, ap, arith, subst, sym}
 use Rattle.std.proofs.lemmas.List.Elements.{All-from_recursion}
 use Rattle.std.proofs.lemmas.List.Kept.{AllPairs-cons}
 use Rattle.std.specs.List.{AllPairs}
 use Rattle.ballot_record.specs.Record.{ballot}
-use Rattle.body_store.specs.Contents.{ballots_of}
+use Rattle.ballot_record.specs.BallotList.{ListedBallots, with_more}
 use Rattle.store_spec.specs.Ballot.{Ballot, IsListing, IsValid}
 use Rattle.text_tests.proofs.reports.five_ballots.Goals as goal
 
@@ -47,7 +47,12 @@ returns-clause-listing g c =
     let f = ballot c.ballot-4.result in
     let h = ballot c.ballot-5.result in
     let all = a ∷ b ∷ d ∷ f ∷ h ∷ [] in
-    let are : ballots_of c.in_ok-from_slice.field-0.items ≡ all = ap ballots_of c.in_ok-from_slice.ensures.items in
+    let first = c.in_ok-push.ensures.pushed ∙ ap (λ list. with_more list a) c.new-list.ensures in
+    let second = c.in_ok-push-2.ensures.pushed ∙ ap (λ list. with_more list b) first in
+    let third = c.in_ok-push-3.ensures.pushed ∙ ap (λ list. with_more list d) second in
+    let fourth = c.in_ok-push-4.ensures.pushed ∙ ap (λ list. with_more list f) third in
+    let fifth = c.in_ok-push-5.ensures.pushed ∙ ap (λ list. with_more list h) fourth in
+    let are : c.push-5.new.self.ballots ≡ all = ap (λ (list : ListedBallots). list.ballots) fifth in
     subst (λ (bs : List Ballot). IsListing e bs) (sym are) (record {
       valid = All-from_recursion (IsValid e) all
           (one.valid, (two.valid, (three.valid, (four.valid, (five.valid, tt)))));
