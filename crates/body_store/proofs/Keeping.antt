@@ -83,9 +83,10 @@ pub cell_held : (e : Election) (ballots : List Ballot) (bytes numbers : List ℕ
     → ballot_of ballots (get_or (cells_of e ballots) cell 0) ≡ Some b → IsCellOf e (cell_at e cell bytes) b
 cell_held e ballots bytes numbers cell b shown within there =
     let held = shown_held e ballots bytes numbers shown in
-    let number = get_or (cells_of e ballots) cell 0 in
-    (All-contains (IsValid e) ballots b shown.listing.valid (found_in ballots number b there).0,
-    ap (cell_at e cell) shown.image ∙ cell_of_image e ballots cell shown.election held within ∙ cell_of_found e ballots number b there)
+    let number = get_or (cells_of e ballots) cell 0 in (
+      All-contains (IsValid e) ballots b shown.listing.valid (found_in ballots number b there).0,
+      ap (cell_at e cell) shown.image ∙ cell_of_image e ballots cell shown.election held within ∙ cell_of_found e ballots number b there,
+    )
 
 -- the same of a part of the image, where a cell has so many bytes
 pub part_spelled : (e : Election) (ballots : List Ballot) (bytes numbers : List ℕ) (cell size : ℕ) → size ≡ cell_size e → Shows e ballots bytes numbers → cell < cell_count e → get_or numbers cell 0 ≢ 0

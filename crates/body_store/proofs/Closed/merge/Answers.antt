@@ -36,8 +36,10 @@ close-requires c =
       merge_closes own.election own.ballots new c.self.invariant.shown.election
           (subst (λ (store : Contents). IsListing store.election (store.ballots ++ new)) back c.requires.listing)
           (subst (λ (store : Contents). IsWithinLimit store.election (store.ballots ++ new)) back c.requires.within_limit),
-      (c.requires.election ∙ ap (λ (store : Contents). store.election) back,
-      (c.self.invariant.shown, c.requires.layout ∙ ap (λ (store : Contents). cells_of store.election (store.ballots ++ new)) back)),
+      (
+        c.requires.election ∙ ap (λ (store : Contents). store.election) back,
+        (c.self.invariant.shown, c.requires.layout ∙ ap (λ (store : Contents). cells_of store.election (store.ballots ++ new)) back),
+      ),
     ) in
     subst₂ (λ e numbers. IsAsked image e c.args.ballots.now.election numbers new c.deref-3.result.now) (sym c.deref.ensures) (sym c.deref-2.ensures.value)
     (subst (λ (cells : List ℕ). IsAsked image own.election c.args.ballots.now.election a.cells.items new cells) (sym c.deref-3.ensures.value) asked)

@@ -23,22 +23,24 @@ relay-requires g c =
     let laid = c.requires.1.1.1 in
     let held = rest_held e more g.change close in
     let size = laid_size e g.change.rest cells close.election held laid in
-    let was = (shown_layout e g.change.old bytes numbers shown).size in
-    (c.requires.1.0, record {
-      wide = each_wide e more g.change close;
-      blank = empty_blank e more g.change close;
-      new_ballots = new_in_cells e more g.change close;
-      as_many = was ∙ sym size;
-      before = record {
-        long = shown_size e g.change.old bytes numbers shown ∙ ap (λ n. header_size + n * cell_size e) (sym was);
-        each = λ cell lt. cells_before e more g.change bytes numbers close shown cell (omega (arith, lt, was));
-      };
-      known = number_from e more g.change bytes numbers cells close shown laid;
-      ordered = subst (λ (b : ℕ). IsOrdered (home_of b c.order-order.result.salt) cells) (sym c.order-order.ensures.bits)
-          (subst (λ (s : ℕ). IsOrdered (home_of e.bits s) cells) (sym c.order-order.ensures.salt) (laid_ordered e g.change.rest cells close.election held laid));
-      few_cells = omega (arith, size, few_cells e close.election);
-      few_ballots = close.few;
-    })
+    let was = (shown_layout e g.change.old bytes numbers shown).size in (
+      c.requires.1.0,
+      record {
+        wide = each_wide e more g.change close;
+        blank = empty_blank e more g.change close;
+        new_ballots = new_in_cells e more g.change close;
+        as_many = was ∙ sym size;
+        before = record {
+          long = shown_size e g.change.old bytes numbers shown ∙ ap (λ n. header_size + n * cell_size e) (sym was);
+          each = λ cell lt. cells_before e more g.change bytes numbers close shown cell (omega (arith, lt, was));
+        };
+        known = number_from e more g.change bytes numbers cells close shown laid;
+        ordered = subst (λ (b : ℕ). IsOrdered (home_of b c.order-order.result.salt) cells) (sym c.order-order.ensures.bits)
+            (subst (λ (s : ℕ). IsOrdered (home_of e.bits s) cells) (sym c.order-order.ensures.salt) (laid_ordered e g.change.rest cells close.election held laid));
+        few_cells = omega (arith, size, few_cells e close.election);
+        few_ballots = close.few;
+      },
+    )
 
 pub returns-clause-shown : goal.returns-clause-shown
 returns-clause-shown g c =
