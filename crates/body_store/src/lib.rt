@@ -16,7 +16,7 @@ ghost use Rattle.body_store.specs.ByNumber.{by_number};
 ghost use Rattle.body_store.specs.Contents.{Contents, IsStored, ballots_of, ballots_without};
 ghost use Rattle.body_store.specs.Held.{Shows, held_in};
 ghost use Rattle.body_store.specs.Places.{AreAt};
-ghost use Rattle.std.specs.Prelude.{◌≡◌, ◌++◌, ◌+◌, ◌-◌, ◌<◌, ◌≤◌, ℕ, List, [], All, IfOk, IsPermutation, OnErr, OnOk, Some, drop, length, map, option_map, slice_index, take};
+ghost use Rattle.std.specs.Prelude.{◌≡◌, ◌++◌, ◌+◌, ◌-◌, ◌<◌, ◌≤◌, ℕ, List, [], All, IfOk, IsPermutation, MatchOption, None, OnErr, OnOk, Some, drop, length, map, option_map, slice_index, take};
 ghost use Rattle.ballot_record.specs.Record.{ballot};
 ghost use Rattle.store_spec.specs.Ballot.{Ballot, IsListing, IsWithinLimit, ballot_of, numbers_of};
 ghost use Rattle.store_spec.specs.Election.{IsElection, bank_size, cell_count, cell_size};
@@ -180,6 +180,16 @@ impl Closed {
         ensures stored { IsStored self.now }
     {
         lookup::bytes_in(&self.image, self.election.cell_bytes(), cell)
+    }
+
+    /// The bytes of the cell of the ballot with this number. `None` where it holds none.
+    pub fn cell_of(&self, number: u64) -> Option<&[u8]>
+        ensures { MatchOption result (ballot_of self.now.ballots number ≡ None)
+            (λ bytes. (b : Ballot) × (ballot_of self.now.ballots number ≡ Some b)
+            × IsCellOf self.now.election bytes.now b) }
+    {
+        let cell = lookup::cell_with(&self.election, &self.cells, number)?;
+        Some(self.cell(cell))
     }
 
     /// Adds ballots whose numbers are new to the store. `cells` is the layout of all. After `Memory` it is as it was.

@@ -6,11 +6,12 @@ ghost use Rattle.body_store.specs.Contents.{ballots_of};
 ghost use Rattle.body_store.specs.Held.{Shows, held_in};
 ghost use Rattle.body_store.specs.Moves.{cell_in};
 ghost use Rattle.body_store.specs.Places.{AreAt};
-ghost use Rattle.std.specs.Prelude.{◌≡◌, ◌≢◌, ℕ, ◌+◌, ◌-◌, ◌*◌, ◌<◌, ◌≤◌, List, All, IfOk, drop, length, map, option_map, slice_index, take};
+ghost use Rattle.std.specs.Prelude.{◌≡◌, ◌≢◌, ℕ, ◌+◌, ◌-◌, ◌*◌, ◌<◌, ◌≤◌, List, All, Contains, IfOk, MatchOption, drop, length, map, option_map, slice_index, take};
 ghost use Rattle.store_spec.specs.Ballot.{Ballot, IsListing, IsWithinLimit, ballot_of, numbers_of};
 ghost use Rattle.store_spec.specs.Election.{IsElection, cell_count, header_size, most_cells};
+ghost use Rattle.store_spec.specs.Home.{home_in};
 ghost use Rattle.store_spec.specs.Image.{cells_of};
-ghost use Rattle.store_spec.specs.Layout.{ascending, numbers_in};
+ghost use Rattle.store_spec.specs.Layout.{IsOrdered, ascending, numbers_in};
 
 use ballot_record::{BallotList, Election, HEADER_BYTES, Record};
 use layout_def::{build, place_of};
@@ -80,11 +81,20 @@ pub fn with_number(election: &Election, image: &[u8], cells: &[u64], number: u64
     requires { Shows election.now ballots image.now cells.now }
     ensures { option_map ballot result ≡ ballot_of ballots number }
 {
+    let cell = cell_with(election, cells, number)?;
+    in_cell(election, image, cells, cell)
+}
+
+/// The cell in which a number stands. `None` where it stands in none.
+pub fn cell_with(election: &Election, cells: &[u64], number: u64) -> Option<usize>
+    requires { IsOrdered (home_in election.now) cells.now }
+    ensures { MatchOption result (number ≢ 0 → ¬ Contains cells.now number)
+        (λ cell. (number ≢ 0) × (slice_index cells.now cell ≡ number)) }
+{
     if number == 0 {
         return None;
     }
-    let cell = place_of(&election.order(), cells, number)?;
-    in_cell(election, image, cells, cell)
+    place_of(&election.order(), cells, number)
 }
 
 /// The numbers in these cells in ascending order, each with its cell.

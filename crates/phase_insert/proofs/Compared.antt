@@ -1,65 +1,81 @@
 -- A ballot beside those that are held.
-use Rattle.std.proofs.Common.{◌≡◌, ◌≢◌, ℕ, Bool, true, false, ◌&&◌, List, Some, None, refl, sym, ap, ◌∙◌}
-use Rattle.std.proofs.Math.Dec.{eqb}
-use Rattle.std.proofs.lemmas.Bool.{eq-eqb, eqb-true}
+use Rattle.std.proofs.Common.{◌≡◌, ◌≢◌, ℕ, true, false, List, bytes_eq, get_or, Some, None, refl, sym, ap, ◌∙◌, subst}
 use Rattle.std.proofs.lemmas.Slice.Eq.{bytes_eq-Decides}
-use Rattle.std.specs.Cmp.Derive.{both_true}
-use Rattle.std.specs.Cmp.Lexicographic.{pointwise}
-use Rattle.std.specs.List.{Contains}
+use Rattle.std.specs.List.{Contains, slice_get}
 use Rattle.std.specs.Prelude.{◌↔◌}
+use Rattle.ballot_record.proofs.BallotLists.{number_at_place}
 use Rattle.ballot_record.proofs.BallotSets.{listing_from_set}
+use Rattle.ballot_record.proofs.CellFormat.{same_ballot}
 use Rattle.ballot_record.proofs.Lookups.{found_in, found_once, missing_from}
-use Rattle.ballot_record.specs.Record.{ballot}
-use Rattle.ballot_record.specs.declared.record.Record.{Record}
 use Rattle.body_store.specs.Contents.{Contents, IsStored}
 use Rattle.phase_insert.specs.Gains.{IsMet}
 use Rattle.phase_insert.specs.Tray.{AnotherHas, Compares}
 use Rattle.phase_insert.specs.declared.reply.CastReply.{CastReply}
 use Rattle.phase_insert.specs.declared.reply.CastReply.TheVariants.{Accepted, Duplicate, Conflict, Taken, Full}
-use Rattle.store_spec.specs.Ballot.{Ballot, ballot_of}
+use Rattle.store_spec.specs.Ballot.{Ballot, IsValid, ballot_of, numbers_of}
 use Rattle.store_spec.specs.BallotPhase.{HasNumber}
+use Rattle.store_spec.specs.Election.{Election, IsElection}
+use Rattle.store_spec.specs.Image.{IsCellOf, ballot_bytes}
 
--- ---- two records
+-- ---- the cell of a list and the cell of a store
 
-abbrev is_same : Record → Record → Bool
-is_same a b = eqb a.number b.number && (eqb a.style b.style && pointwise eqb a.marks b.marks)
+-- the bytes of a ballot's cell, which stands at a place of a list
+abbrev pub IsCellAt : Election → List Ballot → ℕ → List ℕ → Type 0
+IsCellAt e ballots place cell = (b : Ballot) × (slice_get ballots place ≡ Some b) × IsCellOf e cell b
 
-both_hold : (x y : Bool) → (x && y) ≡ true → (x ≡ true) × (y ≡ true)
-both_hold true true h = (refl, refl)
-both_hold true false h = absurd cc
-both_hold false y h = absurd cc
+-- the bytes of the cell of a store's ballot with a number
+abbrev pub IsHeldCell : Contents → ℕ → List ℕ → Type 0
+IsHeldCell store number held = (b : Ballot) × (ballot_of store.ballots number ≡ Some b) × IsCellOf store.election held b
 
-pub same_ballot : (a b : Record) → is_same a b ≡ true → ballot a ≡ ballot b
-same_ballot a b test =
-    let first = both_hold (eqb a.number b.number) (eqb a.style b.style && pointwise eqb a.marks b.marks) test in
-    let rest = both_hold (eqb a.style b.style) (pointwise eqb a.marks b.marks) first.1 in
-    let number : a.number ≡ b.number = eqb-true a.number b.number first.0 in
-    let style : a.style ≡ b.style = eqb-true a.style b.style rest.0 in
-    let marks : a.marks ≡ b.marks = (bytes_eq-Decides a.marks b.marks).0 rest.1 in
-    cc
+one_there : (ballots : List Ballot) (place : ℕ) (a b : Ballot) → slice_get ballots place ≡ Some a → slice_get ballots place ≡ Some b → a ≡ b
+one_there ballots place a b first second = let both : Some a ≡ Some b = sym first ∙ second in cc
 
-pub other_ballot : (a b : Record) → is_same a b ≡ false → ballot a ≢ ballot b
-other_ballot a b test same =
-    let holds : is_same a b ≡ true =
-    both_true (eq-eqb a.number b.number (ap (λ (x : Ballot). x.number) same))
-    (both_true (eq-eqb a.style b.style (ap (λ (x : Ballot). x.style) same)) ((bytes_eq-Decides a.marks b.marks).1 (ap (λ (x : Ballot). x.marks) same))) in
-    absurd cc
+module _ (store : Contents) (e : Election) (own : e ≡ store.election) (ballots : List Ballot) (place number : ℕ) (cell : List ℕ) (is : IsCellAt e ballots place cell) (b : Ballot) (there : slice_get ballots place ≡ Some b) where
+  cell_of_it : IsCellOf store.election cell b
+  cell_of_it = subst (λ (e : Election). IsCellOf e cell b) own (subst (IsCellOf e cell) (one_there ballots place is.0 b is.1 there) is.2)
+
+  pub valid_there : IsValid store.election b
+  valid_there = cell_of_it.0
+
+  module _ (named : number ≡ get_or (numbers_of ballots) place 0) where
+    pub number_there : number ≡ b.number
+    number_there = named ∙ number_at_place ballots place b there
+
+    module _ (held : List ℕ) (has : IsHeldCell store number held) where
+      found : ballot_of store.ballots b.number ≡ Some has.0
+      found = ap (ballot_of store.ballots) (sym number_there) ∙ has.1
+
+      -- equal bytes are the cells of one ballot
+      pub same_held : IsElection e → bytes_eq held cell ≡ true → ballot_of store.ballots b.number ≡ Some b
+      same_held election test =
+          let same = same_ballot store.election has.0 b (subst IsElection own election) has.2.0 cell_of_it.0 (sym has.2.1 ∙ (bytes_eq-Decides held cell).0 test ∙ cell_of_it.1) in
+          found ∙ ap (λ (b : Ballot). Some b) same
+
+      -- and others are not
+      pub other_held : bytes_eq held cell ≡ false → (other : Ballot) × (ballot_of store.ballots b.number ≡ Some other) × (other ≢ b)
+      other_held test = (
+        has.0,
+        found,
+        λ same.
+            let holds : bytes_eq held cell ≡ true = (bytes_eq-Decides held cell).1 (has.2.1 ∙ ap (ballot_bytes store.election) same ∙ sym cell_of_it.1) in
+            absurd cc,
+      )
 
 -- ---- a ballot and the one that is held with its number
 
-pub holds_same : (base : List Ballot) (a b : Ballot) (number : ℕ) → Some a ≡ ballot_of base number → a ≡ b → Contains base b
-holds_same base a b number held same = (found_in base number b (sym held ∙ ap Some same)).0
+pub holds_same : (base : List Ballot) (b : Ballot) → ballot_of base b.number ≡ Some b → Contains base b
+holds_same base b held = (found_in base b.number b held).0
 
-pub holds_other : (base : List Ballot) (a b : Ballot) → Some a ≡ ballot_of base b.number → a ≢ b → AnotherHas base b
+pub holds_other : (base : List Ballot) (a b : Ballot) → ballot_of base b.number ≡ Some a → a ≢ b → AnotherHas base b
 holds_other base a b held other =
-    let found = found_in base b.number a (sym held) in
+    let found = found_in base b.number a held in
     ((found.0).0, a, (found.0).1, (found.0).2, (found.1, other))
 
-pub holds_none : (base : List Ballot) (number : ℕ) → None ≡ ballot_of base number → ¬ HasNumber base number
-holds_none base number none h = missing_from base number (sym none) h.1 (h.0, h.2, h.3) h.4
+pub holds_none : (base : List Ballot) (number : ℕ) → ballot_of base number ≡ None → ¬ HasNumber base number
+holds_none base number none h = missing_from base number none h.1 (h.0, h.2, h.3) h.4
 
 -- what the claim words answer, where no held ballot has the number
-pub compares_new : (base : List Ballot) (b : Ballot) (reply : CastReply) → IsMet reply → None ≡ ballot_of base b.number → Compares base b reply
+pub compares_new : (base : List Ballot) (b : Ballot) (reply : CastReply) → IsMet reply → ballot_of base b.number ≡ None → Compares base b reply
 compares_new base b Accepted met none = holds_none base b.number none
 compares_new base b Duplicate met none = absurd met
 compares_new base b Conflict met none = absurd met

@@ -1,5 +1,5 @@
 -- The numbers in the cells of a store are those of its ballots.
-use Rattle.std.proofs.Common.{◌≡◌, ℕ, ◌^◌, None, List, sym, subst}
+use Rattle.std.proofs.Common.{◌≡◌, ℕ, ◌^◌, None, List, subst}
 use Rattle.std.specs.List.{Contains}
 use Rattle.ballot_record.proofs.BallotNumbers.{ballot_with}
 use Rattle.ballot_record.proofs.Lookups.{missing_from}
@@ -17,8 +17,8 @@ pub room : (store : Contents) → IsStored store → HasRoom (home_in store.elec
 room store h = has_room store.election store.ballots h.election (may_hold_set store.election store.ballots h.set h.within_limit)
 
 -- a number with no ballot stands in no cell
-pub not_in_words : (store : Contents) (words : SharedWords) → IsStored store → AreCastWordsOf store words → (number : ℕ) → None ≡ ballot_of store.ballots number → ¬ Contains (numbers_in words.base) number
+pub not_in_words : (store : Contents) (words : SharedWords) → IsStored store → AreCastWordsOf store words → (number : ℕ) → ballot_of store.ballots number ≡ None → ¬ Contains (numbers_in words.base) number
 not_in_words store words h are number none c =
     let there = from_cells store.election store.ballots (room store h) number (subst (λ (l : List ℕ). Contains (numbers_in l) number) are.of_store.held c) in
     let held = ballot_with store.ballots number there in
-    missing_from store.ballots number (sym none) held.0 held.1 held.2
+    missing_from store.ballots number none held.0 held.1 held.2

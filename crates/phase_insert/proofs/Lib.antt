@@ -1,11 +1,14 @@
 pub mod CastLists
+pub mod Casts
 pub mod Claimed
 pub mod Compared
 pub mod HeldNumbers
 pub mod Opened
 pub mod Outcome
+pub mod Replied
 pub mod Rows
 pub mod Sent
+pub mod Tabulators
 pub mod Trays
 pub mod Unions
 pub mod Whole

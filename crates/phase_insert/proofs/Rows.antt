@@ -5,13 +5,13 @@ use Rattle.std.proofs.lemmas.List.Elements.{All-push}
 use Rattle.std.specs.List.{All, Contains, zip}
 use Rattle.phase_insert.specs.Closing.{beside}
 use Rattle.phase_insert.specs.Ends.{AreAllFinals, AreFinals, IsAnswered}
-use Rattle.phase_insert.specs.declared.reply.Cast.{Cast}
+use Rattle.phase_insert.specs.Tray.{Cast}
 use Rattle.phase_insert.specs.declared.reply.Final.{Final}
 use Rattle.store_spec.specs.Ballot.{Ballot}
 use Rattle.word_rule.proofs.Members.{behind, first_in, not_in_none}
 
 -- each of two lists has one element more
-zip_more : {X Y : Type 0} (xs : List X) (ys : List Y) (x : X) (y : Y) → length ys ≡ length xs → zip (xs ++ x ∷ []) (ys ++ y ∷ []) ≡ zip xs ys ++ (x, y) ∷ []
+pub zip_more : {X Y : Type 0} (xs : List X) (ys : List Y) (x : X) (y : Y) → length ys ≡ length xs → zip (xs ++ x ∷ []) (ys ++ y ∷ []) ≡ zip xs ys ++ (x, y) ∷ []
 zip_more [] [] x y same = refl
 zip_more [] (b ∷ ys) x y same = absurd (omega arith)
 zip_more (a ∷ xs) [] x y same = absurd (omega arith)
@@ -31,6 +31,13 @@ pub firsts_of-zip : {X Y : Type 0} (xs : List X) (ys : List Y) → length ys ≡
 firsts_of-zip [] ys same = refl
 firsts_of-zip (x ∷ xs) [] same = absurd (omega arith)
 firsts_of-zip (x ∷ xs) (y ∷ ys) same = ap (λ l. x ∷ l) (firsts_of-zip xs ys (omega arith))
+
+-- and the second ones
+pub seconds_of-zip : {X Y : Type 0} (xs : List X) (ys : List Y) → length ys ≡ length xs → map (λ p. p.1) (zip xs ys) ≡ ys
+seconds_of-zip [] [] same = refl
+seconds_of-zip [] (y ∷ ys) same = absurd (omega arith)
+seconds_of-zip (x ∷ xs) [] same = absurd (omega arith)
+seconds_of-zip (x ∷ xs) (y ∷ ys) same = ap (λ l. y ∷ l) (seconds_of-zip xs ys (omega arith))
 
 -- ---- final replies
 

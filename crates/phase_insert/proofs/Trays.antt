@@ -4,14 +4,11 @@ use Rattle.std.proofs.lemmas.List.{append-nil, map-append}
 use Rattle.std.proofs.lemmas.List.Elements.{All-push, Contains-get_or, filter-append}
 use Rattle.std.proofs.lemmas.List.Quantifiers.{all_pairs_push}
 use Rattle.std.specs.List.{Contains, filter}
-use Rattle.ballot_record.specs.Record.{ballot}
-use Rattle.ballot_record.specs.declared.record.Record.{Record}
-use Rattle.body_store.proofs.Numbers.{no_record}
+use Rattle.phase_insert.proofs.Casts.{cast_of}
 use Rattle.phase_insert.proofs.Compared.{another_number, has_own_number}
 use Rattle.phase_insert.specs.CastPhase.{Phase}
 use Rattle.phase_insert.specs.Gains.{Gains, IsNewTo}
-use Rattle.phase_insert.specs.Tray.{Compares, IsTold, MayPrecede, is_accepted, is_full, is_taken, numbers_that}
-use Rattle.phase_insert.specs.declared.reply.Cast.{Cast}
+use Rattle.phase_insert.specs.Tray.{Cast, Compares, IsTold, MayPrecede, is_accepted, is_full, is_taken, ballots_that, numbers_that}
 use Rattle.phase_insert.specs.declared.reply.CastReply.{CastReply}
 use Rattle.phase_insert.specs.declared.reply.CastReply.TheVariants.{Accepted, Duplicate, Conflict, Taken, Full}
 use Rattle.store_spec.specs.Ballot.{Ballot, IsValid}
@@ -19,17 +16,31 @@ use Rattle.store_spec.specs.BallotPhase.{HasNumber}
 use Rattle.store_spec.specs.CastStep.{CastView}
 use Rattle.store_spec.specs.CastStep.CastState.{Rest}
 use Rattle.word_rule.proofs.Members.{contains-filter, contains-map, not_in_none}
-use Rattle.word_rule.specs.Seats.{SharedWords}
 
 -- ---- the numbers of a tray
-
-abbrev pub cast_of : Record → CastReply → Cast
-cast_of b reply = record { ballot = b; reply = reply }
 
 numbers_that-append : (p : CastReply → Bool) (xs ys : List Cast) → numbers_that p (xs ++ ys) ≡ numbers_that p xs ++ numbers_that p ys
 numbers_that-append p xs ys =
     ap (map (λ (c : Cast). c.ballot.number)) (filter-append (λ (c : Cast). p c.reply) xs ys)
     ∙ map-append (λ (c : Cast). c.ballot.number) (filter (λ (c : Cast). p c.reply) xs) (filter (λ (c : Cast). p c.reply) ys)
+
+pub ballots_that-push : (p : CastReply → Bool) (tray : List Cast) (c : Cast) → ballots_that p (tray ++ c ∷ []) ≡ ballots_that p tray ++ ballots_that p (c ∷ [])
+ballots_that-push p tray c =
+    ap (map (λ (c : Cast). c.ballot)) (filter-append (λ (c : Cast). p c.reply) tray (c ∷ []))
+    ∙ map-append (λ (c : Cast). c.ballot) (filter (λ (c : Cast). p c.reply) tray) (filter (λ (c : Cast). p c.reply) (c ∷ []))
+
+pub one_accepted : (cast : Cast) → cast.reply ≡ Accepted → ballots_that is_accepted (cast ∷ []) ≡ cast.ballot ∷ []
+one_accepted cast accepted = ap (λ r. ballots_that is_accepted (cast_of cast.ballot r ∷ [])) accepted
+
+pub one_other : (cast : Cast) → cast.reply ≢ Accepted → ballots_that is_accepted (cast ∷ []) ≡ []
+one_other cast other = by_reply cast.reply other
+  where
+    by_reply : (r : CastReply) → r ≢ Accepted → ballots_that is_accepted (cast_of cast.ballot r ∷ []) ≡ []
+    by_reply Accepted other = absurd (other refl)
+    by_reply Duplicate other = refl
+    by_reply Conflict other = refl
+    by_reply Taken other = refl
+    by_reply Full other = refl
 
 -- a ballot adds its number, or nothing
 module _ (p : CastReply → Bool) (tray : List Cast) (c : Cast) (list now : List ℕ) where
@@ -51,7 +62,7 @@ pub record AreLists (claims : ℕ) (view : CastView) (tray : List Cast) : Type 0
   pub taken : numbers_that is_taken tray ≡ view.taken
   pub full : claims ≢ 0 → numbers_that is_full tray ≡ view.full
 
-lists_more : (claims : ℕ) (old now : CastView) (tray : List Cast) (b : Record) (reply : CastReply) → AreLists claims old tray → Gains claims old b.number reply now → AreLists claims now (tray ++ cast_of b reply ∷ [])
+lists_more : (claims : ℕ) (old now : CastView) (tray : List Cast) (b : Ballot) (reply : CastReply) → AreLists claims old tray → Gains claims old b.number reply now → AreLists claims now (tray ++ cast_of b reply ∷ [])
 lists_more claims old now tray b Accepted h is = record {
   accepted = adds is_accepted tray (cast_of b Accepted) old.accepted now.accepted refl h.accepted (ap (λ v. v.accepted) is);
   taken = keeps is_taken tray (cast_of b Accepted) old.taken now.taken refl h.taken (ap (λ v. v.taken) is);
@@ -99,21 +110,21 @@ not_held : (base : List Ballot) (a b : ℕ) → ¬ HasNumber base b → HasNumbe
 not_held base a b none there same = none (subst (HasNumber base) same there)
 
 -- what is accepted now was not answered before
-module _ (phase : Phase) (old : CastView) (tray : List Cast) (b : Record) (lists : AreLists phase.words.shape.claims old tray) (new : IsNewTo phase.words.shape.claims old b.number) (none : ¬ HasNumber phase.base.ballots b.number) where
+module _ (phase : Phase) (old : CastView) (tray : List Cast) (b : Ballot) (lists : AreLists phase.words.shape.claims old tray) (new : IsNewTo phase.words.shape.claims old b.number) (none : ¬ HasNumber phase.base.ballots b.number) where
   other_than : (p : CastReply → Bool) (list : List ℕ) → numbers_that p tray ≡ list → ¬ Contains list b.number → (c : Cast) → Contains tray c → p c.reply ≡ true → c.ballot.number ≢ b.number
   other_than p list is without c there passes same = without (subst (λ (l : List ℕ). Contains l b.number) is (subst (Contains (numbers_that p tray)) same (listed p tray c there passes)))
 
-  precedes : (c : Cast) → Contains tray c → Compares phase.base.ballots (ballot c.ballot) c.reply → (c.ballot.number ≢ b.number) × (c.reply ≢ Full)
+  precedes : (c : Cast) → Contains tray c → Compares phase.base.ballots c.ballot c.reply → (c.ballot.number ≢ b.number) × (c.reply ≢ Full)
   precedes c there compares = by_reply c.reply refl
     where
       by_reply : (reply : CastReply) → c.reply ≡ reply → (c.ballot.number ≢ b.number) × (c.reply ≢ Full)
       by_reply Accepted is = (other_than is_accepted old.accepted lists.accepted new.not_accepted c there (ap is_accepted is), λ full. let e : Accepted ≡ Full = sym is ∙ full in cc)
       by_reply Duplicate is = (
-        not_held phase.base.ballots c.ballot.number b.number none (has_own_number phase.base.ballots (ballot c.ballot) (subst (Compares phase.base.ballots (ballot c.ballot)) is compares)),
+        not_held phase.base.ballots c.ballot.number b.number none (has_own_number phase.base.ballots c.ballot (subst (Compares phase.base.ballots c.ballot) is compares)),
         λ full. let e : Duplicate ≡ Full = sym is ∙ full in cc,
       )
       by_reply Conflict is = (
-        not_held phase.base.ballots c.ballot.number b.number none (another_number phase.base.ballots (ballot c.ballot) (subst (Compares phase.base.ballots (ballot c.ballot)) is compares)),
+        not_held phase.base.ballots c.ballot.number b.number none (another_number phase.base.ballots c.ballot (subst (Compares phase.base.ballots c.ballot) is compares)),
         λ full. let e : Conflict ≡ Full = sym is ∙ full in cc,
       )
       by_reply Taken is = (other_than is_taken old.taken lists.taken new.not_taken c there (ap is_taken is), λ full. let e : Taken ≡ Full = sym is ∙ full in cc)
@@ -121,35 +132,22 @@ module _ (phase : Phase) (old : CastView) (tray : List Cast) (b : Record) (lists
 
 -- ---- one ballot more
 
-pub told_more : (phase : Phase) (old now : CastView) (tray : List Cast) (b : Record) (reply : CastReply) → IsTold phase old tray → IsValid phase.base.election (ballot b) → Compares phase.base.ballots (ballot b) reply → Gains phase.words.shape.claims old b.number reply now
+pub told_more : (phase : Phase) (old now : CastView) (tray : List Cast) (b : Ballot) (reply : CastReply) → IsTold phase old tray → IsValid phase.base.election b → Compares phase.base.ballots b reply → Gains phase.words.shape.claims old b.number reply now
     → (reply ≡ Accepted → IsNewTo phase.words.shape.claims old b.number) → IsTold phase now (tray ++ cast_of b reply ∷ [])
 told_more phase old now tray b reply told valid compares gains new =
     let claims = phase.words.shape.claims in
     let c = cast_of b reply in
     let before : AreLists claims old tray = record { accepted = told.accepted; taken = told.taken; full = told.full } in
     let lists = lists_more claims old now tray b reply before gains in
-    let Right : Cast → Type 0 = λ x. Compares phase.base.ballots (ballot x.ballot) x.reply in
+    let Right : Cast → Type 0 = λ x. Compares phase.base.ballots x.ballot x.reply in
     record {
       at_rest = rests_more claims b.number old now reply told.at_rest gains;
       accepted = lists.accepted;
       taken = lists.taken;
       full = lists.full;
-      valid = All-push (λ (x : Cast). IsValid phase.base.election (ballot x.ballot)) tray c told.valid valid;
+      valid = All-push (λ (x : Cast). IsValid phase.base.election x.ballot) tray c told.valid valid;
       compared = All-push Right tray c told.compared compares;
       in_order = all_pairs_push MayPrecede tray c told.in_order (λ k d within accepts.
-          precedes phase old tray b before (new accepts) (subst (Compares phase.base.ballots (ballot b)) accepts compares)
+          precedes phase old tray b before (new accepts) (subst (Compares phase.base.ballots b) accepts compares)
           (get_or tray k d) (Contains-get_or tray k d within) (told.compared k d within));
     }
-
--- the same of a tabulator, as its parts are known after the call
-pub told_anew : (phase known : Phase) (words : SharedWords) (old now : CastView) (tray items : List Cast) (b : Record) (reply : CastReply) → phase ≡ known → words ≡ phase.words → items ≡ tray ++ cast_of b reply ∷ []
-    → IsTold phase old tray → IsValid known.base.election (ballot b) → Compares known.base.ballots (ballot b) reply → Gains known.words.shape.claims old b.number reply now → (reply ≡ Accepted → IsNewTo known.words.shape.claims old b.number)
-    → IsTold (record { base = phase.base; words = words }) now items
-told_anew phase known words old now tray items b reply same belong is told valid compares gains new =
-    let more = told_more known old now tray b reply (subst (λ (p : Phase). IsTold p old tray) same told) valid compares gains new in
-    subst (λ (w : SharedWords). IsTold (record { base = phase.base; words = w }) now items) (sym belong)
-    (subst (λ (l : List Cast). IsTold phase now l) (sym is) (subst (λ (p : Phase). IsTold p now (tray ++ cast_of b reply ∷ [])) (sym same) more))
-
--- what stands past the end of a tray
-abbrev pub no_cast : Cast
-no_cast = record { ballot = no_record; reply = Accepted }

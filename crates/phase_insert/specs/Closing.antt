@@ -1,8 +1,7 @@
 -- What the close of a casting phase tells.
 use Rattle.std.specs.Prelude.{◌≡◌, ◌⊎◌, List, length, map, zip, All}
-use Rattle.ballot_record.specs.Record.{ballot}
 use Rattle.body_store.specs.Contents.{Contents}
-use Rattle.phase_insert.specs.declared.reply.Cast.{Cast}
+use Rattle.phase_insert.specs.Tray.{Cast}
 use Rattle.phase_insert.specs.declared.reply.CastReply.{CastReply}
 use Rattle.phase_insert.specs.declared.reply.CastReply.TheVariants as casts
 use Rattle.phase_insert.specs.declared.reply.Final.{Final}
@@ -30,7 +29,7 @@ abbrev pub beside : List (List Cast) → List (List Final) → List (List (Cast 
 beside trays finals = map (λ lists. zip lists.0 lists.1) (zip trays finals)
 
 abbrev pub line : Cast × Final → CastLine
-line told = record { ballot = ballot told.0.ballot; reply = reply_of told.1 }
+line told = record { ballot = told.0.ballot; reply = reply_of told.1 }
 
 -- Each ballot of each tray has a final reply, and with these replies the ballots have the outcome of a casting phase.
 pub record ClosesAs (base : Contents) (trays : List (List Cast)) (finals : List (List Final)) (after : List Ballot) : Type 0 where

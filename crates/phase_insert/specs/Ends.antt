@@ -1,10 +1,8 @@
 -- What the parts of a close hand on.
 use Rattle.std.specs.Prelude.{◌≡◌, ◌≢◌, List, length, map, flat_map, zip, All, Some}
-use Rattle.ballot_record.specs.Record.{ballot}
 use Rattle.phase_insert.specs.Closing.{beside}
 use Rattle.phase_insert.specs.Tabulator.{TabulatorView}
-use Rattle.phase_insert.specs.Tray.{IsTold, ballots_that, is_accepted}
-use Rattle.phase_insert.specs.declared.reply.Cast.{Cast}
+use Rattle.phase_insert.specs.Tray.{Cast, IsTold, ballots_that, is_accepted}
 use Rattle.phase_insert.specs.declared.reply.CastReply.{CastReply}
 use Rattle.phase_insert.specs.declared.reply.CastReply.TheVariants as casts
 use Rattle.phase_insert.specs.declared.reply.Final.{Final}
@@ -40,7 +38,7 @@ IsAnswer after b casts.Taken final = Decides after b final
 IsAnswer after b casts.Full final = final ≡ finals.Full
 
 abbrev pub IsAnswered : List Ballot → Cast × Final → Type 0
-IsAnswered after told = IsAnswer after (ballot told.0.ballot) told.0.reply told.1
+IsAnswered after told = IsAnswer after told.0.ballot told.0.reply told.1
 
 -- the final replies to the ballots of a tray
 pub record AreFinals (after : List Ballot) (tray : List Cast) (finals : List Final) : Type 0 where

@@ -3,6 +3,7 @@ pub mod CastPhaseKept
 pub mod Closing
 pub mod Ends
 pub mod Gains
+pub mod Replies
 pub mod Running
 pub mod Tabulator
 pub mod TabulatorKept

@@ -2,7 +2,7 @@
 use Rattle.std.specs.Prelude.{◌≡◌, ℕ, List, [], length, All}
 use Rattle.body_store.specs.Contents.{Contents}
 use Rattle.phase_insert.specs.CastPhase.{Phase}
-use Rattle.phase_insert.specs.declared.reply.Cast.{Cast}
+use Rattle.phase_insert.specs.Tray.{Cast}
 use Rattle.store_spec.specs.CastStep.{CastView, fresh_view}
 use Rattle.word_rule.specs.Places.{Place}
 

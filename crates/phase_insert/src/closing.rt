@@ -1,17 +1,18 @@
 //! The two ends of a phase: what it is made of, and what becomes of it.
 
-ghost use Rattle.ballot_record.specs.Record.{ballot};
-ghost use Rattle.body_store.specs.Contents.{IsStored, ballots_of};
+ghost use Rattle.body_store.specs.Contents.{IsStored};
 ghost use Rattle.phase_insert.specs.CastPhase.{AreCastWordsOf};
 ghost use Rattle.phase_insert.specs.Closing.{ClosesAs};
-ghost use Rattle.phase_insert.specs.Ends.{AreAllFinals, AreFinals, Decides, IsAnswered, TellsOf, all_accepted, seat_of};
+ghost use Rattle.phase_insert.specs.Ends.{AreAllFinals, AreFinals, Decides, IsAnswer, TellsOf, all_accepted, seat_of};
 ghost use Rattle.phase_insert.specs.Tabulator.{AreAll, new_tabulator, seated_at};
-ghost use Rattle.phase_insert.specs.Tray.{ballots_that, is_accepted};
-ghost use Rattle.std.specs.Prelude.{◌≡◌, ◌≤◌, ◌++◌, [], All, IfOk, OnErr, OnOk, length, map, vec_capacity, zip};
+ghost use Rattle.phase_insert.specs.Tray.{Cast, IsPaired, ballots_that, casts_of, is_accepted};
+ghost use Rattle.std.specs.Prelude.{◌≡◌, ◌^◌, ◌<◌, ◌≤◌, ◌++◌, [], ◌∷◌, All, IfOk, OnErr, OnOk, Some, length, map, slice_get, vec_capacity, zip};
+ghost use Rattle.store_spec.specs.Ballot.{Ballot};
 ghost use Rattle.store_spec.specs.CastStep.{fresh_view};
 
-use crate::{Cast, CastReply, Final, Tabulator};
-use ballot_record::Record;
+use crate::tray::CastTray;
+use crate::{CastReply, Final, Tabulator};
+use ballot_record::{BallotList, Election, MAX_LIMIT};
 use body_store::Closed;
 use outside_io::Memory;
 use std::alloc::Global;
@@ -80,10 +81,10 @@ pub fn after_phase(
     ensures unchanged { OnErr result (closed.new ≡ closed.old) }
 {
     let (seats, trays) = taken_apart(alloc, tabs)?;
-    let accepted = accepted(alloc, &trays)?;
+    let accepted = accepted(alloc, closed.election(), &trays)?;
     let cells = words.close(alloc, seats)?;
     let mut finals = room_for_finals(alloc, &trays)?;
-    closed.merge(alloc, accepted, cells)?;
+    closed.merge(alloc, &accepted, cells)?;
     all_finals(closed, &trays, &mut finals);
     Ok(finals)
 }
@@ -92,10 +93,13 @@ pub fn after_phase(
 fn taken_apart(
     alloc: Global,
     tabs: Vec<Tabulator>,
-) -> Result<(Vec<CastSeat>, Vec<Vec<Cast>>), Memory>
+) -> Result<(Vec<CastSeat>, Vec<CastTray>), Memory>
     ensures seats { IfOk result (λ parts. parts.0.items ≡ map seat_of tabs.items) }
     ensures trays { IfOk result
-        (λ parts. map (λ tray. tray.items) parts.1.items ≡ map (λ tab. tab.tray) tabs.items) }
+        (λ parts. map casts_of parts.1.items ≡ map (λ tab. tab.tray) tabs.items) }
+    ensures elections { IfOk result (λ parts. map (λ tray. tray.ballots.election) parts.1.items
+        ≡ map (λ tab. tab.phase.base.election) tabs.items) }
+    ensures paired { IfOk result (λ parts. All IsPaired parts.1.items) }
     ensures told { IfOk result (λ _. All TellsOf tabs.items) }
 {
     let mut seats = Vec::with_capacity(alloc, tabs.len())?;
@@ -109,61 +113,88 @@ fn taken_apart(
 }
 
 /// The ballots that were accepted, tray by tray.
-fn accepted(alloc: Global, trays: &[Vec<Cast>]) -> Result<Vec<Record>, Memory>
-    ensures { IfOk result
-        (λ accepted. ballots_of accepted.items
-        ≡ all_accepted (map (λ tray. tray.items) trays.now)) }
+fn accepted(alloc: Global, election: &Election, trays: &[CastTray]) -> Result<BallotList, Memory>
+    requires elections { All (λ tray. tray.ballots.election ≡ election.now) trays.now }
+    requires paired { All IsPaired trays.now }
+    ensures election { IfOk result (λ accepted. accepted.election ≡ election.now) }
+    ensures accepted { IfOk result
+        (λ accepted. accepted.ballots ≡ all_accepted (map casts_of trays.now)) }
 {
-    let mut accepted = Vec::with_capacity(alloc, ballots_in(trays))?;
+    let mut accepted = BallotList::with_room(alloc, election, accepted_in(trays))?;
     for tray in trays {
         push_accepted(&mut accepted, tray)?;
     }
     Ok(accepted)
 }
 
-/// How many ballots the trays have, so that the list of those that were accepted is made as long at once.
-fn ballots_in(trays: &[Vec<Cast>]) -> usize {
+/// For how many ballots room is taken, so that the list of those that were accepted is made as long at once.
+fn accepted_in(trays: &[CastTray]) -> usize
+    ensures { result < 2 ^ 33 }
+{
     let mut count: usize = 0;
     for tray in trays {
-        count = count.saturating_add(tray.len());
+        for reply in &tray.replies {
+            if *reply == CastReply::Accepted {
+                count = count.saturating_add(1);
+            }
+        }
     }
-    count
+    count.min(MAX_LIMIT as usize)
 }
 
 /// Appends the ballots of a tray that were accepted.
-fn push_accepted(accepted: &mut Vec<Record>, tray: &[Cast]) -> Result<(), Memory>
-    ensures { IfOk result
-        (λ _. ballots_of accepted.new.items
-        ≡ ballots_of accepted.old.items ++ ballots_that is_accepted tray.now) }
+fn push_accepted(accepted: &mut BallotList, tray: &CastTray) -> Result<(), Memory>
+    requires election { tray.now.ballots.election ≡ accepted.old.election }
+    requires paired { IsPaired tray.now }
+    ensures election { IfOk result (λ _. accepted.new.election ≡ accepted.old.election) }
+    ensures pushed { IfOk result (λ _. accepted.new.ballots
+        ≡ accepted.old.ballots ++ ballots_that is_accepted (casts_of tray.now)) }
 {
-    for cast in tray {
-        if cast.reply == CastReply::Accepted {
-            accepted.push(cast.ballot)?;
-        }
+    for place in 0..tray.replies.len() {
+        push_if_accepted(accepted, tray, place)?;
+    }
+    Ok(())
+}
+
+/// Appends the ballot at a place of a tray, if it was accepted.
+fn push_if_accepted(accepted: &mut BallotList, tray: &CastTray, place: usize) -> Result<(), Memory>
+    requires election { tray.now.ballots.election ≡ accepted.old.election }
+    requires paired { IsPaired tray.now }
+    requires within { place < length tray.now.replies.items }
+    ensures election { IfOk result (λ _. accepted.new.election ≡ accepted.old.election) }
+    ensures pushed { IfOk result (λ _. (cast : Cast)
+        → slice_get (casts_of tray.now) place ≡ Some cast
+        → accepted.new.ballots ≡ accepted.old.ballots ++ ballots_that is_accepted (cast ∷ [])) }
+{
+    match tray.replies[place] {
+        CastReply::Accepted => accepted.push_from(&tray.ballots, place)?,
+        _ => (),
     }
     Ok(())
 }
 
 /// A list for each tray, with room for a final reply to each of its ballots.
-fn room_for_finals(alloc: Global, trays: &[Vec<Cast>]) -> Result<Vec<Vec<Final>>, Memory>
+fn room_for_finals(alloc: Global, trays: &[CastTray]) -> Result<Vec<Vec<Final>>, Memory>
     ensures empty { IfOk result (λ lists. All (λ list. list.items ≡ []) lists.items) }
     ensures room { IfOk result
         (λ lists. map (λ list. vec_capacity list) lists.items
-        ≡ map (λ tray. length tray.items) trays.now) }
+        ≡ map (λ tray. length tray.replies.items) trays.now) }
 {
     let mut lists = Vec::with_capacity(alloc, trays.len())?;
     for tray in trays {
-        lists.push(Vec::with_capacity(alloc, tray.len())?)?;
+        lists.push(Vec::with_capacity(alloc, tray.replies.len())?)?;
     }
     Ok(lists)
 }
 
 /// Tells the final replies to the ballots of all trays, for which there is room.
-fn all_finals(after: &Closed, trays: &[Vec<Cast>], lists: &mut [Vec<Final>])
+fn all_finals(after: &Closed, trays: &[CastTray], lists: &mut [Vec<Final>])
+    requires elections { All (λ tray. tray.ballots.election ≡ after.now.election) trays.now }
+    requires paired { All IsPaired trays.now }
     requires empty { All (λ list. list.items ≡ []) lists.old }
     requires room { map (λ list. vec_capacity list) lists.old
-        ≡ map (λ tray. length tray.items) trays.now }
-    ensures { AreAllFinals after.now.ballots (map (λ tray. tray.items) trays.now)
+        ≡ map (λ tray. length tray.replies.items) trays.now }
+    ensures { AreAllFinals after.now.ballots (map casts_of trays.now)
         (map (λ list. list.items) lists.new) }
 {
     for place in 0..trays.len() {
@@ -172,36 +203,44 @@ fn all_finals(after: &Closed, trays: &[Vec<Cast>], lists: &mut [Vec<Final>])
 }
 
 /// Tells the final replies to the ballots of a tray.
-fn tray_finals(after: &Closed, tray: &[Cast], finals: &mut Vec<Final>)
+fn tray_finals(after: &Closed, tray: &CastTray, finals: &mut Vec<Final>)
+    requires election { tray.now.ballots.election ≡ after.now.election }
+    requires paired { IsPaired tray.now }
     requires empty { finals.old.items ≡ [] }
-    requires room { length tray.now ≤ vec_capacity finals.old }
-    ensures { AreFinals after.now.ballots tray.now finals.new.items }
+    requires room { length tray.now.replies.items ≤ vec_capacity finals.old }
+    ensures { AreFinals after.now.ballots (casts_of tray.now) finals.new.items }
 {
-    for cast in tray {
-        finals.push_reserved(final_of(after, cast));
+    for place in 0..tray.replies.len() {
+        finals.push_reserved(final_of(after, &tray.ballots, place, tray.replies[place]));
     }
 }
 
-/// The final reply to a ballot.
-fn final_of(after: &Closed, cast: &Cast) -> Final
-    ensures { IsAnswered after.now.ballots (cast.now, result) }
+/// The final reply to the ballot at a place of a list, which was answered so.
+fn final_of(after: &Closed, list: &BallotList, place: usize, reply: CastReply) -> Final
+    requires election { list.now.election ≡ after.now.election }
+    requires within { place < length list.now.ballots }
+    ensures { (b : Ballot) → slice_get list.now.ballots place ≡ Some b
+        → IsAnswer after.now.ballots b reply result }
 {
-    match cast.reply {
+    match reply {
         CastReply::Accepted => Final::Accepted,
         CastReply::Duplicate => Final::Duplicate,
         CastReply::Conflict => Final::Conflict,
-        CastReply::Taken => compared(after, &cast.ballot),
+        CastReply::Taken => compared(after, list, place),
         CastReply::Full => Final::Full,
     }
 }
 
 /// The final reply to a ballot whose number was taken.
-fn compared(after: &Closed, cast: &Record) -> Final
-    ensures { Decides after.now.ballots (ballot cast.now) result }
+fn compared(after: &Closed, list: &BallotList, place: usize) -> Final
+    requires election { list.now.election ≡ after.now.election }
+    requires within { place < length list.now.ballots }
+    ensures { (b : Ballot) → slice_get list.now.ballots place ≡ Some b
+        → Decides after.now.ballots b result }
 {
-    if after.record_of(cast.number) == Some(*cast) {
-        Final::Duplicate
-    } else {
-        Final::Conflict
+    let cell = list.cell(place);
+    match after.cell_of(list.number(place)) {
+        Some(held) if held == cell => Final::Duplicate,
+        _ => Final::Conflict,
     }
 }

@@ -11,8 +11,9 @@ mod running;
 mod tabulator;
 #[cfg(test)]
 mod tests;
+mod tray;
 
 pub use phase::CastPhase;
-pub use reply::{Cast, CastReply, Final};
+pub use reply::{CastReply, Final};
 pub use running::run_cast;
 pub use tabulator::Tabulator;

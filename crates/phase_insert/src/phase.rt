@@ -1,19 +1,16 @@
-ghost use Rattle.ballot_record.specs.Record.{ballot};
 ghost use Rattle.body_store.specs.Contents.{IsStored};
 ghost use Rattle.phase_insert.specs.CastPhase.{AreCastWordsOf};
 ghost use Rattle.phase_insert.specs.Closing.{ClosesAs};
-ghost use Rattle.phase_insert.specs.Gains.{Gains, IsNewTo, StepsFor};
+ghost use Rattle.phase_insert.specs.Replies.{IsReply};
 ghost use Rattle.phase_insert.specs.Tabulator.{AreAll, new_tabulator};
-ghost use Rattle.phase_insert.specs.Tray.{Compares};
-ghost use Rattle.std.specs.Prelude.{◌≡◌, ◌≤◌, IfErr, IfOk, length, map};
-ghost use Rattle.step_core.specs.Shape.{table_of};
-ghost use Rattle.store_spec.specs.Ballot.{IsValid};
+ghost use Rattle.std.specs.Prelude.{◌≡◌, ◌<◌, ◌≤◌, IfErr, IfOk, Some, length, map, slice_get};
+ghost use Rattle.store_spec.specs.Ballot.{Ballot};
 ghost use Rattle.store_spec.specs.CastStep.CastState.{Rest};
 
 use crate::claiming::claim;
 use crate::closing::{after_phase, opened};
 use crate::{CastReply, Final, Tabulator};
-use ballot_record::Record;
+use ballot_record::{BallotList, Election};
 use body_store::Closed;
 use outside_io::Memory;
 use probe_order::Order;
@@ -77,25 +74,30 @@ impl CastPhase {
         self.words.peek(self.shape.order.home(number))
     }
 
-    /// Casts a ballot from a seat.
-    pub(crate) fn reply(&self, seat: &mut CastSeat, cast: &Record) -> CastReply
+    /// The election of its store.
+    pub(crate) fn election(&self) -> &Election
+        ensures { result.now ≡ self.now.base.election }
+    {
+        self.closed.election()
+    }
+
+    /// Casts from a seat the ballot at a place of a list.
+    pub(crate) fn reply(&self, seat: &mut CastSeat, list: &BallotList, place: usize) -> CastReply
+        requires of_phase { list.now.election ≡ self.now.base.election }
+        requires within { place < length list.now.ballots }
         requires belongs { seat.old.words ≡ self.now.words }
         requires at_rest { seat.old.view.state ≡ Rest }
-        requires valid { IsValid self.now.base.election (ballot cast.now) }
         ensures stored { IsStored self.now.base }
         ensures words { seat.new.words ≡ seat.old.words }
-        ensures compares { Compares self.now.base.ballots (ballot cast.now) result }
-        ensures gains { Gains self.now.words.shape.claims seat.old.view cast.now.number result
-            seat.new.view }
-        ensures steps { StepsFor (table_of self.now.words.shape) seat.old.view cast.now.number
-            result seat.new.view }
-        ensures new { result ≡ CastReply.Accepted → IsNewTo self.now.words.shape.claims
-            seat.old.view cast.now.number }
+        ensures reply { (b : Ballot) → slice_get list.now.ballots place ≡ Some b
+            → IsReply self.now seat.old.view b result seat.new.view }
     {
-        match self.closed.record_of(cast.number) {
-            Some(held) if held == *cast => CastReply::Duplicate,
+        let number = list.number(place);
+        let cell = list.cell(place);
+        match self.closed.cell_of(number) {
+            Some(held) if held == cell => CastReply::Duplicate,
             Some(_) => CastReply::Conflict,
-            None => claim(&self.words, self.shape.claims, seat, cast.number),
+            None => claim(&self.words, self.shape.claims, seat, number),
         }
     }
 

@@ -1,7 +1,6 @@
 ghost use Rattle.phase_insert.specs.Closing.{reply_of};
 ghost use Rattle.store_spec.specs.Session.{cast_text};
 
-use ballot_record::Record;
 use reply_lines::Reply;
 
 /// What a ballot is answered as soon as it is cast.
@@ -30,13 +29,6 @@ pub enum Final {
     Conflict,
     /// There was no room for it.
     Full,
-}
-
-/// A ballot that was cast, and what it was answered.
-#[derive(Clone, Copy, Debug, PartialEq, Eq)]
-pub struct Cast {
-    pub ballot: Record,
-    pub reply: CastReply,
 }
 
 impl Reply for Final {

@@ -1,14 +1,12 @@
 //! Casting phases of the example election and of a crowded one, in which all tabulators cast at once, with what is seen
 //! of them at their turns.
 
-ghost use Rattle.body_store.specs.Contents.{ballots_of};
 ghost use Rattle.std.specs.Prelude.{◌≡◌, ◌≤◌, All, IfOk, length, map};
-ghost use Rattle.store_spec.specs.Ballot.{IsValid};
 ghost use Rattle.store_spec.specs.Election.{example};
 
-use crate::{Cast, CastPhase, CastReply, Final, Tabulator, run_cast};
+use crate::{CastPhase, CastReply, Final, Tabulator, run_cast};
 use Final::{Accepted, Conflict, Duplicate, Full};
-use ballot_record::{Contest, Election, MAX_MARK_SETS, Record};
+use ballot_record::{BallotList, Contest, Election, MAX_MARK_SETS, Record};
 use body_store::Closed;
 use fake_turns::{Meeting, SeenWords, Turn};
 use outside_io::{Memory, NoTurns, Turns};
@@ -93,44 +91,42 @@ fn ballot(number: u64, set: u32) -> Record {
     }
 }
 
-fn ballots(alloc: Global, list: &[Brief]) -> Result<Vec<Record>, Memory> {
-    let mut ballots = Vec::with_capacity(alloc, list.len())?;
+fn ballots(
+    rt: &impl Abort,
+    alloc: Global,
+    election: &Election,
+    list: &[Brief],
+) -> Result<BallotList, Memory>
+    ensures { IfOk result (λ list. list.election ≡ election.now) }
+{
+    let mut ballots = BallotList::new(alloc, election);
     for (number, set) in list {
-        ballots.push(ballot(*number, *set))?;
+        let cast = ballot(*number, *set);
+        assert!(rt; cast.valid(election));
+        ballots.push(&cast, election)?;
     }
     Ok(ballots)
 }
 
-fn ballot_lists(alloc: Global, lists: &[&[Brief]]) -> Result<Vec<Vec<Record>>, Memory>
-    ensures { IfOk result (λ v. length v.items ≡ length lists.now) }
+fn ballot_lists(
+    rt: &impl Abort,
+    alloc: Global,
+    election: &Election,
+    lists: &[&[Brief]],
+) -> Result<Vec<BallotList>, Memory>
+    ensures as_many { IfOk result (λ v. length v.items ≡ length lists.now) }
+    ensures elections { IfOk result (λ v. All (λ list. list.election ≡ election.now) v.items) }
 {
     let mut work = Vec::with_capacity(alloc, lists.len())?;
     for list in lists {
-        work.push(ballots(alloc, list)?)?;
+        work.push(ballots(rt, alloc, election, list)?)?;
     }
     Ok(work)
 }
 
-/// All ballots of lists are valid.
-fn all_valid(rt: &impl Abort, election: &Election, work: &[Vec<Record>])
-    ensures { All (λ list. All (IsValid election.now) (ballots_of list.items)) work.now }
-{
-    for list in work {
-        list_valid(rt, election, list);
-    }
-}
-
-fn list_valid(rt: &impl Abort, election: &Election, list: &[Record])
-    ensures { All (IsValid election.now) (ballots_of list.now) }
-{
-    for cast in list {
-        assert!(rt; cast.valid(election));
-    }
-}
-
 /// The length of each list.
-fn lengths(rt: &impl Abort, alloc: Global, work: &[Vec<Record>]) -> Result<Vec<u32>, Memory>
-    ensures { IfOk result (λ plan. plan.items ≡ map (λ list. length list.items) work.now) }
+fn lengths(rt: &impl Abort, alloc: Global, work: &[BallotList]) -> Result<Vec<u32>, Memory>
+    ensures { IfOk result (λ plan. plan.items ≡ map (λ list. length list.ballots) work.now) }
 {
     let mut plan = Vec::with_capacity(alloc, work.len())?;
     for list in work {
@@ -144,14 +140,13 @@ fn run<R: Threads + Abort + Sync, T: Turns>(
     rt: &R,
     alloc: Global,
     closed: Closed,
-    work: &[Vec<Record>],
+    work: &[BallotList],
     turns: &T,
 ) -> Result<(Closed, Vec<Vec<Final>>), Memory>
     requires some_list { 1 ≤ length work.now }
     requires few_lists { length work.now ≤ 64 }
+    requires elections { All (λ list. list.election ≡ closed.election) work.now }
 {
-    let election = *closed.election();
-    all_valid(rt, &election, work);
     let plan = lengths(rt, alloc, work)?;
     match CastPhase::begin(alloc, closed, &plan) {
         Ok((phase, tabs)) => {
@@ -183,8 +178,9 @@ fn holding<R: Threads + Abort + Sync>(
     alloc: Global,
     list: &[Brief],
 ) -> Result<Closed, Memory> {
-    let empty = Closed::empty(alloc, &Election::example())?;
-    let held = ballot_lists(alloc, &[list])?;
+    let election = Election::example();
+    let empty = Closed::empty(alloc, &election)?;
+    let held = ballot_lists(rt, alloc, &election, &[list])?;
     let (store, _) = run(rt, alloc, empty, &held, &NoTurns)?;
     Ok(store)
 }
@@ -201,7 +197,8 @@ fn casts<R: Threads + Abort + Sync, T: Turns>(
 ) -> Result<Closed, Memory> {
     assert!(rt; !lists.is_empty());
     assert!(rt; lists.len() <= 64);
-    let work = ballot_lists(alloc, lists)?;
+    let election = *before.election();
+    let work = ballot_lists(rt, alloc, &election, lists)?;
     let (after, finals) = run(rt, alloc, before, &work, turns)?;
     same(rt, &finals, wanted);
     Ok(after)
@@ -234,11 +231,9 @@ fn casts_nine(rt: &impl Abort, phase: &CastPhase, tab: &mut Tabulator)
     assert!(rt; nine.valid(&Election::example()));
     let reply = tab.cast(phase, nine);
     assert_eq!(rt; reply, CastReply::Accepted);
-    let told = Cast {
-        ballot: nine,
-        reply,
-    };
-    assert_eq!(rt; tab.tray(), [told].as_slice());
+    assert_eq!(rt; tab.replies(), [CastReply::Accepted].as_slice());
+    assert_eq!(rt; tab.ballots().len(), 1);
+    assert_eq!(rt; tab.ballots().record(0, &Election::example()), nine);
     assert_eq!(rt; phase.peek(9), 9);
 }
 
@@ -316,8 +311,9 @@ fn one_wins<R: Threads + Abort + Sync>(
     set: u32,
     refused: Final,
 ) -> Result<(), Memory> {
-    let empty = Closed::empty(alloc, &Election::example())?;
-    let work = ballot_lists(alloc, &[&[(6, 1)], &[(6, set)]])?;
+    let election = Election::example();
+    let empty = Closed::empty(alloc, &election)?;
+    let work = ballot_lists(rt, alloc, &election, &[&[(6, 1)], &[(6, set)]])?;
     let (one, finals) = run(rt, alloc, empty, &work, &NoTurns)?;
     assert_won(rt, &one, &finals, set, refused);
     Ok(())
@@ -345,20 +341,42 @@ fn one_number_from_two_threads(rt: HostRuntime) -> Result<(), Fail> {
 }
 
 /// As many ballots as the store may hold, with four homes, in so many lists.
-fn crowd(alloc: Global, lists: usize) -> Result<Vec<Vec<Record>>, Memory>
+fn crowd(
+    rt: &impl Abort,
+    alloc: Global,
+    election: &Election,
+    lists: usize,
+) -> Result<Vec<BallotList>, Memory>
     requires { 1 ≤ lists }
+    ensures { IfOk result (λ v. All (λ list. list.election ≡ election.now) v.items) }
 {
     let mut work = Vec::with_capacity(alloc, lists)?;
     for list in 0..lists {
-        let mut ballots = Vec::with_capacity(alloc, 300)?;
-        for number in 1..=300 {
-            if number as usize % lists == list {
-                ballots.push(ballot(number, 1))?;
-            }
-        }
-        work.push(ballots)?;
+        work.push(every(rt, alloc, election, lists, list)?)?;
     }
     Ok(work)
+}
+
+/// Each ballot of a crowd whose number leaves this rest.
+fn every(
+    rt: &impl Abort,
+    alloc: Global,
+    election: &Election,
+    lists: usize,
+    rest: usize,
+) -> Result<BallotList, Memory>
+    requires { 1 ≤ lists }
+    ensures { IfOk result (λ list. list.election ≡ election.now) }
+{
+    let mut ballots = BallotList::new(alloc, election);
+    for number in 1..=300 {
+        if number as usize % lists == rest {
+            let cast = ballot(number, 1);
+            assert!(rt; cast.valid(election));
+            ballots.push(&cast, election)?;
+        }
+    }
+    Ok(ballots)
 }
 
 /// An election of 300 ballots with four homes.
@@ -386,7 +404,7 @@ fn crowd_cast<R: Threads + Abort + Sync>(
     requires some { 1 ≤ lists }
     requires few { lists ≤ 64 }
 {
-    let work = crowd(alloc, lists)?;
+    let work = crowd(rt, alloc, election, lists)?;
     assert_eq!(rt; work.len(), lists);
     let empty = Closed::empty(alloc, election)?;
     let (store, finals) = run(rt, alloc, empty, &work, &NoTurns)?;

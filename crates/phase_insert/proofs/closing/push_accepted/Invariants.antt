@@ -1,7 +1,9 @@
 use Rattle.std.proofs.Common.{◌≡◌, ◌++◌, take}
-use Rattle.body_store.specs.Contents.{ballots_of}
 use Rattle.phase_insert.proofs.closing.push_accepted.Given as goal
-use Rattle.phase_insert.specs.Tray.{ballots_that, is_accepted}
+use Rattle.phase_insert.specs.Tray.{ballots_that, casts_of, is_accepted}
 
-abbrev pub invariant-loop-cast : goal.invariant-loop-cast
-invariant-loop-cast l = ballots_of l.accepted.items ≡ ballots_of l.initial.accepted.items ++ ballots_that is_accepted (take l.cast-index l.tray)
+abbrev pub invariant-loop-place : goal.invariant-loop-place
+invariant-loop-place l = record {
+  election : l.accepted.election ≡ l.initial.accepted.election;
+  ballots : l.accepted.ballots ≡ l.initial.accepted.ballots ++ ballots_that is_accepted (take l.place (casts_of l.tray));
+}

@@ -16,8 +16,8 @@ for_each_mut-requires-clause-accepts g c κs bounds i p within is =
       (
         belongs,
         (
-          (λ d. subst (λ (t : TabulatorView). length (get_or c.args.work.now i d).items ≤ t.room) (sym is) (at_one_place (λ at. length at.1.items ≤ at.0.room) c.args.tabs.now c.args.work.now i (p.now, d) c.requires.as_many c.requires.room within)),
-          ((λ d. c.requires.valid i d listed), search rules),
+          (λ d. subst (λ (t : TabulatorView). length (get_or c.args.work.now i d).ballots ≤ t.room) (sym is) (at_one_place (λ at. length at.1.ballots ≤ at.0.room) c.args.tabs.now c.args.work.now i (p.now, d) c.requires.as_many c.requires.room within)),
+          ((λ d. c.requires.of_phase i d listed), search rules),
         ),
       ),
     )
@@ -29,9 +29,9 @@ returns-clause-belong g c k d within =
     subst (λ (t : TabulatorView). t.phase ≡ c.args.phase.now) {y = get_or c.for_each_mut.new.s k d} at.left at.call.0
 
 pub returns-clause-cast : goal.returns-clause-cast
-returns-clause-cast g c = at_all_places (λ before list after. HasCast before list.items after) c.args.tabs.now c.for_each_mut.new.s c.args.work.now c.requires.as_many c.for_each_mut.auto.s
+returns-clause-cast g c = at_all_places (λ before list after. HasCast before list.ballots after) c.args.tabs.now c.for_each_mut.new.s c.args.work.now c.requires.as_many c.for_each_mut.auto.s
     (λ k tab list within.
     let at = (c.for_each_mut.ensures k tab within).1 in
-    let cast : HasCast at.argument.now (get_or c.args.work.now k list).items at.after_call.now = at.call.1 list in
-    subst (λ (t : TabulatorView). HasCast t (get_or c.args.work.now k list).items (get_or c.for_each_mut.new.s k tab)) at.argument_is
-    (subst (λ (t : TabulatorView). HasCast at.argument.now (get_or c.args.work.now k list).items t) {y = get_or c.for_each_mut.new.s k tab} at.left cast))
+    let cast : HasCast at.argument.now (get_or c.args.work.now k list).ballots at.after_call.now = at.call.1 list in
+    subst (λ (t : TabulatorView). HasCast t (get_or c.args.work.now k list).ballots (get_or c.for_each_mut.new.s k tab)) at.argument_is
+    (subst (λ (t : TabulatorView). HasCast at.argument.now (get_or c.args.work.now k list).ballots t) {y = get_or c.for_each_mut.new.s k tab} at.left cast))

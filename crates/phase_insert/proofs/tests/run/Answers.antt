@@ -12,10 +12,10 @@ run_cast-requires-clause-belong g c κs bounds =
 
 pub run_cast-requires-clause-room : goal.run_cast-requires-clause-room
 run_cast-requires-clause-room g c κs bounds =
-    let planned : c.deref.result.now ≡ map (λ list. length list.items) c.args.work.now = c.deref.ensures.value ∙ c.in_ok-plan.ensures in
-    let tabs : c.deref_mut.result.now ≡ map (new_tabulator c.in-Ok.phase) (map (λ list. length list.items) c.args.work.now) =
+    let planned : c.deref.result.now ≡ map (λ list. length list.ballots) c.args.work.now = c.deref.ensures.value ∙ c.in_ok-plan.ensures in
+    let tabs : c.deref_mut.result.now ≡ map (new_tabulator c.in-Ok.phase) (map (λ list. length list.ballots) c.args.work.now) =
     c.deref_mut.ensures.value ∙ c.in-Ok.ensures.tabulators ∙ ap (map (new_tabulator c.in-Ok.phase)) planned in
-    subst (λ (tabs : List TabulatorView). All (λ at. length at.1.items ≤ at.0.room) (zip tabs c.args.work.now)) (sym tabs) (planned_room (λ (tab : TabulatorView). tab.room) (new_tabulator c.in-Ok.phase) (λ list. length list.items) (λ n. omega arith) c.args.work.now)
+    subst (λ (tabs : List TabulatorView). All (λ at. length at.1.ballots ≤ at.0.room) (zip tabs c.args.work.now)) (sym tabs) (planned_room (λ (tab : TabulatorView). tab.room) (new_tabulator c.in-Ok.phase) (λ list. length list.ballots) (λ n. omega arith) c.args.work.now)
 
 pub close-requires : goal.close-requires
 close-requires g c =

@@ -1,28 +1,69 @@
-use Rattle.std.proofs.Common.{subst, sym, ◌∙◌}
-use Rattle.std.specs.List.{Contains}
-use Rattle.ballot_record.specs.Record.{ballot}
-use Rattle.phase_insert.proofs.Compared.{compares_new, holds_other, holds_same, other_ballot, same_ballot}
+use Rattle.std.proofs.Common.{ℕ, sym, ap, subst, ◌∙◌, arith}
+use Rattle.phase_insert.proofs.Compared.{IsHeldCell, holds_other, holds_same, number_there, other_held, same_held, valid_there}
 use Rattle.phase_insert.proofs.HeldNumbers.{not_in_words}
-use Rattle.phase_insert.specs.CastPhase.{Phase}
-use Rattle.phase_insert.specs.Tray.{AnotherHas, Compares}
+use Rattle.phase_insert.proofs.Replied.{as_asked, as_conflict, as_duplicate}
 use Rattle.phase_insert.proofs.phase.CastPhase.reply.Goals as goal
+use Rattle.phase_insert.specs.CastPhase.{Phase}
+use Rattle.phase_insert.specs.CastPhaseKept.{phase_seen}
+use Rattle.phase_insert.specs.Gains.{Gains, IsNewTo}
+use Rattle.phase_insert.specs.Replies.{IsReply}
+use Rattle.step_core.specs.declared.shape.Shape.{Shape}
+use Rattle.store_spec.specs.Ballot.{IsValid}
+
+pub claim-requires-clause-some : goal.claim-requires-clause-some
+claim-requires-clause-some c zero =
+    let b = c.cell-cell.ensures.cell in
+    let phase = c.args.self.now in
+    let list = c.args.list.now in
+    let valid = valid_there phase.base list.election c.requires.of_phase list.ballots c.args.place c.number-number.result c.cell-cell.result.now b b.0 b.1 in
+    let named = number_there phase.base list.election c.requires.of_phase list.ballots c.args.place c.number-number.result c.cell-cell.result.now b b.0 b.1 c.number-number.ensures in
+    omega (arith, valid.some_number, named, zero)
 
 pub claim-requires-clause-not_held : goal.claim-requires-clause-not_held
-claim-requires-clause-not_held c = let i = c.self.invariant in not_in_words c.self.inside.closed c.self.inside.words i.stored i.words c.args.cast.now.number c.in-None.ensures
+claim-requires-clause-not_held c = let i = c.self.invariant in not_in_words c.self.inside.closed c.self.inside.words i.stored i.words c.number-number.result c.in-None.ensures
 
-pub returns-in-Some-clause-compares : goal.returns-in-Some-clause-compares
-returns-in-Some-clause-compares c =
-    subst (λ (phase : Phase). Contains phase.base.ballots (ballot c.args.cast.now)) c.self.view_is
-    (holds_same c.self.inside.closed.ballots (ballot c.in-Some.held) (ballot c.args.cast.now) c.args.cast.now.number c.in-Some.ensures
-    (same_ballot c.in-Some.held c.args.cast.now (sym c.eq.ensures ∙ c.if-eq.true)))
+pub returns-in-Some-clause-reply : goal.returns-in-Some-clause-reply
+returns-in-Some-clause-reply c b there =
+    let phase = c.args.self.now in
+    let list = c.args.list.now in
+    let number = c.number-number.result in
+    let cell = c.cell-cell.result.now in
+    let own = c.requires.of_phase in
+    let is = c.cell-cell.ensures.cell in
+    let has : IsHeldCell phase.base number c.in-Some.held.now = subst (λ (p : Phase). IsHeldCell p.base number c.in-Some.held.now) c.self.view_is c.in-Some.ensures in
+    as_duplicate phase c.args.seat.now.view b (valid_there phase.base list.election own list.ballots c.args.place number cell is b there)
+    (holds_same phase.base.ballots b (same_held phase.base list.election own list.ballots c.args.place number cell is b there c.number-number.ensures c.in-Some.held.now has c.cell-cell.ensures.election (sym c.eq.ensures ∙ c.if-eq.true)))
 
-pub returns-in-Some-2-clause-compares : goal.returns-in-Some-2-clause-compares
-returns-in-Some-2-clause-compares c =
-    subst (λ (phase : Phase). AnotherHas phase.base.ballots (ballot c.args.cast.now)) c.self.view_is
-    (holds_other c.self.inside.closed.ballots (ballot c.in-Some.held) (ballot c.args.cast.now) c.in-Some.ensures
-    (other_ballot c.in-Some.held c.args.cast.now (sym c.eq.ensures ∙ c.if-eq.false)))
+pub returns-in-Some-2-clause-reply : goal.returns-in-Some-2-clause-reply
+returns-in-Some-2-clause-reply c b there =
+    let phase = c.args.self.now in
+    let list = c.args.list.now in
+    let number = c.number-number.result in
+    let cell = c.cell-cell.result.now in
+    let own = c.requires.of_phase in
+    let is = c.cell-cell.ensures.cell in
+    let has : IsHeldCell phase.base number c.in-Some.held.now = subst (λ (p : Phase). IsHeldCell p.base number c.in-Some.held.now) c.self.view_is c.in-Some.ensures in
+    let other = other_held phase.base list.election own list.ballots c.args.place number cell is b there c.number-number.ensures c.in-Some.held.now has (sym c.eq.ensures ∙ c.if-eq.false) in
+    as_conflict phase c.args.seat.now.view b (valid_there phase.base list.election own list.ballots c.args.place number cell is b there)
+    (holds_other phase.base.ballots other.0 b other.1 other.2)
 
-pub returns-in-None-clause-compares : goal.returns-in-None-clause-compares
-returns-in-None-clause-compares c =
-    subst (λ (phase : Phase). Compares phase.base.ballots (ballot c.args.cast.now) c.claim.result) c.self.view_is
-    (compares_new c.self.inside.closed.ballots (ballot c.args.cast.now) c.claim.result c.claim.ensures.met c.in-None.ensures)
+pub returns-in-None-clause-reply : goal.returns-in-None-clause-reply
+returns-in-None-clause-reply c b there =
+    let phase = c.args.self.now in
+    let list = c.args.list.now in
+    let number = c.number-number.result in
+    let own = c.requires.of_phase in
+    let is = c.cell-cell.ensures.cell in
+    let p = phase_seen c.self.inside in
+    let reply = c.claim.result in
+    let old = c.args.seat.now.view in
+    let now = c.claim.new.seat.view in
+    let shape = ap (λ (s : Shape). s.claims) c.self.invariant.shape in
+    subst (λ (p : Phase). IsReply p old b reply now) c.self.view_is
+    (as_asked p old now b number reply
+    (number_there phase.base list.election own list.ballots c.args.place number c.cell-cell.result.now is b there c.number-number.ensures)
+    (subst (λ (p : Phase). IsValid p.base.election b) (sym c.self.view_is) (valid_there phase.base list.election own list.ballots c.args.place number c.cell-cell.result.now is b there))
+    c.claim.ensures.met c.in-None.ensures
+    (subst (λ (claims : ℕ). Gains claims old number reply now) shape c.claim.ensures.gains)
+    c.claim.ensures.steps
+    (λ accepted. subst (λ (claims : ℕ). IsNewTo claims old number) shape (c.claim.ensures.new accepted)))
