@@ -1,5 +1,5 @@
 -- What is known of what a store keeps.
-use Rattle.std.proofs.Common.{◌≡◌, ◌≢◌, ℕ, ◌+◌, ◌-◌, ◌*◌, ◌^◌, ◌<◌, ◌≤◌, ⊎_elim, List, Some, ◌++◌, drop, length, get_or, take, sym, ap, subst, ◌∙◌, arith, mul-le-mul_right}
+use Rattle.std.proofs.Common.{◌≡◌, ◌≢◌, ℕ, ◌+◌, ◌*◌, ◌^◌, ◌<◌, ◌≤◌, ⊎_elim, List, Some, ◌++◌, drop, length, get_or, take, sym, ap, subst, ◌∙◌, arith, mul-le-mul_right}
 use Rattle.std.proofs.lemmas.Bool.{cases_lt}
 use Rattle.std.proofs.lemmas.List.{length-append, length-drop, length-take-le, take_at}
 use Rattle.std.proofs.lemmas.List.Elements.{All-contains}
@@ -12,8 +12,6 @@ use Rattle.ballot_record.proofs.BallotSets.{Ascend}
 use Rattle.ballot_record.proofs.CellFormat.{length-header_of, spells_itself}
 use Rattle.ballot_record.proofs.Lookups.{found_in}
 use Rattle.ballot_record.specs.Format.{ballot_at}
-use Rattle.ballot_record.proofs.CellFormat.{header_width}
-use Rattle.ballot_record.specs.declared.format.TheConstants.{HEADER_BYTES}
 use Rattle.body_store.proofs.BallotSets.{MayHold, cells_of-IsPermutation, held_layout, may_hold-IsPermutation, may_hold_set, stored_by_number}
 use Rattle.body_store.proofs.ByNumber.{by_number-IsPermutation}
 use Rattle.body_store.proofs.Images.{cell_of_found, cell_of_image, length-image_of}
