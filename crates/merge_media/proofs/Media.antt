@@ -1,11 +1,11 @@
 -- Further media are looked at one after another.
-use Rattle.std.proofs.Common.{◌≡◌, ℕ, zero, suc, ◌+◌, ◌<◌, ◌⊎◌, inl, inr, ⊎_elim, List, [], ◌∷◌, ◌++◌, length, get_or, take, drop, set, Option, Some, Result, Ok, Err, refl, sym, ap, subst, ◌∙◌, arith}
+use Rattle.std.proofs.Common.{◌≡◌, ℕ, zero, suc, ◌+◌, ◌<◌, ⊎_elim, List, [], ◌∷◌, ◌++◌, length, get_or, take, drop, set, Option, Some, Result, Ok, Err, refl, sym, ap, subst, ◌∙◌, arith}
 use Rattle.std.proofs.lemmas.List.{drop-drop, drop-set-lt, get_or-drop, get_or-set_same, length-set, take_more}
 use Rattle.std.proofs.lemmas.Option.{get_or_from_slice_get, slice_get-get_or, slice_get_read, slice_get_within}
 use Rattle.std.specs.List.{AllZip, slice_get}
 use Rattle.std.specs.Prelude.{IfErr, IsErrAnd}
 use Rattle.merge_media.proofs.Standing.{joined_same, none_stands, stands_behind, stands_cases, stands_either, stands_first, stands_left, stands_right}
-use Rattle.merge_media.specs.Union.{IsJoinedOf, StandsInOne}
+use Rattle.merge_media.specs.Union.{IsJoinedOf}
 use Rattle.store_spec.specs.Ballot.{Ballot}
 
 -- what holds of a fault that is handed on

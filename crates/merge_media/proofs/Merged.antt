@@ -1,14 +1,20 @@
 -- The runs of calls that merge media, and what they leave of the target at each moment.
-use Rattle.std.proofs.Common.{◌≡◌, ℕ, ◌+◌, ◌<◌, ◌≤◌, inl, inr, ⊎_elim, List, ◌∷◌, length, Option, Some, sym, ap, subst, ◌∙◌, arith}
+use Rattle.std.proofs.Common.{◌≡◌, ℕ, ◌<◌, ◌≤◌, ◌⊎◌, inl, inr, ⊎_elim, List, ◌∷◌, Option, Some, sym, subst, ◌∙◌, arith}
 use Rattle.std.proofs.lemmas.Bool.{cases_lt}
 use Rattle.std.specs.Option.{ForSome}
-use Rattle.std.specs.Prelude.{is_some, IfSome}
+use Rattle.std.specs.Prelude.{IfSome}
 use Rattle.checkpoint.proofs.Pages.{told_back}
+use Rattle.body_store.specs.Contents.{Contents}
+use Rattle.crash_disk.proofs.Moments.{weaker}
 use Rattle.image_builder.proofs.Held.{one_held}
+use Rattle.merge_media.specs.Merging.{EachHolds, HoldsAll, HoldsOldOrUnion, IsRecovered, MergeRefuses, RefusesUnion}
+use Rattle.merge_media.specs.Union.{IsUnion}
+use Rattle.merge_media.specs.declared.fault.MergeFault.{MergeFault}
+use Rattle.merge_media.specs.declared.fault.MergeFault.TheVariants.{Target, OtherFault, Other, Dispute, TooMany, DiskFault, Memory}
 use Rattle.outside_io.proofs.Told.{told_holds}
 use Rattle.outside_io.specs.Told.{IfTold}
 use Rattle.store_spec.specs.Ballot.{Ballot}
-use Rattle.store_spec.specs.Disk.{after_calls, LeavesOnly, LeavesOnlyOnceSynced, SyncsFirst}
+use Rattle.store_spec.specs.Disk.{after_calls, DiskModel, LeavesOnly, LeavesOnlyOnceSynced, SyncsFirst}
 use Rattle.store_spec.specs.Election.{Election, IsElection}
 use Rattle.store_spec.specs.Fault.{last_count}
 use Rattle.store_spec.specs.Medium.{HoldsSet, HoldsTheSame, IsMediumOf}
@@ -71,3 +77,43 @@ pub same_set : (e : Election) (bytes : List ℕ) (seen : Option (List ℕ)) (set
 same_set e bytes seen set read valid sees holds found =
     let both : Some read ≡ Some set = one_held e bytes (Some read) (Some set) valid (told_holds (λ x. HoldsSet e x read) bytes sees found) holds in
     cc
+
+-- ---- the whole run
+
+-- why the union is no store, as why media are not merged
+pub refuses_all : {A B : Type 0} (target : DiskModel A) (further : DiskModel B) (e : Election) (before after : A) (more now : List B) (set : List Ballot) (sets : List (List Ballot)) (fault : MergeFault)
+    → HoldsAll target further e before after more set sets → RefusesUnion e (set ∷ sets) fault → MergeRefuses target further e before after more now fault
+refuses_all target further e before after more now set sets (Target why) all refused = absurd refused
+refuses_all target further e before after more now set sets (OtherFault index) all refused = absurd refused
+refuses_all target further e before after more now set sets (Other index why) all refused = absurd refused
+refuses_all target further e before after more now set sets (Dispute number) all refused = (set, sets, all, refused)
+refuses_all target further e before after more now set sets (TooMany count) all refused = (set, sets, all, refused)
+refuses_all target further e before after more now set sets DiskFault all refused = absurd refused
+refuses_all target further e before after more now set sets Memory all refused = tt
+
+module _ {A B : Type 0} (target : DiskModel A) (further : DiskModel B) (e : Election) (more : List B) (old mid new : A) (bytes : List ℕ) (set : List Ballot)
+    (sees : target.seen old ≡ Some bytes) (holds : HoldsSet e bytes set) where
+  -- the target was recovered, and no more
+  pub begun_run : SyncsFirst target.calls target.may_leave old mid (HoldsTheSame e bytes) → SyncsFirst target.calls target.may_leave old mid (HoldsOldOrUnion further e set more)
+  begun_run run =
+      syncs_weaker target.calls target.may_leave old mid (HoldsTheSame e bytes) (HoldsOldOrUnion further e set more) (λ image same. inl (same (Some set) holds)) run
+
+  -- and then the union was checkpointed
+  pub merged_run : (read : List Ballot) (sets : List (List Ballot)) (store : Contents) → IsElection e → store.election ≡ e → IsRecovered target e read old mid → EachHolds further e more sets
+      → IsUnion (read ∷ sets) store.ballots → (target.calls mid < last_count → target.calls old < target.calls mid)
+      → LeavesOnlyOnceSynced target.calls target.may_leave old mid (HoldsTheSame e bytes)
+      → ((x : List ℕ) (was : List Ballot) → target.seen mid ≡ Some x → IsMediumOf store.election x was
+      → LeavesOnly target.calls target.may_leave mid new (λ c. HoldsSet store.election c was ⊎ HoldsSet store.election c store.ballots))
+      → SyncsFirst target.calls target.may_leave old new (HoldsOldOrUnion further e set more)
+  merged_run read sets store valid own recovered each union called synced run =
+      let is : read ≡ set = same_set e bytes (target.seen old) set read valid sees holds recovered.held in
+      let now = told_back (target.seen mid) (target.seen old) bytes (sym recovered.medium.told) sees in
+      let medium = recovered.medium.related bytes now.0 sees now.1 in
+      let Q = HoldsOldOrUnion further e set more in
+      inl (synced_then target.calls target.may_leave old mid new (HoldsTheSame e bytes) Q called (λ image same. inl (same (Some set) holds)) synced
+      (weaker target.calls target.may_leave mid new (λ c. HoldsSet store.election c read ⊎ HoldsSet store.election c store.ballots) Q
+      (λ image either. ⊎_elim
+      (λ was. inl (subst (λ s. HoldsSet e image s) is (subst (λ e. HoldsSet e image read) own was)))
+      (λ both. inr (sets, each, store.ballots, subst (λ s. IsUnion (s ∷ sets) store.ballots) is union, subst (λ e. HoldsSet e image store.ballots) own both))
+      either)
+      (run now.0 read now.1 (subst (λ e. IsMediumOf e now.0 read) (sym own) medium))))

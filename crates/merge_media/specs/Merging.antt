@@ -1,6 +1,6 @@
 -- What the merging of media makes of a target and of further media. `before` and `after` are the target's disk, `more`
 -- and `now` those of the further media.
-use Rattle.std.specs.Prelude.{◌≡◌, ◌≢◌, ◌⊎◌, ℕ, ◌+◌, ◌<◌, List, ◌∷◌, length, take, Option, Some, IfSome, slice_get}
+use Rattle.std.specs.Prelude.{◌≡◌, ◌≢◌, ◌⊎◌, ℕ, ◌+◌, ◌<◌, List, ◌∷◌, length, take, Some, IfSome, slice_get}
 use Rattle.std.specs.List.{AllZip}
 use Rattle.merge_media.specs.Union.{IsLeastDisputed, IsUnion}
 use Rattle.merge_media.specs.declared.fault.MergeFault.{MergeFault}

@@ -28,12 +28,7 @@ fn first_not_below(kept: &BallotList, from: usize, number: u64) -> usize
 }
 
 /// Puts the ballots of a list from one place up to another behind those of another list.
-fn put_range(
-    kept: &BallotList,
-    from: usize,
-    end: usize,
-    out: &mut BallotList,
-) -> Result<(), Memory>
+fn put_range(kept: &BallotList, from: usize, end: usize, out: &mut BallotList) -> Result<(), Memory>
     requires within { (from ≤ end) × (end ≤ length kept.now.ballots) }
     requires election { kept.now.election ≡ out.old.election }
     ensures put { OnOk result

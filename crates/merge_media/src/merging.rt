@@ -104,6 +104,7 @@ fn begin<A: Disk>(
         (disk_model A.seen A.calls A.may_leave A.faults) election.now disk.old disk.new) }
     ensures told { is_some (A.seen disk.new) ≡ is_some (A.seen disk.old) }
     ensures called { A.calls disk.new < last_count → A.calls disk.old < A.calls disk.new }
+    ensures never_falls { A.faults disk.old ≤ A.faults disk.new }
     ensures any_moment { (bytes : List ℕ) → A.seen disk.old ≡ Some bytes
         → SyncsFirst A.calls A.may_leave disk.old disk.new (HoldsTheSame election.now bytes) }
     ensures once_synced { OnOk result ((bytes : List ℕ) → A.seen disk.old ≡ Some bytes
