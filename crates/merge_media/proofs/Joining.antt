@@ -8,7 +8,7 @@ use Rattle.ballot_record.proofs.BallotNumbers.{ballot_with, contains_number}
 use Rattle.merge_media.proofs.Ascending.{AreAbove, AreBelow, ascend_insert}
 use Rattle.merge_media.proofs.Standing.{disputed_within, joined_same, none_stands, stands_before, stands_behind, stands_cases, stands_new, stands_still}
 use Rattle.merge_media.specs.Union.{Agree, IsDisputed, IsJoinedOf, IsLeastDisputed, IsUnion, StandsInOne, least_with}
-use Rattle.store_spec.specs.Ballot.{Ballot, numbers_of}
+use Rattle.store_spec.specs.Ballot.{Ballot}
 
 -- of no sets nothing is kept
 pub joined_none : IsJoinedOf [] [] None
@@ -37,7 +37,6 @@ joined_union sets ballots j = record {
 }
 
 module _ (set : List Ballot) (s : Ballot) (sets : List (List Ballot)) where
-
   -- it is kept already
   pub joined_kept : (kept : List Ballot) (dispute : Option ℕ) → IsJoinedOf (set ∷ sets) kept dispute → Contains kept s
       → IsJoinedOf ((set ++ s ∷ []) ∷ sets) kept dispute

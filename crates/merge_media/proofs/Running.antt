@@ -1,5 +1,5 @@
 -- The ballots of a set are joined one after another with those that are kept, both in ascending order.
-use Rattle.std.proofs.Common.{◌≡◌, ◌≢◌, ◌⊎◌, ℕ, zero, suc, ◌+◌, ◌-◌, ◌<◌, ◌≤◌, inl, inr, ⊎_elim, List, [], ◌∷◌, ◌++◌, length, get_or, map, take, drop, Option, Some, None, refl, sym, ap, subst, ◌∙◌, append_assoc, length-append, arith}
+use Rattle.std.proofs.Common.{◌≡◌, ◌≢◌, ℕ, ◌+◌, ◌-◌, ◌<◌, ◌≤◌, ⊎_elim, List, [], ◌∷◌, ◌++◌, length, get_or, map, take, drop, Option, Some, sym, ap, subst, ◌∙◌, append_assoc, length-append, arith}
 use Rattle.std.proofs.lemmas.Bool.{cases_lt}
 use Rattle.std.proofs.lemmas.List.{append-nil, get_or-drop, get_or-map, get_or_default, length-drop, length-map, take_all, take_more}
 use Rattle.std.proofs.lemmas.List.Elements.{All-append, All-push, All-weaker, Contains-append_right, Contains-get_or}
@@ -8,12 +8,12 @@ use Rattle.std.specs.List.{All, Contains}
 use Rattle.std.specs.Prelude.{slice_get, slice_range}
 use Rattle.ballot_record.proofs.BallotNumbers.{length-numbers_of, no_ballot, number_at}
 use Rattle.ballot_record.proofs.BallotSets.{Ascend}
-use Rattle.ballot_record.proofs.Lookups.{AreDistinct, found_once}
+use Rattle.ballot_record.proofs.Lookups.{found_once}
 use Rattle.body_store.specs.declared.lookup.Place.{Place}
-use Rattle.merge_media.proofs.Ascending.{AreAbove, AreBelow, ascend_right}
-use Rattle.merge_media.proofs.Joining.{joined_begins, joined_disputed, joined_kept, joined_new}
+use Rattle.merge_media.proofs.Ascending.{AreAbove, AreBelow}
+use Rattle.merge_media.proofs.Joining.{joined_begins}
 use Rattle.merge_media.proofs.Ranges.{range_end, range_more, range_none, range_rest}
-use Rattle.merge_media.specs.Union.{IsJoinedOf, least_with}
+use Rattle.merge_media.specs.Union.{IsJoinedOf}
 use Rattle.store_spec.specs.Ballot.{Ballot, ballot_of, numbers_of}
 
 -- ---- one ballot
@@ -24,12 +24,12 @@ module _ (kept : List Ballot) (next n : ℕ) (within : next ≤ length kept) (no
   above_rest up other k d lt =
       let size = length-drop next kept in
       let first : n < (get_or (drop next kept) 0 no_ballot).number =
-          let here : next < length kept = omega arith in
-          let at : get_or (drop next kept) 0 no_ballot ≡ get_or kept next no_ballot = get_or-drop next kept 0 no_ballot ∙ ap (λ k. get_or kept k no_ballot) (let e : next + 0 ≡ next = omega arith in e) in
-          let number : (get_or (drop next kept) 0 no_ballot).number ≡ get_or (numbers_of kept) next 0 = ap (λ (b : Ballot). b.number) at ∙ sym (number_at kept next 0 here) in
-          let not_same = other here in
-          let least = not_below here in
-          omega arith in
+      let here : next < length kept = omega arith in
+      let at : get_or (drop next kept) 0 no_ballot ≡ get_or kept next no_ballot = get_or-drop next kept 0 no_ballot ∙ ap (λ k. get_or kept k no_ballot) (let e : next + 0 ≡ next = omega arith in e) in
+      let number : (get_or (drop next kept) 0 no_ballot).number ≡ get_or (numbers_of kept) next 0 = ap (λ (b : Ballot). b.number) at ∙ sym (number_at kept next 0 here) in
+      let not_same = other here in
+      let least = not_below here in
+      omega arith in
       let zeroth : (get_or (drop next kept) 0 d).number ≡ (get_or (drop next kept) 0 no_ballot).number = ap (λ (b : Ballot). b.number) (get_or_default (drop next kept) 0 d no_ballot (omega arith)) in
       ⊎_elim
       (λ (later : 0 < k). let less = up 0 k d later lt in omega arith)
@@ -79,8 +79,8 @@ module _ (kept set : List Ballot) (start : Option ℕ) where
   run_on out more after next end i now then' s up run lt is onward within made joins ascends below count =
       let same = put_below out more next end onward made in
       let size : length more ≡ length out + (length kept - next - (length kept - end)) =
-          let all : length (more ++ drop end kept) ≡ length (out ++ drop next kept) = ap length same in
-          omega (arith, all, length-append more (drop end kept), length-append out (drop next kept), length-drop end kept, length-drop next kept, run.within) in
+      let all : length (more ++ drop end kept) ≡ length (out ++ drop next kept) = ap length same in
+      omega (arith, all, length-append more (drop end kept), length-append out (drop next kept), length-drop end kept, length-drop next kept, run.within) in
       record {
         within = within;
         ascending = ascends (subst Ascend (sym same) run.ascending);
@@ -99,11 +99,12 @@ module _ (kept set : List Ballot) (start : Option ℕ) where
   pub run_ends : (out all : List Ballot) (next i : ℕ) (now : Option ℕ) → IsRun kept set out next i start now → length set ≤ i → all ≡ out ++ slice_range kept next (length kept)
       → Ascend all × ((sets : List (List Ballot)) → IsJoinedOf sets kept start → IsJoinedOf (set ∷ sets) all now)
   run_ends out all next i now run far made =
-      let is : all ≡ out ++ drop next kept = made ∙ ap (λ xs. out ++ xs) (range_end kept next run.within) in
-      (subst Ascend (sym is) run.ascending,
-      λ sets j.
-      subst (λ xs. IsJoinedOf (set ∷ sets) xs now) (sym is)
-      (subst (λ xs. IsJoinedOf (xs ∷ sets) (out ++ drop next kept) now) (take_all i set far) (run.joined sets j)))
+      let is : all ≡ out ++ drop next kept = made ∙ ap (λ xs. out ++ xs) (range_end kept next run.within) in (
+        subst Ascend (sym is) run.ascending,
+        λ sets j.
+            subst (λ xs. IsJoinedOf (set ∷ sets) xs now) (sym is)
+            (subst (λ xs. IsJoinedOf (xs ∷ sets) (out ++ drop next kept) now) (take_all i set far) (run.joined sets j)),
+      )
 
   pub run_few : (out all : List Ballot) (next i : ℕ) (now : Option ℕ) → IsRun kept set out next i start now → all ≡ out ++ slice_range kept next (length kept)
       → length all ≤ length kept + i

@@ -1,6 +1,6 @@
 -- The laws of unions.
-use Rattle.std.proofs.Common.{◌≡◌, ℕ, ◌⊎◌, ⊎_elim, List, ◌∷◌, Option, Some, None, Result, Ok, Err, refl, sym, subst, ◌∙◌, arith}
-use Rattle.std.proofs.lemmas.List.Sorted.{Contains-permutation, IsPermutation-sym}
+use Rattle.std.proofs.Common.{◌≡◌, ℕ, ⊎_elim, List, ◌∷◌, Option, Some, None, Result, Ok, Err, refl, sym, subst, ◌∙◌, arith}
+use Rattle.std.proofs.lemmas.List.Sorted.{Contains-permutation}
 use Rattle.std.specs.List.{Contains}
 use Rattle.std.specs.List.Sorted.{IsPermutation}
 use Rattle.std.specs.Prelude.{◌↔◌, IfOk}
@@ -8,9 +8,9 @@ use Rattle.ballot_record.proofs.BallotSets.{Ascend, same_in_order, same_members}
 use Rattle.ballot_record.proofs.Lookups.{AreDistinct, found_once}
 use Rattle.body_store.specs.Contents.{Contents, IsStored}
 use Rattle.merge_media.proofs.Joining.{joined_union}
-use Rattle.merge_media.proofs.Standing.{StandsWithin, disputed_within, stands_behind, stands_cases}
-use Rattle.merge_media.specs.Union.{Agree, IsDisputed, IsJoinedOf, IsUnion, StandsInOne}
-use Rattle.store_spec.specs.Ballot.{Ballot, ballot_of}
+use Rattle.merge_media.proofs.Standing.{StandsWithin, stands_cases}
+use Rattle.merge_media.specs.Union.{Agree, IsJoinedOf, IsUnion, StandsInOne}
+use Rattle.store_spec.specs.Ballot.{Ballot}
 
 pub union_same : (xs ys : List (List Ballot)) (union : List Ballot) → StandsWithin xs ys → StandsWithin ys xs → IsUnion xs union → IsUnion ys union
 union_same xs ys union there back is = record {

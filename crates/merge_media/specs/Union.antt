@@ -1,5 +1,5 @@
 -- The union of several sets of ballots, each that of a store, and the numbers on which they do not agree.
-use Rattle.std.specs.Prelude.{◌≡◌, ◌≢◌, ◌⊎◌, ℕ, ◌<◌, ◌≤◌, List, [], ◌∷◌, length, AllPairs, Any, Contains, Option, Some, None, MatchOption, min}
+use Rattle.std.specs.Prelude.{◌≡◌, ◌≢◌, ◌⊎◌, ℕ, ◌<◌, ◌≤◌, List, AllPairs, Contains, Option, Some, None, MatchOption, min}
 use Rattle.store_spec.specs.Ballot.{Ballot, numbers_of}
 use Rattle.store_spec.specs.Election.{Election}
 

@@ -28,12 +28,7 @@ fn first_not_below(kept: &BallotList, from: usize, number: u64) -> usize
 }
 
 /// Puts the ballots of a list from one place up to another behind those of another list.
-fn put_range(
-    kept: &BallotList,
-    from: usize,
-    end: usize,
-    out: &mut BallotList,
-) -> Result<(), Memory>
+fn put_range(kept: &BallotList, from: usize, end: usize, out: &mut BallotList) -> Result<(), Memory>
     requires within { (from ≤ end) × (end ≤ length kept.now.ballots) }
     requires election { kept.now.election ≡ out.old.election }
     ensures put { OnOk result
@@ -72,37 +67,37 @@ fn least(dispute: Option<u64>, number: u64) -> u64
 fn meet(
     kept: &BallotList,
     next: usize,
-    record: &Record,
+    cast: &Record,
     election: &Election,
     out: &mut BallotList,
     dispute: Option<u64>,
 ) -> Result<Option<u64>, Memory>
     requires kept { election.now ≡ kept.now.election }
     requires out { election.now ≡ out.old.election }
-    requires valid { IsValid election.now (ballot record.now) }
+    requires valid { IsValid election.now (ballot cast.now) }
     requires within { next ≤ length kept.now.ballots }
-    requires below { All (λ b. b.number < record.now.number) out.old.ballots }
+    requires below { All (λ b. b.number < cast.now.number) out.old.ballots }
     requires not_below { next < length kept.now.ballots
-        → record.now.number ≤ slice_index (numbers_of kept.now.ballots) next }
+        → cast.now.number ≤ slice_index (numbers_of kept.now.ballots) next }
     ensures joined { IfOk result (λ after. (set : List Ballot) (sets : List (List Ballot))
         → IsJoinedOf (set ∷ sets) (out.old.ballots ++ drop next kept.now.ballots) dispute
-        → IsJoinedOf ((set ++ ballot record.now ∷ []) ∷ sets)
+        → IsJoinedOf ((set ++ ballot cast.now ∷ []) ∷ sets)
         (out.new.ballots ++ drop next kept.now.ballots) after) }
     ensures ascending { OnOk result
         (AllPairs (λ a b. a.number < b.number) (out.old.ballots ++ drop next kept.now.ballots)
         → AllPairs (λ a b. a.number < b.number) (out.new.ballots ++ drop next kept.now.ballots)) }
-    ensures below { OnOk result (All (λ b. b.number ≤ record.now.number) out.new.ballots) }
+    ensures below { OnOk result (All (λ b. b.number ≤ cast.now.number) out.new.ballots) }
     ensures count { length out.new.ballots ≤ length out.old.ballots + 1 }
     ensures election { out.new.election ≡ out.old.election }
 {
-    if next == kept.len() || kept.number(next) != record.number {
-        out.push(record, election)?;
+    if next == kept.len() || kept.number(next) != cast.number {
+        out.push(cast, election)?;
         return Ok(dispute);
     }
-    if kept.record(next, election) == *record {
+    if kept.record(next, election) == *cast {
         return Ok(dispute);
     }
-    Ok(Some(least(dispute, record.number)))
+    Ok(Some(least(dispute, cast.number)))
 }
 
 /// What is kept once a store was joined.

@@ -2,7 +2,11 @@
 #![tactic(auto)]
 
 mod adding;
+mod fault;
 pub mod laws;
+mod merging;
 mod union;
 
+pub use fault::MergeFault;
+pub use merging::merge;
 pub use union::Union;

@@ -19,6 +19,17 @@ pub enum RecoverFault {
     Memory,
 }
 
+/// Why a medium is not the store of an election, where it was read whole.
+#[derive(Clone, Copy, Debug, PartialEq, Eq)]
+pub enum MediumWhy {
+    /// The disk has not as many bytes as a medium, or neither gate is open.
+    NoStore,
+    /// The header of the bank that is read is not that of this election, but this.
+    OtherElection { header: [u8; HEADER_BYTES] },
+    /// The header is this election's, and this cell, counted from 0, is the first wrong one of the bank that is read.
+    Damaged { cell: u32 },
+}
+
 impl From<Failed> for RecoverFault {
     ghost use Rattle.std.specs.Prelude.{◌≡◌};
     ghost use Rattle.recovery.specs.declared.fault.RecoverFault.TheVariants as faults;

@@ -6,6 +6,6 @@ pub mod laws;
 mod reading;
 mod restoring;
 
-pub use fault::RecoverFault;
+pub use fault::{MediumWhy, RecoverFault};
 pub use reading::{choose, first_difference, look, read_bank};
 pub use restoring::{other_of, recover};

@@ -1,5 +1,4 @@
-use Rattle.std.proofs.Common.{◌≡◌, ◌++◌, ◌∷◌, [], sym, ap, ◌∙◌, append-nil, append_assoc, refl, arith}
-use Rattle.std.specs.Prelude.{slice_range}
+use Rattle.std.proofs.Common.{ap, ◌∙◌, refl, arith}
 use Rattle.ballot_record.specs.BallotList.{ListedBallots}
 use Rattle.merge_media.proofs.Running.{put_more, put_none}
 use Rattle.merge_media.proofs.adding.put_range.Goals as goal

@@ -1,0 +1,119 @@
+-- The runs of calls that merge media, and what they leave of the target at each moment.
+use Rattle.std.proofs.Common.{◌≡◌, ℕ, ◌<◌, ◌≤◌, ◌⊎◌, inl, inr, ⊎_elim, List, ◌∷◌, Option, Some, sym, subst, ◌∙◌, arith}
+use Rattle.std.proofs.lemmas.Bool.{cases_lt}
+use Rattle.std.specs.Option.{ForSome}
+use Rattle.std.specs.Prelude.{IfSome}
+use Rattle.checkpoint.proofs.Pages.{told_back}
+use Rattle.body_store.specs.Contents.{Contents}
+use Rattle.crash_disk.proofs.Moments.{weaker}
+use Rattle.image_builder.proofs.Held.{one_held}
+use Rattle.merge_media.specs.Merging.{EachHolds, HoldsAll, HoldsOldOrUnion, IsRecovered, MergeRefuses, RefusesUnion}
+use Rattle.merge_media.specs.Union.{IsUnion}
+use Rattle.merge_media.specs.declared.fault.MergeFault.{MergeFault}
+use Rattle.merge_media.specs.declared.fault.MergeFault.TheVariants.{Target, OtherFault, Other, Dispute, TooMany, DiskFault, Memory}
+use Rattle.outside_io.proofs.Told.{told_holds}
+use Rattle.outside_io.specs.Told.{IfTold}
+use Rattle.store_spec.specs.Ballot.{Ballot}
+use Rattle.store_spec.specs.Disk.{after_calls, DiskModel, LeavesOnly, LeavesOnlyOnceSynced, SyncsFirst}
+use Rattle.store_spec.specs.Election.{Election, IsElection}
+use Rattle.store_spec.specs.Fault.{last_count}
+use Rattle.store_spec.specs.Medium.{HoldsSet, HoldsTheSame, IsMediumOf}
+
+-- a disk that is the medium of a set now
+pub medium_now : (e own : Election) (set : List Ballot) (old mid : Option (List ℕ)) → own ≡ e → IfTold old mid (λ _ y. IsMediumOf e y set)
+    → ForSome mid (λ bytes. (was : List Ballot) × IsMediumOf own bytes was)
+medium_now e own set old mid same told y is =
+    let x = told_back old mid y told.told is in
+    (set, subst (λ e. IsMediumOf e y set) (sym same) (told.related x.0 y x.1 is))
+
+-- and that of another then
+pub medium_then : (e own : Election) (set union : List Ballot) (old mid new : Option (List ℕ)) → own ≡ e → IfTold old mid (λ _ y. IsMediumOf e y set) → IfTold mid new (λ _ y. IsMediumOf own y union)
+    → IfTold old new (λ _ y. IsMediumOf e y union)
+medium_then e own set union old mid new same one two = record {
+  told = two.told ∙ one.told;
+  related = λ x z was is.
+      let y = told_back mid new z two.told is in
+      subst (λ e. IsMediumOf e z union) same (two.related y.0 z y.1 is);
+}
+
+module _ {D : Type 0} (calls : D → ℕ) (may_leave : D → ℕ → List ℕ → Type 0) where
+  once_weaker : (old new : D) (P Q : List ℕ → Type 0) → ((c : List ℕ) → P c → Q c) → LeavesOnlyOnceSynced calls may_leave old new P → LeavesOnlyOnceSynced calls may_leave old new Q
+  once_weaker old new P Q more run = record {
+    later = run.later;
+    past = run.past;
+    before = run.before;
+    each = λ lt m from to c left. more c (run.each lt m from to c left);
+    now = λ c left. more c (run.now c left);
+  }
+
+  pub syncs_weaker : (old new : D) (P Q : List ℕ → Type 0) → ((c : List ℕ) → P c → Q c) → SyncsFirst calls may_leave old new P → SyncsFirst calls may_leave old new Q
+  syncs_weaker old new P Q more run = ⊎_elim (λ synced. inl (once_weaker old new P Q more synced)) (λ failed. inr failed) run
+
+  -- a run that begins with a sync, and what follows
+  pub synced_then : (old mid new : D) (P Q : List ℕ → Type 0) → (calls mid < last_count → calls old < calls mid) → ((c : List ℕ) → P c → Q c)
+      → LeavesOnlyOnceSynced calls may_leave old mid P → LeavesOnly calls may_leave mid new Q → LeavesOnlyOnceSynced calls may_leave old new Q
+  synced_then old mid new P Q called more one two = record {
+    later = omega (arith, one.later, two.later);
+    past = λ lt m le c.
+        let first = one.past (omega (arith, two.later)) m le c in
+        let second = two.past lt m (omega (arith, one.later)) c in
+        (λ left. first.0 (second.0 left), λ left. second.1 (first.1 left));
+    before = λ lt m from to c left.
+        let early : calls mid < last_count = omega (arith, two.later) in
+        let on = called early in
+        one.before early m from to c ((two.past lt m (omega arith) c).0 left);
+    each = λ lt m from to c left.
+        let early : calls mid < last_count = omega (arith, two.later) in
+        ⊎_elim
+        (λ (before : m < after_calls (calls mid)). more c (one.each early m from (omega arith) c ((two.past lt m (omega arith) c).0 left)))
+        (λ (after : after_calls (calls mid) ≤ m). two.each lt m after to c left)
+        (cases_lt m (after_calls (calls mid)));
+    now = two.now;
+  }
+
+-- the set that was read is the one that the bytes hold
+pub same_set : (e : Election) (bytes : List ℕ) (seen : Option (List ℕ)) (set read : List Ballot) → IsElection e → seen ≡ Some bytes → HoldsSet e bytes set
+    → IfSome seen (λ bytes. HoldsSet e bytes read) → read ≡ set
+same_set e bytes seen set read valid sees holds found =
+    let both : Some read ≡ Some set = one_held e bytes (Some read) (Some set) valid (told_holds (λ x. HoldsSet e x read) bytes sees found) holds in
+    cc
+
+-- ---- the whole run
+
+-- why the union is no store, as why media are not merged
+pub refuses_all : {A B : Type 0} (target : DiskModel A) (further : DiskModel B) (e : Election) (before after : A) (more now : List B) (set : List Ballot) (sets : List (List Ballot)) (fault : MergeFault)
+    → HoldsAll target further e before after more set sets → RefusesUnion e (set ∷ sets) fault → MergeRefuses target further e before after more now fault
+refuses_all target further e before after more now set sets (Target why) all refused = absurd refused
+refuses_all target further e before after more now set sets (OtherFault index) all refused = absurd refused
+refuses_all target further e before after more now set sets (Other index why) all refused = absurd refused
+refuses_all target further e before after more now set sets (Dispute number) all refused = (set, sets, all, refused)
+refuses_all target further e before after more now set sets (TooMany count) all refused = (set, sets, all, refused)
+refuses_all target further e before after more now set sets DiskFault all refused = absurd refused
+refuses_all target further e before after more now set sets Memory all refused = tt
+
+module _ {A B : Type 0} (target : DiskModel A) (further : DiskModel B) (e : Election) (more : List B) (old mid new : A) (bytes : List ℕ) (set : List Ballot)
+    (sees : target.seen old ≡ Some bytes) (holds : HoldsSet e bytes set) where
+  -- the target was recovered, and no more
+  pub begun_run : SyncsFirst target.calls target.may_leave old mid (HoldsTheSame e bytes) → SyncsFirst target.calls target.may_leave old mid (HoldsOldOrUnion further e set more)
+  begun_run run =
+      syncs_weaker target.calls target.may_leave old mid (HoldsTheSame e bytes) (HoldsOldOrUnion further e set more) (λ image same. inl (same (Some set) holds)) run
+
+  -- and then the union was checkpointed
+  pub merged_run : (read : List Ballot) (sets : List (List Ballot)) (store : Contents) → IsElection e → store.election ≡ e → IsRecovered target e read old mid → EachHolds further e more sets
+      → IsUnion (read ∷ sets) store.ballots → (target.calls mid < last_count → target.calls old < target.calls mid)
+      → LeavesOnlyOnceSynced target.calls target.may_leave old mid (HoldsTheSame e bytes)
+      → ((x : List ℕ) (was : List Ballot) → target.seen mid ≡ Some x → IsMediumOf store.election x was
+      → LeavesOnly target.calls target.may_leave mid new (λ c. HoldsSet store.election c was ⊎ HoldsSet store.election c store.ballots))
+      → SyncsFirst target.calls target.may_leave old new (HoldsOldOrUnion further e set more)
+  merged_run read sets store valid own recovered each union called synced run =
+      let is : read ≡ set = same_set e bytes (target.seen old) set read valid sees holds recovered.held in
+      let now = told_back (target.seen mid) (target.seen old) bytes (sym recovered.medium.told) sees in
+      let medium = recovered.medium.related bytes now.0 sees now.1 in
+      let Q = HoldsOldOrUnion further e set more in
+      inl (synced_then target.calls target.may_leave old mid new (HoldsTheSame e bytes) Q called (λ image same. inl (same (Some set) holds)) synced
+      (weaker target.calls target.may_leave mid new (λ c. HoldsSet store.election c read ⊎ HoldsSet store.election c store.ballots) Q
+      (λ image either. ⊎_elim
+      (λ was. inl (subst (λ s. HoldsSet e image s) is (subst (λ e. HoldsSet e image read) own was)))
+      (λ both. inr (sets, each, store.ballots, subst (λ s. IsUnion (s ∷ sets) store.ballots) is union, subst (λ e. HoldsSet e image store.ballots) own both))
+      either)
+      (run now.0 read now.1 (subst (λ e. IsMediumOf e now.0 read) (sym own) medium))))

@@ -1,0 +1,86 @@
+use Rattle.std.proofs.Common.{◌∷◌, length, sym, ap, subst, ◌∙◌, arith}
+use Rattle.body_store.specs.Contents.{Contents}
+use Rattle.merge_media.proofs.Media.{handed_on, zip_same}
+use Rattle.merge_media.proofs.Merged.{begun_run, medium_now, medium_then, merged_run, refuses_all}
+use Rattle.merge_media.proofs.merging.merge.Goals as goal
+use Rattle.merge_media.specs.Merging.{MergeRefuses}
+use Rattle.recovery.proofs.OnlyReading.{nothing_called}
+use Rattle.recovery.specs.ReadsOnly.{WritesNothing}
+use Rattle.store_spec.specs.Disk.{disk_model}
+use Rattle.store_spec.specs.Election.{IsElection}
+
+pub returns-in_err-union-clause-any_moment : goal.returns-in_err-union-clause-any_moment
+returns-in_err-union-clause-any_moment g c bytes set sees holds =
+    begun_run (disk_model g.A.Disk.seen g.A.Disk.calls g.A.Disk.may_leave g.A.Disk.faults) (disk_model g.B.Disk.seen g.B.Disk.calls g.B.Disk.may_leave g.B.Disk.faults)
+    c.args.election.now c.args.more.now c.args.disk.now c.begin.new.disk c.begin.new.disk bytes set sees holds (c.begin.ensures.any_moment bytes sees)
+
+pub returns-in_err-union-clause-reads : goal.returns-in_err-union-clause-reads
+returns-in_err-union-clause-reads g c =
+    zip_same (WritesNothing g.B.Disk.seen g.B.Disk.calls g.B.Disk.may_leave) (nothing_called g.B.Disk.seen g.B.Disk.calls g.B.Disk.may_leave) c.args.more.now
+
+pub returns-in_err-join_each-clause-any_moment : goal.returns-in_err-join_each-clause-any_moment
+returns-in_err-join_each-clause-any_moment g c bytes set sees holds =
+    begun_run (disk_model g.A.Disk.seen g.A.Disk.calls g.A.Disk.may_leave g.A.Disk.faults) (disk_model g.B.Disk.seen g.B.Disk.calls g.B.Disk.may_leave g.B.Disk.faults)
+    c.args.election.now c.args.more.now c.args.disk.now c.begin.new.disk c.begin.new.disk bytes set sees holds (c.begin.ensures.any_moment bytes sees)
+
+pub returns-in_err-store-clause-any_moment : goal.returns-in_err-store-clause-any_moment
+returns-in_err-store-clause-any_moment g c bytes set sees holds =
+    begun_run (disk_model g.A.Disk.seen g.A.Disk.calls g.A.Disk.may_leave g.A.Disk.faults) (disk_model g.B.Disk.seen g.B.Disk.calls g.B.Disk.may_leave g.B.Disk.faults)
+    c.args.election.now c.args.more.now c.args.disk.now c.begin.new.disk c.begin.new.disk bytes set sees holds (c.begin.ensures.any_moment bytes sees)
+
+pub returns-in_err-store-clause-refused : goal.returns-in_err-store-clause-refused
+returns-in_err-store-clause-refused g c =
+    let target = disk_model g.A.Disk.seen g.A.Disk.calls g.A.Disk.may_leave g.A.Disk.faults in
+    let further = disk_model g.B.Disk.seen g.B.Disk.calls g.B.Disk.may_leave g.B.Disk.faults in
+    let e = c.args.election.now in
+    let begun = c.in_ok-union.ensures.begun in
+    let joined = c.in_ok-join_each.ensures.joined in
+    handed_on c.from_residual-in_err-store.result (MergeRefuses target further e c.args.disk.now c.begin.new.disk c.args.more.now c.join_each.new.more) c.in_err-store.field-0.0 c.from_residual-in_err-store.ensures.1
+    (refuses_all target further e c.args.disk.now c.begin.new.disk c.args.more.now c.join_each.new.more begun.0 joined.0 c.in_err-store.field-0.0
+    (record { recovered = begun.1; each = joined.1 }) (c.in_err-store.ensures.refused (begun.0 ∷ joined.0) (joined.2 begun.0 begun.2)))
+
+pub checkpoint-requires-clause-medium : goal.checkpoint-requires-clause-medium
+checkpoint-requires-clause-medium g c =
+    let begun = c.in_ok-union.ensures.begun in
+    medium_now c.args.election.now c.in_ok-store.store.election begun.0 (g.A.Disk.seen c.args.disk.now) (g.A.Disk.seen c.begin.new.disk) c.in_ok-store.ensures.election begun.1.medium
+
+pub returns-in-Ok-clause-merged : goal.returns-in-Ok-clause-merged
+returns-in-Ok-clause-merged g c =
+    let begun = c.in_ok-union.ensures.begun in
+    let joined = c.in_ok-join_each.ensures.joined in
+    let store = c.in_ok-store.store in
+    record {
+      set = begun.0;
+      sets = joined.0;
+      held = begun.1.held;
+      each = joined.1;
+      union = store.ballots;
+      is = c.in_ok-store.ensures.union (begun.0 ∷ joined.0) (joined.2 begun.0 begun.2);
+      count_is = ap length c.in_ok-store.ensures.same ∙ sym c.len.ensures;
+      medium = medium_then c.args.election.now store.election begun.0 store.ballots (g.A.Disk.seen c.args.disk.now) (g.A.Disk.seen c.begin.new.disk) (g.A.Disk.seen c.checkpoint.new.disk)
+          c.in_ok-store.ensures.election begun.1.medium c.in-Ok.ensures.medium;
+      settled = c.in-Ok.ensures.settled;
+    }
+
+pub returns-in-Ok-clause-any_moment : goal.returns-in-Ok-clause-any_moment
+returns-in-Ok-clause-any_moment g c bytes set sees holds =
+    let begun = c.in_ok-union.ensures.begun in
+    let joined = c.in_ok-join_each.ensures.joined in
+    let own = c.in_ok-store.ensures.election in
+    let valid = subst IsElection own (subst (λ (s : Contents). IsElection s.election) c.store.view_is c.store.invariant.stored.election) in
+    merged_run (disk_model g.A.Disk.seen g.A.Disk.calls g.A.Disk.may_leave g.A.Disk.faults) (disk_model g.B.Disk.seen g.B.Disk.calls g.B.Disk.may_leave g.B.Disk.faults)
+    c.args.election.now c.args.more.now c.args.disk.now c.begin.new.disk c.checkpoint.new.disk bytes set sees holds begun.0 joined.0 c.in_ok-store.store valid own begun.1 joined.1
+    (c.in_ok-store.ensures.union (begun.0 ∷ joined.0) (joined.2 begun.0 begun.2)) c.begin.ensures.called (c.in_ok-union.ensures.once_synced bytes sees) c.checkpoint.ensures.any_moment
+
+pub returns-clause-any_moment : goal.returns-clause-any_moment
+returns-clause-any_moment g c bytes set sees holds =
+    let begun = c.in_ok-union.ensures.begun in
+    let joined = c.in_ok-join_each.ensures.joined in
+    let own = c.in_ok-store.ensures.election in
+    let valid = subst IsElection own (subst (λ (s : Contents). IsElection s.election) c.store.view_is c.store.invariant.stored.election) in
+    merged_run (disk_model g.A.Disk.seen g.A.Disk.calls g.A.Disk.may_leave g.A.Disk.faults) (disk_model g.B.Disk.seen g.B.Disk.calls g.B.Disk.may_leave g.B.Disk.faults)
+    c.args.election.now c.args.more.now c.args.disk.now c.begin.new.disk c.checkpoint.new.disk bytes set sees holds begun.0 joined.0 c.in_ok-store.store valid own begun.1 joined.1
+    (c.in_ok-store.ensures.union (begun.0 ∷ joined.0) (joined.2 begun.0 begun.2)) c.begin.ensures.called (c.in_ok-union.ensures.once_synced bytes sees) c.checkpoint.ensures.any_moment
+
+pub returns-clause-refused : goal.returns-clause-refused
+returns-clause-refused g c = λ lt. let more = c.in-Err.ensures.fault.rose lt in omega (arith, c.begin.ensures.never_falls)
