@@ -115,3 +115,12 @@ def many_rows(table, election, program):
         lines = text.split("\n", 1)[1].encode()
         told = replies(*["match"] * count) + b"missing 0\n"
         table.row(f"the lines of a sample of {count}", [path, roomy, "compare", *words], OK, lines, told)
+    large = str(table.room / "generated.medium")
+    subprocess.run([program, large, roomy, "init"], capture_output=True, check=True)
+    options = ["--seed", "3", "--count", "5000", "--tabs", "4"]
+    subprocess.run([program, large, roomy, "large", *options], capture_output=True, check=True)
+    told = subprocess.run([program, large, roomy, "session"], input=b"export\n", capture_output=True, check=True).stdout
+    for count in (1, 700, 5000):
+        text = "".join(line + "\n" for line in sample("55", count, exported(told.decode())))
+        words = [large, roomy, "sample", "55", str(count)]
+        table.row(f"a sample of {count} after a large run", words, OK, output=text.encode())

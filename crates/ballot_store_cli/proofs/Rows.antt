@@ -1,6 +1,6 @@
 -- The rows of all commands: their laws, and that their words tell them apart.
-use Rattle.std.proofs.Common.{◌≡◌, ℕ, ◌+◌, ◌*◌, List, [], ◌∷◌, Result, Ok, Err, ap, arith, refl, ◌∙◌}
-use Rattle.std.specs.Prelude.{IfErr, codes, length}
+use Rattle.std.proofs.Common.{◌≡◌, ℕ, ◌+◌, ◌*◌, List, [], ◌∷◌, Option, Some, None, Result, Ok, Err, ap, arith, refl, sym, ◌∙◌}
+use Rattle.std.specs.Prelude.{IfErr, IfNone, codes, length}
 use Rattle.ballot_store_cli.specs.Command.{row}
 use Rattle.ballot_store_cli.specs.declared.command.Command.{Command}
 use Rattle.ballot_store_cli.specs.declared.command.Command.TheVariants.{Build, Init, Session, Audit, Replay, Large, Sample, Compare}
@@ -14,6 +14,8 @@ use Rattle.run_outcome.specs.Row.{IsNamed}
 use Rattle.sample_commands.proofs.Asking.{none_asked, one_asked}
 use Rattle.sample_commands.proofs.CompareLaws.{compare_laws}
 use Rattle.sample_commands.proofs.SampleLaws.{sample_laws}
+use Rattle.sample_commands.specs.Asked.{IsAsked}
+use Rattle.sample_commands.specs.declared.asked.Asked.{Asked}
 use Rattle.script_commands.proofs.BuildLaws.{build_laws}
 use Rattle.script_commands.proofs.ReplayLaws.{replay_laws}
 use Rattle.session_commands.proofs.LargeLaws.{large_laws}
@@ -84,6 +86,26 @@ names_none word other (Sample asked) medium is = none_asked asked is.further
 names_none word other (Compare asked) medium is = none_asked asked is.further
 
 -- ---- a word with others behind it
+
+-- what holds of no command holds where none was found
+none_found : {P Q : Type 0} (found : Option Command) → (P → Q) → IfNone found P → IfNone found Q
+none_found None step none = step none
+none_found (Some c) step none = tt
+
+names_no_sample : (word : List ℕ) (words : List (List ℕ)) → word ≡ codes "sample" → ((asked : Asked) → IsAsked words asked → ⊥) → (c : Command) (medium : List ℕ) → IsNamed (row c) medium word words → ⊥
+names_no_sample word words same none (Sample asked) medium is = none asked is.further
+names_no_sample word words same none other medium is = omega (arith, ap number_of (sym is.word ∙ same))
+
+names_no_compare : (word : List ℕ) (words : List (List ℕ)) → word ≡ codes "compare" → ((asked : Asked) → IsAsked words asked → ⊥) → (c : Command) (medium : List ℕ) → IsNamed (row c) medium word words → ⊥
+names_no_compare word words same none (Compare asked) medium is = none asked is.further
+names_no_compare word words same none other medium is = omega (arith, ap number_of (sym is.word ∙ same))
+
+-- words that ask for no sample name none
+pub no_sample : (word : List ℕ) (words : List (List ℕ)) (found : Option Command) → word ≡ codes "sample" → IfNone found ((asked : Asked) → IsAsked words asked → ⊥) → IfNone found ((c : Command) (medium : List ℕ) → IsNamed (row c) medium word words → ⊥)
+no_sample word words found same none = none_found found (names_no_sample word words same) none
+
+pub no_compare : (word : List ℕ) (words : List (List ℕ)) (found : Option Command) → word ≡ codes "compare" → IfNone found ((asked : Asked) → IsAsked words asked → ⊥) → IfNone found ((c : Command) (medium : List ℕ) → IsNamed (row c) medium word words → ⊥)
+no_compare word words found same none = none_found found (names_no_compare word words same) none
 
 -- where there was no memory for options, they name a large run
 pub names_large : {T E : Type 0} (word : List ℕ) (words : List (List ℕ)) (r : Result T E) → word ≡ codes "large" → IfErr r (λ x. AreOptions words) → IfErr r (λ x. (c : Command) × ((medium : List ℕ) → IsNamed (row c) medium word words))

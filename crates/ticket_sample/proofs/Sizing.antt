@@ -2,7 +2,7 @@
 use Rattle.std.proofs.Common.{◌≡◌, ◌≢◌, ℕ, zero, suc, ◌+◌, ◌<◌, ◌≤◌, inl, inr, List, [], ◌∷◌, ◌++◌, Bool, true, false, cond, length, get_or, map, refl, sym, ap, subst, ◌∙◌, arith}
 use Rattle.std.proofs.lemmas.Bool.{cases_lt, cond-false}
 use Rattle.std.proofs.lemmas.List.{get_or-map, length-map}
-use Rattle.std.proofs.lemmas.List.Elements.{All-cons, All-nil, Contains-append_right, Contains-get_or}
+use Rattle.std.proofs.lemmas.List.Elements.{All-cons, All-contains, All-nil, Contains-append_right, Contains-get_or}
 use Rattle.std.proofs.lemmas.List.Sorted.{All-permutation, Contains-permutation, IsPermutation-cons, IsPermutation-map, IsPermutation-middle, IsPermutation-refl, IsPermutation-sym, IsPermutation-trans, length_permutation, sum_by-IsPermutation}
 use Rattle.std.proofs.lemmas.List.Sums.{length-filter, sum_by-append, sum_by-cons}
 use Rattle.std.specs.List.{All, Contains, count_by}
@@ -63,6 +63,19 @@ record SplitAt (lots : List Lot) (count : ℕ) : Type 0 where
   later : All (λ other. before other lot ≡ false) back
   counted : length front ≡ count
 
+among_split : (xs front back : List Lot) (t : Lot) → IsPermutation xs (front ++ t ∷ back) → Contains xs t
+among_split xs front back t same =
+    Contains-permutation (front ++ t ∷ back) xs t (IsPermutation-sym xs (front ++ t ∷ back) same) (Contains-append_right front (t ∷ back) t (0, omega arith, refl))
+
+-- one before which none of the others is drawn is before each of them
+first_earlier : (first t : Lot) (rest : List Lot) → All (λ other. before other first ≡ false) rest → Contains rest t → AreApart (numbers (first ∷ rest)) → before first t ≡ true
+first_earlier first t rest none there apart =
+    let not_before : before t first ≡ false = All-contains (λ other. before other first ≡ false) rest t none there in
+    no_tie first t
+    (λ is. apart 0 (suc there.0) 0 (omega arith) (omega (arith, there.1, length-map rest (λ (lot : Lot). lot.1)))
+    (is ∙ sym (get_or-map (λ (lot : Lot). lot.1) rest there.0 t 0 there.1 ∙ ap (λ (lot : Lot). lot.1) there.2)))
+    not_before
+
 split_at : (count : ℕ) (lots : List Lot) → count < length lots → AreApart (numbers lots) → SplitAt lots count
 split_at count [] within apart = absurd (omega (arith, within))
 split_at zero (x ∷ xs) within apart =
@@ -73,18 +86,14 @@ split_at (suc count) (x ∷ xs) within apart =
     let long = length_permutation (x ∷ xs) (first.lot ∷ first.rest) first.same in
     let all_apart = numbers_apart (numbers (x ∷ xs)) (numbers (first.lot ∷ first.rest)) (IsPermutation-map (λ (lot : Lot). lot.1) (x ∷ xs) (first.lot ∷ first.rest) first.same) apart in
     let next = split_at count first.rest (omega (arith, within, long)) (λ i j d less inside. all_apart (suc i) (suc j) d (omega arith) (omega (arith, inside))) in
-    let there : Contains first.rest next.lot = Contains-permutation (next.front ++ next.lot ∷ next.back) first.rest next.lot (IsPermutation-sym first.rest (next.front ++ next.lot ∷ next.back) next.same)
-    (Contains-append_right next.front (next.lot ∷ next.back) next.lot (0, omega arith, refl)) in
-    let not_before : before next.lot first.lot ≡ false = subst (λ (lot : Lot). before lot first.lot ≡ false) there.2 (first.none there.0 next.lot there.1) in
-    let other : first.lot.1 ≢ next.lot.1 = λ is. all_apart 0 (suc there.0) 0 (omega arith) (omega (arith, there.1, length-map first.rest (λ (lot : Lot). lot.1)))
-    (is ∙ sym (get_or-map (λ (lot : Lot). lot.1) first.rest there.0 next.lot 0 there.1 ∙ ap (λ (lot : Lot). lot.1) there.2)) in
+    let there : Contains first.rest next.lot = among_split first.rest next.front next.back next.lot next.same in
     record {
       front = first.lot ∷ next.front;
       lot = next.lot;
       back = next.back;
       same = IsPermutation-trans (x ∷ xs) (first.lot ∷ first.rest) (first.lot ∷ (next.front ++ next.lot ∷ next.back)) first.same
           (IsPermutation-cons first.lot first.rest (next.front ++ next.lot ∷ next.back) next.same);
-      earlier = All-cons (λ other. before other next.lot ≡ true) first.lot next.front (no_tie first.lot next.lot other not_before) next.earlier;
+      earlier = All-cons (λ other. before other next.lot ≡ true) first.lot next.front (first_earlier first.lot next.lot first.rest first.none there all_apart) next.earlier;
       later = next.later;
       counted = omega (arith, next.counted);
     }

@@ -1,9 +1,11 @@
 //! Laws of samples. Each function here states a law and does nothing.
 
-ghost use Rattle.std.specs.Prelude.{◌≡◌, ◌↔◌, ℕ, ◌+◌, List, ◌∷◌, ◌++◌, Contains, length, min};
+ghost use Rattle.std.specs.Prelude.{◌≡◌, ◌↔◌, ◌<◌, ℕ, ◌+◌, List, ◌∷◌, ◌++◌, Contains, length, min, true};
+ghost use Rattle.std.specs.Ordering.{is_lt};
 ghost use Rattle.store_spec.specs.Ballot.{Ballot, IsBallotSet, numbers_of};
 ghost use Rattle.store_spec.specs.Election.{Election};
 ghost use Rattle.ticket_sample.specs.Sample.{sample_of};
+ghost use Rattle.ticket_sample.specs.Ticket.{lot_cmp};
 
 /// A sample has as many ballots as were asked for, or all where the set has fewer.
 pub fn size()
@@ -33,4 +35,9 @@ pub fn one_sample()
     ensures { (e : Election) (xs ys : List Ballot) (dice : List ℕ) (k : ℕ)
         → IsBallotSet e xs → IsBallotSet e ys → ((b : Ballot) → Contains xs b ↔ Contains ys b)
         → sample_of xs dice k ≡ sample_of ys dice k }
+{}
+
+/// Of two numbers with one ticket the lesser is drawn first.
+pub fn equal_tickets()
+    ensures { (ticket : List ℕ) (a b : ℕ) → a < b → is_lt (lot_cmp (ticket, a) (ticket, b)) ≡ true }
 {}

@@ -1,4 +1,4 @@
-use Rattle.std.proofs.Common.{◌∙◌, ℕ, List, Option, Some, None, Err, ap, refl, subst}
+use Rattle.std.proofs.Common.{◌+◌, ◌∙◌, ℕ, List, Option, Some, None, Err, ap, refl, subst}
 use Rattle.outside_io.proofs.Reading.{few_given, read_fault, read_first, read_nothing, read_out, read_too_much, read_whole, read_wide}
 use Rattle.outside_io.proofs.Told.{told_as}
 use Rattle.outside_io.specs.Outside.{input, output, outside}
@@ -51,7 +51,7 @@ lines-preserved-in-Ok g c =
     let now = c.line-reply.new.self.rest in
     let takes = subst (λ (bytes : List ℕ). Takes e bytes reply rest now) c.line.ensures c.line-reply.ensures.rest in
     record {
-      read = read_whole i.read c.in-Ok-Whole.field-0-is said.answers said.progress said.within_room (λ lines so_far.
+      read = read_whole {Q = Replied e sample old new now (c.lines.count + 1)} i.read c.in-Ok-Whole.field-0-is said.answers said.progress said.within_room (λ lines so_far.
           replied_more e sample old mid new rest now c.lines.count lines (record { line = Some line; reply = reply }) so_far
           (whole_right e sample old mid rest c.lines.count lines so_far c.lines.compare.sample c.line.result.now line reply i.sample c.line.ensures c.line-reply.ensures.reply)
           (leaves_more e sample so_far.answers line reply rest now so_far.leaves takes)
@@ -71,7 +71,7 @@ lines-preserved g c =
     let new = output g.K.Sink.taken g.K.Sink.faults c.answer-in-Ok-TooWide.new.out in
     let rest = c.lines.compare.rest in
     record {
-      read = read_wide i.read c.in-Ok-TooWide.field-0-is said.answers said.progress said.within_room (λ lines so_far.
+      read = read_wide {Q = Replied e sample old new rest (c.lines.count + 1)} i.read c.in-Ok-TooWide.field-0-is said.answers said.progress said.within_room (λ lines so_far.
           replied_more e sample old mid new rest rest c.lines.count lines (record { line = None; reply = Malformed }) so_far
           (wide_right e sample old mid rest c.lines.count lines so_far)
           (leaves_wide e sample so_far.answers rest so_far.leaves)
