@@ -7,9 +7,7 @@ use Rattle.std.specs.List.{All, Contains, zip}
 use Rattle.std.specs.Prelude.{IsTrue, is_some, ◌↔◌}
 use Rattle.ballot_record.proofs.BallotNumbers.{ballot_with, contains_number}
 use Rattle.ballot_record.proofs.Lookups.{found_in, missing_from, option_cases}
-use Rattle.ballot_record.specs.Record.{ballot}
-use Rattle.ballot_record.specs.declared.record.Record.{Record}
-use Rattle.body_store.specs.Contents.{Contents, ballots_of}
+use Rattle.body_store.specs.Contents.{Contents}
 use Rattle.phase_delete.proofs.Whole.{listed_is}
 use Rattle.phase_delete.proofs.WithdrawnLists.{trays_are_lists as trays_of_withdrawers}
 use Rattle.phase_delete.specs.Closing as withdrawn
@@ -25,7 +23,7 @@ use Rattle.phase_insert.specs.CastPhase.{Phase}
 use Rattle.phase_insert.specs.Running.{HasCast}
 use Rattle.phase_insert.specs.Tabulator.{AreAll, TabulatorView, new_tabulator}
 use Rattle.phase_insert.specs.Closing.{ClosesAs, beside, line, reply_of}
-use Rattle.phase_insert.specs.declared.reply.Cast.{Cast}
+use Rattle.phase_insert.specs.Tray.{Cast}
 use Rattle.phase_insert.specs.declared.reply.Final.{Final}
 use Rattle.phase_play.proofs.Rows.{map_twice}
 use Rattle.phase_play.specs.Plays.{PlaysCasting, PlaysFinding, PlaysWithdrawing}
@@ -73,15 +71,15 @@ finals_of (tray ∷ trays) (list ∷ finals) same =
     ∙ ap (λ l. list ∷ l) (finals_of trays finals rest)
 
 -- the ballots of trays, and the final replies beside them
-pub plays_casting : (e : Election) (base : Contents) (trays : List (List Cast)) (finals : List (List Final)) (work : List (List Ballot)) (after : List Ballot) → base.election ≡ e → ClosesAs base trays finals after → map (map (λ c. ballot c.ballot)) trays ≡ work → PlaysCasting e base.ballots work (map (map reply_of) finals) after
+pub plays_casting : (e : Election) (base : Contents) (trays : List (List Cast)) (finals : List (List Final)) (work : List (List Ballot)) (after : List Ballot) → base.election ≡ e → ClosesAs base trays finals after → map (map (λ c. c.ballot)) trays ≡ work → PlaysCasting e base.ballots work (map (map reply_of) finals) after
 plays_casting e base trays finals work after own closes are =
     let rows = beside trays finals in
     record {
       lines = map (map line) rows;
       of_work =
           map_twice (λ (l : CastLine). l.ballot) line rows
-          ∙ sym (map_twice (λ (c : Cast). ballot c.ballot) (λ (told : Cast × Final). told.0) rows)
-          ∙ ap (map (map (λ (c : Cast). ballot c.ballot))) (trays_of trays finals closes.as_many)
+          ∙ sym (map_twice (λ (c : Cast). c.ballot) (λ (told : Cast × Final). told.0) rows)
+          ∙ ap (map (map (λ (c : Cast). c.ballot))) (trays_of trays finals closes.as_many)
           ∙ are;
       of_replies =
           map_twice (λ (l : CastLine). l.reply) line rows
@@ -90,13 +88,8 @@ plays_casting e base trays finals work after own closes are =
       outcome = subst (λ (f : Election). BallotOutcome f base.ballots (map (map line) rows) after) own closes.outcome;
     }
 
--- the ballots of the trays of tabulators, by their records
-rows_of_records : (tabs : List TabulatorView) → map (λ tab. map (λ c. ballot c.ballot) tab.tray) tabs ≡ map ballots_of (map (λ tab. map (λ c. c.ballot) tab.tray) tabs)
-rows_of_records [] = refl
-rows_of_records (tab ∷ tabs) = ap (λ l. l ∷ map (λ (t : TabulatorView). map (λ (c : Cast). ballot c.ballot) t.tray) tabs) (sym (map-map ballot (λ (c : Cast). c.ballot) tab.tray)) ∙ ap (λ l. ballots_of (map (λ (c : Cast). c.ballot) tab.tray) ∷ l) (rows_of_records tabs)
-
 -- tabulators that began with room for their lists, and have cast them
-module _ {V : Type 0} (items : V → List Record) (phase : Phase) where
+module _ {V : Type 0} (items : V → List Ballot) (phase : Phase) where
   abbrev pub began : List V → List TabulatorView
   began work = map (new_tabulator phase) (map (λ list. length (items list)) work)
 
@@ -114,16 +107,13 @@ module _ {V : Type 0} (items : V → List Record) (phase : Phase) where
     pub cast_all : (after whole : List TabulatorView) → length after ≡ length before → whole ≡ after → phase.words.seats ≡ length work → All (λ tab. tab.phase ≡ phase) after → AreAll phase whole
     cast_all after whole same is seats belong = subst (AreAll phase) (sym is) (record { all = same ∙ as_many ∙ sym seats; belong = belong })
 
-    pub cast_trays : (after whole : List TabulatorView) → length after ≡ length before → whole ≡ after → All (λ at. HasCast at.0 (items at.1.0) at.1.1) (zip before (zip work after)) → map (map (λ c. ballot c.ballot)) (map (λ tab. tab.tray) whole) ≡ map (λ list. ballots_of (items list)) work
+    pub cast_trays : (after whole : List TabulatorView) → length after ≡ length before → whole ≡ after → All (λ at. HasCast at.0 (items at.1.0) at.1.1) (zip before (zip work after)) → map (map (λ c. c.ballot)) (map (λ tab. tab.tray) whole) ≡ map items work
     cast_trays after whole same is each =
         let plan = map (λ list. length (items list)) work in
         let cast = subst (λ (tabs : List TabulatorView). All (λ at. HasCast at.0 (items at.1.0) at.1.1) (zip tabs (zip work after))) are each in
-        let records = trays_are_lists items phase plan after work (length-map work (λ list. length (items list))) (same ∙ ap length are) cast in
-        ap (λ (tabs : List TabulatorView). map (map (λ (c : Cast). ballot c.ballot)) (map (λ (tab : TabulatorView). tab.tray) tabs)) is
-        ∙ map-map (map (λ (c : Cast). ballot c.ballot)) (λ (tab : TabulatorView). tab.tray) after
-        ∙ rows_of_records after
-        ∙ ap (map ballots_of) records
-        ∙ map-map ballots_of items work
+        ap (λ (tabs : List TabulatorView). map (map (λ (c : Cast). c.ballot)) (map (λ (tab : TabulatorView). tab.tray) tabs)) is
+        ∙ map-map (map (λ (c : Cast). c.ballot)) (λ (tab : TabulatorView). tab.tray) after
+        ∙ trays_are_lists items phase plan after work (length-map work (λ list. length (items list))) (same ∙ ap length are) cast
 
 -- ---- withdrawing
 

@@ -1,17 +1,26 @@
-ghost use Rattle.ballot_record.specs.Record.{ballot};
-ghost use Rattle.body_store.specs.Contents.{IsStored, ballots_of};
+ghost use Rattle.body_store.specs.Contents.{IsStored};
 ghost use Rattle.phase_insert.specs.Closing.{reply_of};
 ghost use Rattle.phase_play.specs.Plays.{PlaysCasting};
 ghost use Rattle.std.specs.Prelude.{◌≡◌, ◌≤◌, All, IfOk, length, map};
-ghost use Rattle.store_spec.specs.Ballot.{IsValid};
 
-use crate::plan_of;
-use ballot_record::Record;
+use crate::room_for;
+use ballot_record::BallotList;
 use body_store::Closed;
 use outside_io::{Memory, Turns};
 use phase_insert::{CastPhase, Final, run_cast};
 use std::alloc::Global;
 use std::thread::Threads;
+
+/// The plan of a casting phase: as much room for each list as it has ballots.
+fn plan_of_ballots(alloc: Global, work: &[BallotList]) -> Result<Vec<u32>, Memory>
+    ensures { IfOk result (λ plan. plan.items ≡ map (λ list. length list.ballots) work.now) }
+{
+    let mut plan = Vec::with_capacity(alloc, work.len())?;
+    for list in work {
+        plan.push(room_for(list.len())?)?;
+    }
+    Ok(plan)
+}
 
 /// Plays a casting phase: the ballots that wait in lists are cast, one tabulator for each list, all at once. It gives the
 /// store after the phase and a reply to each ballot. The lists are given up as soon as all is cast, so that their memory
@@ -20,20 +29,20 @@ pub fn play_casting<R: Threads + Sync, T: Turns>(
     rt: &R,
     alloc: Global,
     closed: Closed,
-    work: Vec<Vec<Record>>,
+    work: Vec<BallotList>,
     turns: &T,
 ) -> Result<(Closed, Vec<Vec<Final>>), Memory>
     requires some_list { 1 ≤ length work.items }
     requires few_lists { length work.items ≤ 64 }
-    requires valid { All (λ list. All (IsValid closed.election) (ballots_of list.items)) work.items }
+    requires elections { All (λ list. list.election ≡ closed.election) work.items }
     ensures election { IfOk result (λ played. played.0.election ≡ closed.election) }
     ensures stored { IfOk result (λ played. IsStored played.0) }
     ensures plays { IfOk result (λ played. PlaysCasting closed.election closed.ballots
-        (map (λ list. ballots_of list.items) work.items)
+        (map (λ list. list.ballots) work.items)
         (map (λ list. map reply_of list.items) played.1.items) played.0.ballots) }
 {
     let lists = work.as_slice();
-    let plan = plan_of(alloc, lists)?;
+    let plan = plan_of_ballots(alloc, lists)?;
     let (phase, mut tabs) = match CastPhase::begin(alloc, closed, &plan) {
         Ok(begun) => begun,
         Err((_, memory)) => return Err(memory),

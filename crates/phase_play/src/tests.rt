@@ -1,12 +1,10 @@
 //! Phases of the example election.
 
-ghost use Rattle.body_store.specs.Contents.{ballots_of};
-ghost use Rattle.std.specs.Prelude.{All, IfOk};
-ghost use Rattle.store_spec.specs.Ballot.{IsValid};
+ghost use Rattle.std.specs.Prelude.{◌≡◌, IfOk};
 
 use crate::{Final, play_casting, play_finding, play_withdrawing};
 use Final::{Accepted, Conflict, Duplicate};
-use ballot_record::{Election, MAX_MARK_SETS, Record};
+use ballot_record::{BallotList, Election, MAX_MARK_SETS, Record};
 use body_store::Closed;
 use outside_io::{Memory, NoTurns};
 use std::alloc::Global;
@@ -28,13 +26,13 @@ fn ballot(number: u64, set: u32) -> Record {
 }
 
 /// Those of these ballots that are valid.
-fn cast(alloc: Global, election: &Election, ballots: &[Record]) -> Result<Vec<Record>, Memory>
-    ensures { IfOk result (λ list. All (IsValid election.now) (ballots_of list.items)) }
+fn cast(alloc: Global, election: &Election, ballots: &[Record]) -> Result<BallotList, Memory>
+    ensures { IfOk result (λ list. list.election ≡ election.now) }
 {
-    let mut list = Vec::with_capacity(alloc, ballots.len())?;
+    let mut list = BallotList::new(alloc, election);
     for ballot in ballots {
         if ballot.valid(election) {
-            list.push(*ballot)?;
+            list.push(ballot, election)?;
         }
     }
     Ok(list)

@@ -1,7 +1,5 @@
-use Rattle.std.specs.List.{All}
-use Rattle.body_store.specs.Contents.{ballots_of}
+use Rattle.std.proofs.Common.{◌≡◌}
 use Rattle.phase_play.proofs.tests.cast.Given as goal
-use Rattle.store_spec.specs.Ballot.{IsValid}
 
 abbrev pub invariant-loop-ballot : goal.invariant-loop-ballot
-invariant-loop-ballot l = All (IsValid l.election) (ballots_of l.list.items)
+invariant-loop-ballot l = l.list.election ≡ l.election
