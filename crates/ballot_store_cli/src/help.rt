@@ -9,6 +9,8 @@ const FORMS: &[&str] = &[
     "audit",
     "build <ballots >image",
     "large --seed S --count C --tabs T",
+    "sample DICE K",
+    "compare DICE K <lines",
     "replay <schedule",
 ];
 
