@@ -1,7 +1,6 @@
 -- A phase, and what waits for its close.
-use Rattle.std.specs.Prelude.{◌≡◌, ℕ, ◌<◌, ◌≤◌, List, length, map, ⊤}
+use Rattle.std.specs.Prelude.{◌≡◌, ℕ, ◌<◌, ◌≤◌, List, All, length, map, ⊤}
 use Rattle.ballot_record.specs.Record.{ballot}
-use Rattle.body_store.specs.Contents.{ballots_of}
 use Rattle.phase_gate.specs.declared.work.Item.{Item}
 use Rattle.phase_gate.specs.declared.work.Item.TheVariants as items
 use Rattle.phase_gate.specs.declared.work.Kind.{Kind}
@@ -20,9 +19,14 @@ use Rattle.store_spec.specs.Session.Phase.{Closed, Casts, Withdraws, Finds}
 
 abbrev pub phase_of : Work → Phase
 phase_of works.Closed = Closed
-phase_of (works.Casting lists) = Casts (map (λ list. ballots_of list.items) lists.items)
+phase_of (works.Casting lists) = Casts (map (λ list. list.ballots) lists.items)
 phase_of (works.Withdrawing lists) = Withdraws (map (λ list. list.items) lists.items)
 phase_of (works.Finding lists) = Finds (map (λ list. list.items) lists.items)
+
+-- the lists of a casting phase are of this election
+abbrev pub AreOf : Election → Work → Type 0
+AreOf e (works.Casting lists) = All (λ list. list.election ≡ e) lists.items
+AreOf e other = ⊤
 
 abbrev pub kind_of : Kind → line.Work
 kind_of kinds.Casting = line.Work.Casting

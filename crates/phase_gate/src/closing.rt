@@ -1,15 +1,13 @@
 //! The close of a phase: what waited is handled, and each item is answered.
 
 ghost use Rattle.std.specs.Prelude.{◌≡◌, [], All, IfOk, map, string_bytes};
-ghost use Rattle.body_store.specs.Contents.{ballots_of};
 ghost use Rattle.phase_gate.specs.Standing.{AreLists};
 ghost use Rattle.phase_gate.specs.Telling.{Tells};
-ghost use Rattle.store_spec.specs.Ballot.{IsValid};
 ghost use Rattle.store_spec.specs.Session.{ClosesCasting, ClosesFinding, ClosesWithdrawing, begun, replies};
 
 use crate::telling::Telling;
 use crate::text::tell_closing;
-use ballot_record::Record;
+use ballot_record::BallotList;
 use body_store::Closed;
 use outside_io::{Memory, Turns};
 use phase_play::{play_casting, play_finding, play_withdrawing};
@@ -21,17 +19,17 @@ pub fn close_casting<R: Threads + Sync, T: Turns>(
     rt: &R,
     alloc: Global,
     closed: Closed,
-    lists: Vec<Vec<Record>>,
+    lists: Vec<BallotList>,
     turns: &T,
     telling: Telling,
     reply: &mut String,
 ) -> Result<Closed, Memory>
     requires lists { AreLists lists.items }
-    requires valid { All (λ list. All (IsValid closed.election) (ballots_of list.items)) lists.items }
+    requires elections { All (λ list. list.election ≡ closed.election) lists.items }
     requires nothing { string_bytes reply.old ≡ [] }
     ensures election { IfOk result (λ store. store.election ≡ closed.election) }
     ensures closes { IfOk result (λ store. Tells telling (ClosesCasting closed.election closed.ballots
-        (map (λ list. ballots_of list.items) lists.items))
+        (map (λ list. list.ballots) lists.items))
         (replies (string_bytes reply.new) (begun store.ballots))) }
 {
     let (after, finals) = play_casting(rt, alloc, closed, lists, turns)?;

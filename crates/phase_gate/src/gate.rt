@@ -2,7 +2,7 @@
 
 ghost use Rattle.std.specs.Prelude.{◌≡◌};
 ghost use Rattle.phase_gate.specs.Standing.{MayWait};
-ghost use Rattle.phase_gate.specs.Work.{phase_of};
+ghost use Rattle.phase_gate.specs.Work.{AreOf, phase_of};
 
 use crate::work::Work;
 use body_store::Closed;
@@ -26,6 +26,7 @@ pub struct Gate {
     pub closed: Closed,
     pub work: Work,
     ghost waiting: { MayWait closed.election (phase_of work) },
+    ghost lists: { AreOf closed.election work },
 }
 
 /// What is left to do for a line.

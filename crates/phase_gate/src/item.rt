@@ -39,7 +39,7 @@ impl Gate {
         ensures closed { self.new.closed ≡ self.old.closed }
         ensures unchanged { OnErr result (state_of self.new ≡ state_of self.old) }
     {
-        match self.work.wait(tab, item)? {
+        match self.work.wait(self.closed.election(), tab, item)? {
             Queued::Waits => Ok(true),
             Queued::NoList | Queued::OtherPhase => Ok(false),
         }

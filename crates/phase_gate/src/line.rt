@@ -175,7 +175,7 @@ impl Gate {
         let Gate { closed, work } = self;
         match work {
             Work::Closed => {
-                let work = Work::opened(alloc, kind, tabs)?;
+                let work = Work::opened(alloc, closed.election(), kind, tabs)?;
                 tell_opening(reply, telling, kind, tabs)?;
                 Ok(Answer::of(Gate { closed, work }))
             }
@@ -220,7 +220,7 @@ impl Gate {
         ensures election { IfOk result (λ answer. answer.gate.closed.election ≡ self.closed.election) }
     {
         let Gate { closed, mut work } = self;
-        let queued = work.wait(tab, item)?;
+        let queued = work.wait(closed.election(), tab, item)?;
         Gate { closed, work }.queued(queued, index, telling, reply)
     }
 

@@ -1,12 +1,14 @@
 //! A phase, and what waits for its close.
 
-ghost use Rattle.std.specs.Prelude.{◌≡◌, ℕ, ◌≤◌, ◌++◌, [], IfOk, codes, map, replicate, MatchOption, OnErr};
+ghost use Rattle.std.specs.Prelude.{◌≡◌, ℕ, ◌≤◌, ◌++◌, [], All, IfOk, codes, map, replicate, MatchOption, OnErr};
 ghost use Rattle.ballot_record.specs.Record as records;
-ghost use Rattle.phase_gate.specs.Work.{CastsInto, FindsInto, GoesInto, IsCommand, WaitsIn, WithdrawsInto, item_line, kind_of, phase_of};
+ghost use Rattle.phase_gate.specs.Work.{AreOf, CanWait, CastsInto, FindsInto, GoesInto, IsCommand, WaitsIn, WithdrawsInto, item_line, kind_of, phase_of};
 ghost use Rattle.script_lines.specs.Line.{entry_line, script_line};
+ghost use Rattle.store_spec.specs.Ballot.{IsValid};
+ghost use Rattle.store_spec.specs.Election as elections;
 ghost use Rattle.store_spec.specs.Session.{last_reply, opened, phase_text};
 
-use ballot_record::Record;
+use ballot_record::{BallotList, Election, Record};
 use outside_io::Memory;
 use script_lines::{Entry, Line};
 use std::alloc::Global;
@@ -15,7 +17,7 @@ use std::alloc::Global;
 #[derive(Drop)]
 pub enum Work {
     Closed,
-    Casting(Vec<Vec<Record>>),
+    Casting(Vec<BallotList>),
     Withdrawing(Vec<Vec<u64>>),
     Finding(Vec<Vec<u64>>),
 }
@@ -65,11 +67,12 @@ impl Kind {
 
 impl Work {
     /// A phase for so many tabulators, in which nothing waits yet.
-    pub fn opened(alloc: Global, kind: Kind, tabs: u8) -> Result<Work, Memory>
-        ensures { IfOk result (λ work. phase_of work ≡ opened (kind_of kind) tabs) }
+    pub fn opened(alloc: Global, election: &Election, kind: Kind, tabs: u8) -> Result<Work, Memory>
+        ensures phase { IfOk result (λ work. phase_of work ≡ opened (kind_of kind) tabs) }
+        ensures lists { IfOk result (AreOf election.now) }
     {
         match kind {
-            Kind::Casting => Ok(Work::Casting(empty_lists(alloc, tabs)?)),
+            Kind::Casting => Ok(Work::Casting(no_ballots(alloc, election, tabs)?)),
             Kind::Withdrawing => Ok(Work::Withdrawing(empty_lists(alloc, tabs)?)),
             Kind::Finding => Ok(Work::Finding(empty_lists(alloc, tabs)?)),
         }
@@ -100,28 +103,34 @@ impl Work {
     }
 
     /// Lets an item wait in the list of this number.
-    pub fn wait(&mut self, tab: u8, item: Item<'_>) -> Result<Queued, Memory>
-        requires { 1 ≤ tab }
+    pub fn wait(&mut self, election: &Election, tab: u8, item: Item<'_>) -> Result<Queued, Memory>
+        requires tab { 1 ≤ tab }
+        requires lists { AreOf election.now self.old }
+        requires item { CanWait election.now item }
+        ensures lists { AreOf election.now self.new }
         ensures goes { IfOk result
             (λ queued. GoesInto (phase_of self.old) tab item.entry queued (phase_of self.new)) }
         ensures unchanged { OnErr result (phase_of self.new ≡ phase_of self.old) }
     {
         match item {
-            Item::Cast(ballot) => self.cast(tab, ballot),
+            Item::Cast(ballot) => self.cast(election, tab, ballot),
             Item::Withdraw(number) => self.withdraw(tab, number),
             Item::Find(number) => self.find(tab, number),
         }
     }
 
     /// Lets a ballot wait to be cast.
-    fn cast(&mut self, tab: u8, ballot: &Record) -> Result<Queued, Memory>
-        requires { 1 ≤ tab }
+    fn cast(&mut self, election: &Election, tab: u8, ballot: &Record) -> Result<Queued, Memory>
+        requires tab { 1 ≤ tab }
+        requires lists { AreOf election.now self.old }
+        requires valid { IsValid election.now (records.ballot ballot.now) }
+        ensures lists { AreOf election.now self.new }
         ensures goes { IfOk result (λ queued. CastsInto (phase_of self.old) tab
             (records.ballot ballot.now) queued (phase_of self.new)) }
         ensures unchanged { OnErr result (phase_of self.new ≡ phase_of self.old) }
     {
         match self {
-            Work::Casting(lists) => queue(lists, tab, *ballot),
+            Work::Casting(lists) => queue_ballot(lists, election, tab, ballot),
             _ => Ok(Queued::OtherPhase),
         }
     }
@@ -129,6 +138,7 @@ impl Work {
     /// Lets a number wait to be withdrawn.
     fn withdraw(&mut self, tab: u8, number: u64) -> Result<Queued, Memory>
         requires { 1 ≤ tab }
+        ensures lists { (e : elections.Election) → AreOf e self.old → AreOf e self.new }
         ensures goes { IfOk result
             (λ queued. WithdrawsInto (phase_of self.old) tab number queued (phase_of self.new)) }
         ensures unchanged { OnErr result (phase_of self.new ≡ phase_of self.old) }
@@ -142,6 +152,7 @@ impl Work {
     /// Lets a number wait to be looked for.
     fn find(&mut self, tab: u8, number: u64) -> Result<Queued, Memory>
         requires { 1 ≤ tab }
+        ensures lists { (e : elections.Election) → AreOf e self.old → AreOf e self.new }
         ensures goes { IfOk result
             (λ queued. FindsInto (phase_of self.old) tab number queued (phase_of self.new)) }
         ensures unchanged { OnErr result (phase_of self.new ≡ phase_of self.old) }
@@ -201,5 +212,44 @@ fn queue<X: Drop>(lists: &mut Vec<Vec<X>>, tab: u8, item: X) -> Result<Queued, M
         return Ok(Queued::NoList);
     }
     lists[place].push(item)?;
+    Ok(Queued::Waits)
+}
+
+/// So many lists with no ballots.
+fn no_ballots(alloc: Global, election: &Election, count: u8) -> Result<Vec<BallotList>, Memory>
+    ensures empty { IfOk result
+        (λ lists. map (λ list. list.ballots) lists.items ≡ replicate count []) }
+    ensures elections { IfOk result
+        (λ lists. All (λ list. list.election ≡ election.now) lists.items) }
+{
+    let mut lists = Vec::with_capacity(alloc, usize::from(count))?;
+    'lists: for _made in 0..count {
+        lists.push(BallotList::new(alloc, election))?;
+    }
+    Ok(lists)
+}
+
+/// Puts a ballot at the end of a list, the first of which is number 1.
+fn queue_ballot(
+    lists: &mut Vec<BallotList>,
+    election: &Election,
+    tab: u8,
+    ballot: &Record,
+) -> Result<Queued, Memory>
+    requires tab { 1 ≤ tab }
+    requires elections { All (λ list. list.election ≡ election.now) lists.old.items }
+    requires valid { IsValid election.now (records.ballot ballot.now) }
+    ensures goes { IfOk result (λ queued. WaitsIn (λ now. now)
+        (map (λ list. list.ballots) lists.old.items) tab (records.ballot ballot.now) queued
+        (map (λ list. list.ballots) lists.new.items)) }
+    ensures elections { All (λ list. list.election ≡ election.now) lists.new.items }
+    ensures unchanged { OnErr result (map (λ list. list.ballots) lists.new.items
+        ≡ map (λ list. list.ballots) lists.old.items) }
+{
+    let place = usize::from(tab) - 1;
+    if place >= lists.len() {
+        return Ok(Queued::NoList);
+    }
+    lists[place].push(ballot, election)?;
     Ok(Queued::Waits)
 }

@@ -1,15 +1,15 @@
 use Rattle.std.proofs.Common.{◌≡◌, List, ℕ, All, Vec, Global, map, ap, refl, string_bytes, subst, sym}
-use Rattle.ballot_record.specs.declared.record.Record.{Record}
-use Rattle.body_store.specs.Contents.{Contents, ballots_of}
+use Rattle.ballot_record.specs.BallotList.{ListedBallots}
+use Rattle.body_store.specs.Contents.{Contents}
 use Rattle.phase_gate.proofs.Phases.{close_closed}
 use Rattle.phase_gate.proofs.Told.{tells}
-use Rattle.phase_gate.proofs.Waiting.{all_valid, are_lists}
+use Rattle.phase_gate.proofs.Waiting.{are_lists}
 use Rattle.phase_gate.proofs.gate.Gate.close.Goals as goal
 use Rattle.phase_gate.proofs.gate.Gate.close.Goals.{in-Casting+in_ok-closed-in-Casting, in-Withdrawing+in_ok-closed-in-Withdrawing, in-Finding+in_ok-close_finding-in-Finding}
 use Rattle.phase_gate.specs.Gate.{effect_of, state_of}
 use Rattle.phase_gate.specs.Telling.{Tells}
 use Rattle.phase_gate.specs.declared.telling.Telling.{Telling}
-use Rattle.phase_gate.specs.Work.{phase_of}
+use Rattle.phase_gate.specs.Work.{AreOf, phase_of}
 use Rattle.store_spec.specs.Ballot.{IsValid}
 use Rattle.store_spec.specs.Election.{Election}
 use Rattle.store_spec.specs.ScriptLine.ScriptLine.{Close}
@@ -19,14 +19,11 @@ use Rattle.store_spec.specs.Session.Phase.{Casts, Finds, Withdraws}
 pub close_casting-requires-clause-lists : goal.close_casting-requires-clause-lists
 close_casting-requires-clause-lists g c κs within =
     let lists = c.in-Casting.lists.items in
-    let wait = c.args.self.waiting.casts (map (λ list. ballots_of list.items) lists) (ap phase_of c.in-Casting.is) in
-    are_lists (λ list. ballots_of list.items) lists lists refl wait.0
+    let wait = c.args.self.waiting.casts (map (λ list. list.ballots) lists) (ap phase_of c.in-Casting.is) in
+    are_lists (λ list. list.ballots) lists lists refl wait.0
 
-pub close_casting-requires-clause-valid : goal.close_casting-requires-clause-valid
-close_casting-requires-clause-valid g c κs within =
-    let lists = c.in-Casting.lists.items in
-    let wait = c.args.self.waiting.casts (map (λ list. ballots_of list.items) lists) (ap phase_of c.in-Casting.is) in
-    all_valid c.args.self.closed.election (λ list. ballots_of list.items) lists lists refl wait.1
+pub close_casting-requires-clause-elections : goal.close_casting-requires-clause-elections
+close_casting-requires-clause-elections g c κs within = subst (AreOf c.args.self.closed.election) c.in-Casting.is c.args.self.lists
 
 pub close_withdrawing-requires-clause-lists : goal.close_withdrawing-requires-clause-lists
 close_withdrawing-requires-clause-lists g c κs within =
@@ -66,11 +63,11 @@ returns-clause-does g c =
     let own = self.closed.election in
     let Did : Effect → Type 0 = Does own c.args.index (state_of self) Close (phase_of self.work) in
     let ballots = self.closed.ballots in
-    let casts = λ (list : Vec Record Global). ballots_of list.items in
+    let casts = λ (list : ListedBallots). list.ballots in
     let numbers = λ (list : Vec ℕ Global). list.items in
     let told : Tells telling Did (replies (string_bytes c.match-work.reply) (begun c.match-work.closed.ballots)) = elim c.match-work.branch [
       | in-Casting+in_ok-closed-in-Casting w ↦
-          let own_lists : List (Vec Record Global) = w.in-Casting.lists.items in
+          let own_lists : List (ListedBallots) = w.in-Casting.lists.items in
           let text = string_bytes w.close_casting.new.reply in
           let after = w.in_ok-closed-in-Casting.closed in
           close_told telling own c.args.index (state_of self) (Casts (map casts own_lists)) (phase_of self.work) (ap phase_of w.in-Casting.is) text (string_bytes c.match-work.reply) (ap string_bytes w.reply-is) after c.match-work.closed w.closed-is w.in_ok-closed-in-Casting.ensures.closes

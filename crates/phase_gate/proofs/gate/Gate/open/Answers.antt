@@ -6,14 +6,16 @@ use Rattle.phase_gate.proofs.gate.Gate.open.Goals as goal
 use Rattle.phase_gate.specs.Gate.{effect_of, state_of}
 use Rattle.phase_gate.specs.Standing.{MayWait}
 use Rattle.phase_gate.specs.Telling.{Tells, told_by}
-use Rattle.phase_gate.specs.Work.{kind_of, phase_of}
+use Rattle.phase_gate.specs.Work.{AreOf, kind_of, phase_of}
+use Rattle.store_spec.specs.Election.{Election}
 use Rattle.store_spec.specs.ScriptLine.ScriptLine.{Open}
 use Rattle.store_spec.specs.Session.{Does, counted, opened, phase_text, stays, wrong_phase}
 
 pub invariant_of-of : goal.invariant_of-of
 invariant_of-of c = record {
-  waiting = subst (MayWait c.args.self.closed.election) (sym c.in_ok-work-in-Closed.ensures)
+  waiting = subst (MayWait c.args.self.closed.election) (sym c.in_ok-work-in-Closed.ensures.phase)
       (opened_may_wait c.args.self.closed.election (kind_of c.args.kind) c.args.tabs c.requires.tabs);
+  lists = subst (λ (e : Election). AreOf e c.in_ok-work-in-Closed.work) c.election.ensures.election c.in_ok-work-in-Closed.ensures.lists;
 }
 
 pub returns-in_ok-tell_opening-in-Closed-clause-does : goal.returns-in_ok-tell_opening-in-Closed-clause-does
@@ -26,7 +28,7 @@ returns-in_ok-tell_opening-in-Closed-clause-does c =
     (phase_of self.work)) (effect_of answer text)) (sym c.of.ensures)
     (tells_open c.args.telling self.closed.election c.args.index (state_of self) (phase_of self.work)
     (ap phase_of c.in-Closed.is) work c.args.tabs text (phase_of c.in_ok-work-in-Closed.work)
-    c.in_ok-work-in-Closed.ensures (c.in_ok-tell_opening-in-Closed.ensures ∙ ap (λ old. old ++ reply)
+    c.in_ok-work-in-Closed.ensures.phase (c.in_ok-tell_opening-in-Closed.ensures ∙ ap (λ old. old ++ reply)
     c.requires.nothing))
 
 pub returns-in_default-clause-does : goal.returns-in_default-clause-does
