@@ -1,5 +1,7 @@
 -- A phase, and what waits for its close.
 use Rattle.std.specs.Prelude.{◌≡◌, ℕ, ◌<◌, ◌≤◌, List, All, length, map, ⊤}
+use Rattle.std.specs.Global.{Vec}
+use Rattle.ballot_record.specs.BallotList.{ListedBallots}
 use Rattle.ballot_record.specs.Record.{ballot}
 use Rattle.phase_gate.specs.declared.work.Item.{Item}
 use Rattle.phase_gate.specs.declared.work.Item.TheVariants as items
@@ -24,9 +26,8 @@ phase_of (works.Withdrawing lists) = Withdraws (map (λ list. list.items) lists.
 phase_of (works.Finding lists) = Finds (map (λ list. list.items) lists.items)
 
 -- the lists of a casting phase are of this election
-abbrev pub AreOf : Election → Work → Type 0
-AreOf e (works.Casting lists) = All (λ list. list.election ≡ e) lists.items
-AreOf e other = ⊤
+pub record AreOf (e : Election) (work : Work) : Type 0 where
+  pub casts : (lists : Vec ListedBallots) → work ≡ works.Casting lists → All (λ list. list.election ≡ e) lists.items
 
 abbrev pub kind_of : Kind → line.Work
 kind_of kinds.Casting = line.Work.Casting

@@ -1,4 +1,4 @@
-use Rattle.std.proofs.Common.{◌≡◌, List, ℕ, All, Vec, Global, map, ap, refl, string_bytes, subst, sym}
+use Rattle.std.proofs.Common.{◌≡◌, List, ℕ, Vec, Global, map, ap, refl, string_bytes, subst, sym}
 use Rattle.ballot_record.specs.BallotList.{ListedBallots}
 use Rattle.body_store.specs.Contents.{Contents}
 use Rattle.phase_gate.proofs.Phases.{close_closed}
@@ -9,11 +9,10 @@ use Rattle.phase_gate.proofs.gate.Gate.close.Goals.{in-Casting+in_ok-closed-in-C
 use Rattle.phase_gate.specs.Gate.{effect_of, state_of}
 use Rattle.phase_gate.specs.Telling.{Tells}
 use Rattle.phase_gate.specs.declared.telling.Telling.{Telling}
-use Rattle.phase_gate.specs.Work.{AreOf, phase_of}
-use Rattle.store_spec.specs.Ballot.{IsValid}
+use Rattle.phase_gate.specs.Work.{phase_of}
 use Rattle.store_spec.specs.Election.{Election}
 use Rattle.store_spec.specs.ScriptLine.ScriptLine.{Close}
-use Rattle.store_spec.specs.Session.{ClosesCasting, ClosesFinding, ClosesWithdrawing, Does, Effect, Phase, State, begun, replies, stays, wrong_phase}
+use Rattle.store_spec.specs.Session.{ClosesFinding, ClosesWithdrawing, Does, Effect, Phase, State, begun, replies, stays, wrong_phase}
 use Rattle.store_spec.specs.Session.Phase.{Casts, Finds, Withdraws}
 
 pub close_casting-requires-clause-lists : goal.close_casting-requires-clause-lists
@@ -23,7 +22,7 @@ close_casting-requires-clause-lists g c κs within =
     are_lists (λ list. list.ballots) lists lists refl wait.0
 
 pub close_casting-requires-clause-elections : goal.close_casting-requires-clause-elections
-close_casting-requires-clause-elections g c κs within = subst (AreOf c.args.self.closed.election) c.in-Casting.is c.args.self.lists
+close_casting-requires-clause-elections g c κs within = c.args.self.lists.casts c.in-Casting.lists c.in-Casting.is
 
 pub close_withdrawing-requires-clause-lists : goal.close_withdrawing-requires-clause-lists
 close_withdrawing-requires-clause-lists g c κs within =

@@ -15,11 +15,11 @@ invariant_of-queued c = record {
   lists = subst (λ (e : Election). AreOf e c.wait.new.self) c.election.ensures.election c.in_ok-queued.ensures.lists;
 }
 
-pub wait-queued-requires-clause-lists : goal.wait-queued-requires-clause-lists
-wait-queued-requires-clause-lists c = subst (λ (e : Election). AreOf e c.args.self.work) (sym c.election.ensures.election) c.args.self.lists
+pub wait-requires-clause-lists : goal.wait-requires-clause-lists
+wait-requires-clause-lists c = subst (λ (e : Election). AreOf e c.args.self.work) (sym c.election.ensures.election) c.args.self.lists
 
-pub wait-queued-requires-clause-item : goal.wait-queued-requires-clause-item
-wait-queued-requires-clause-item c = subst (λ (e : Election). CanWait e c.args.item) (sym c.election.ensures.election) c.requires.item
+pub wait-requires-clause-item : goal.wait-requires-clause-item
+wait-requires-clause-item c = subst (λ (e : Election). CanWait e c.args.item) (sym c.election.ensures.election) c.requires.item
 
 pub returns-clause-does : goal.returns-clause-does
 returns-clause-does c =
