@@ -4,7 +4,7 @@ use Rattle.store_spec.specs.Election.{Election, choices_on}
 
 -- How many mark sets a ballot has room for, however many contests its election has.
 abbrev pub MARK_SETS : ℕ
-MARK_SETS = 16
+MARK_SETS = 24
 
 -- A number, a style, and the mark sets: in that of contest k bit c - 1 stands for choice c.
 pub record Ballot : Type 0 where

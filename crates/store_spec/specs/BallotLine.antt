@@ -3,18 +3,18 @@
 --     record-line = number SP style SP marks
 --     number      = decimal, 1 to 18446744073709551615
 --     style       = decimal, 1 to 255
---     marks       = group, then up to 15 times: "/" group
---     group       = "-"  or  choice, then up to 31 times: "," choice
---     choice      = decimal, 1 to 32, strictly ascending within a group
+--     marks       = group, then up to 15 times in version 1, up to 23 times in version 2: "/" group
+--     group       = "-"  or  choice, then further "," choice
+--     choice      = decimal, 1 to 32 in version 1, 1 to 64 in version 2, strictly ascending within a group
 --
--- A decimal has no sign and no leading zero. How many groups and choices there may be goes with the election.
+-- A decimal has no sign and no leading zero. The version is that of the election.
 use Rattle.std.specs.Prelude.{◌≡◌, ℕ, ◌-◌, ◌^◌, ◌<◌, ◌≤◌, ◌==◌, List, [], ◌∷◌, ◌++◌, length, map, sum_by, take, filter, replicate, All}
 use Rattle.std.specs.Int.{bit_at}
 use Rattle.std.specs.List.{join_with_byte, range_with_len}
 use Rattle.std.specs.List.Sorted.{IsStrictlyIncreasing}
 use Rattle.std.specs.Fmt.{decimal}
 use Rattle.store_spec.specs.Ballot.{Ballot, IsValid, MARK_SETS}
-use Rattle.store_spec.specs.Election.{Election, most_choices, most_contests, most_styles}
+use Rattle.store_spec.specs.Election.{Election, in_version, most_choices, most_contests, most_styles}
 
 -- a line by its parts: the choices that are marked in each group
 pub record RecordLine : Type 0 where
@@ -70,7 +70,7 @@ IsRecordLine e bytes = (line : RecordLine) × ReadsAs e bytes line
 
 -- the most bytes of a record line
 abbrev pub longest_line : Election → ℕ
-longest_line e = 1416
+longest_line e = in_version e.version 1416 4416
 
 -- ---- the ballot of a line
 

@@ -2,8 +2,8 @@
 --
 -- On the version of an election depend the most contests and the most choices (`most_contests`, `most_choices`), and so
 -- which elections and record lines there are; the width of a mark set in a cell (`set_width`), and so the sizes of a
--- cell, a bank and a medium; and the two bytes of the version in the header. Nothing else does. There is one version.
-use Rattle.std.specs.Prelude.{◌≡◌, ℕ, ◌+◌, ◌-◌, ◌*◌, ◌^◌, ◌<◌, ◌≤◌, Bool, false, if◌then◌else◌, ◌==◌, List, [], ◌∷◌, length, All, slice_get, slice_index}
+-- cell, a bank and a medium; and the two bytes of the version in the header. Nothing else does.
+use Rattle.std.specs.Prelude.{◌≡◌, ◌≢◌, ℕ, ◌+◌, ◌-◌, ◌*◌, ◌^◌, ◌<◌, ◌≤◌, Bool, false, if◌then◌else◌, ◌==◌, List, [], ◌∷◌, length, All, slice_get, slice_index}
 use Rattle.std.specs.Int.{bit_at}
 use Rattle.std.specs.Option.{option_map_or}
 
@@ -24,15 +24,19 @@ pub record Election : Type 0 where
 
 -- ---- what goes with its version
 
+-- the first value in version 1, and the second in version 2
+unfoldable pub in_version : ℕ → ℕ → ℕ → ℕ
+in_version version first second = if version == 1 then first else second
+
 abbrev pub most_contests : Election → ℕ
-most_contests e = 16
+most_contests e = in_version e.version 16 24
 
 abbrev pub most_choices : Election → ℕ
-most_choices e = 32
+most_choices e = in_version e.version 32 64
 
 -- the bytes of a mark set in a cell
 abbrev pub set_width : Election → ℕ
-set_width e = 4
+set_width e = in_version e.version 4 8
 
 -- ---- limits of every version
 
@@ -63,7 +67,8 @@ pub record IsStyle (contests style : ℕ) : Type 0 where
   pub of_these : style < 2 ^ contests
 
 pub record IsElection (e : Election) : Type 0 where
-  pub known_version : e.version ≡ 1
+  pub some_version : 1 ≤ e.version
+  pub known_version : e.version ≤ 2
   pub some_contest : 1 ≤ length e.contests
   pub few_contests : length e.contests ≤ most_contests e
   pub each_contest : All (IsContest e) e.contests
@@ -74,6 +79,24 @@ pub record IsElection (e : Election) : Type 0 where
   pub few_ballots : e.limit ≤ most_ballots
   pub few_bits : e.bits ≤ most_bits
   pub short_salt : e.salt < 2 ^ 64
+
+-- ---- the same election in version 1
+
+abbrev pub as_version_one : Election → Election
+as_version_one e = record {
+  version = 1;
+  contests = e.contests;
+  styles = e.styles;
+  limit = e.limit;
+  bits = e.bits;
+  salt = e.salt;
+}
+
+-- it is not in version 1, and its contests are within the limits of version 1
+pub record HasVersionOne (e : Election) : Type 0 where
+  pub later : e.version ≢ 1
+  pub few_contests : length e.contests ≤ most_contests (as_version_one e)
+  pub few_choices : All (λ contest. contest.choices ≤ most_choices (as_version_one e)) e.contests
 
 -- ---- what its numbers say
 
@@ -122,14 +145,17 @@ most_cells = 2 ^ most_bits + most_ballots
 abbrev pub medium_size : Election → ℕ
 medium_size e = 2 * bank_size e + 2
 
--- ---- the example election of the documents
+-- ---- the example election of the documents, in either version
 
-abbrev pub example : Election
-example = record {
-  version = 1;
+abbrev pub example_in : ℕ → Election
+example_in version = record {
+  version = version;
   contests = record { choices = 4; allowed = 1 } ∷ record { choices = 3; allowed = 2 } ∷ [];
   styles = 3 ∷ [];
   limit = 8;
   bits = 3;
   salt = 0;
 }
+
+abbrev pub example : Election
+example = example_in 1

@@ -1,9 +1,9 @@
 -- Worked figures of the definitions, under the example election.
-use Rattle.std.specs.Prelude.{◌≡◌, ℕ, ◌+◌, ◌*◌, [], ◌∷◌, ◌++◌, replicate, codes}
+use Rattle.std.specs.Prelude.{◌≡◌, ℕ, ◌+◌, ◌*◌, ◌^◌, [], ◌∷◌, ◌++◌, replicate, codes}
 use Rattle.store_spec.specs.Ballot.{Ballot}
-use Rattle.store_spec.specs.Election.{example, cell_count, cell_size, bank_size, medium_size}
+use Rattle.store_spec.specs.Election.{Election, example, example_in, cell_count, cell_size, bank_size, medium_size}
 use Rattle.store_spec.specs.Home.{home_of}
-use Rattle.store_spec.specs.Image.{image_of}
+use Rattle.store_spec.specs.Image.{ballot_bytes, image_of}
 use Rattle.store_spec.specs.Input.{lines_of}
 use Rattle.store_spec.specs.Layout.{layout_of}
 use Rattle.store_spec.specs.Medium.{bank_place, gate_place}
@@ -27,6 +27,13 @@ pub record ExampleSizes : Type 0 where
   pub bank : bank_size example ≡ 304
   pub medium : medium_size example ≡ 610
 
+-- the same in version 2
+pub record ExampleSizesInVersionTwo : Type 0 where
+  pub cells : cell_count (example_in 2) ≡ 16
+  pub cell : cell_size (example_in 2) ≡ 25
+  pub bank : bank_size (example_in 2) ≡ 432
+  pub medium : medium_size (example_in 2) ≡ 866
+
 -- where the banks and the gates of its medium stand
 pub record ExamplePlaces : Type 0 where
   pub bank_a : bank_place example A ≡ 0
@@ -44,7 +51,7 @@ abbrev pub example_ballot : ℕ → ℕ → ℕ → Ballot
 example_ballot number first second = record {
   number = number;
   style = 1;
-  marks = first ∷ second ∷ replicate 14 0;
+  marks = first ∷ second ∷ replicate 22 0;
 }
 
 -- ballot 9 marks choice 1 of contest 1, ballot 14 choice 2 of contest 2, and ballot 1 choice 2 and choices 1 and 3
@@ -55,6 +62,32 @@ pub record ExampleImage : Type 0 where
       ++ replicate 7 0 ++ 9 ∷ 1 ∷ 0 ∷ 0 ∷ 0 ∷ 1 ∷ 0 ∷ 0 ∷ 0 ∷ 0
       ∷ replicate 7 0 ++ 14 ∷ 1 ∷ 0 ∷ 0 ∷ 0 ∷ 0 ∷ 0 ∷ 0 ∷ 0 ∷ 2
       ∷ replicate 7 0 ++ 1 ∷ 1 ∷ 0 ∷ 0 ∷ 0 ∷ 2 ∷ 0 ∷ 0 ∷ 0 ∷ 5 ∷ replicate (9 * 17) 0
+
+-- the same ballots in version 2, where a mark set has eight bytes
+pub record ExampleImageInVersionTwo : Type 0 where
+  pub is : image_of (example_in 2)
+      (example_ballot 9 1 0 ∷ example_ballot 14 0 2 ∷ example_ballot 1 2 5 ∷ [])
+      ≡ codes "HIBSTORE" ++ 0 ∷ 2 ∷ 3 ∷ 2 ∷ 0 ∷ 0 ∷ 0 ∷ 8 ∷ replicate (16 + 4 * 25) 0
+      ++ replicate 7 0 ++ 9 ∷ 1 ∷ replicate 7 0 ++ 1 ∷ replicate 8 0
+      ++ replicate 7 0 ++ 14 ∷ 1 ∷ replicate 8 0 ++ replicate 7 0 ++ 2
+      ∷ replicate 7 0 ++ 1 ∷ 1 ∷ replicate 7 0 ++ 2 ∷ replicate 7 0 ++ 5 ∷ replicate (9 * 25) 0
+
+-- a contest of 64 choices in version 2, and the cell of a ballot that marks the last of them
+abbrev pub wide_election : Election
+wide_election = record {
+  version = 2;
+  contests = record { choices = 64; allowed = 1 } ∷ [];
+  styles = 1 ∷ [];
+  limit = 1;
+  bits = 0;
+  salt = 0;
+}
+
+pub record ExampleWideCell : Type 0 where
+  pub medium : medium_size wide_election ≡ 134
+  pub cell : ballot_bytes wide_election
+      (record { number = 7; style = 1; marks = 2 ^ 63 ∷ replicate 23 0 })
+      ≡ replicate 7 0 ++ 7 ∷ 1 ∷ 128 ∷ replicate 7 0
 
 -- the lines `a`, `bc`, an empty one, and `d`, which has no end
 pub record ExampleLines : Type 0 where
