@@ -34,7 +34,7 @@ spelled_again e (b ∷ ballots) election valid =
     let long = length-ballot_bytes e b election own in
     ap (ballots_at e (suc (length ballots))) (flat_map-cons (ballot_bytes e) b ballots)
     ∙ ap₂ (λ x xs. x ∷ xs)
-    (ap (ballot_at (length e.contests)) (take_at (ballot_bytes e b) more (cell_size e) long) ∙ spells_itself e b election own)
+    (ap (ballot_at e) (take_at (ballot_bytes e b) more (cell_size e) long) ∙ spells_itself e b election own)
     (ap (ballots_at e (length ballots)) (drop_at (ballot_bytes e b) more (cell_size e) long)
     ∙ spelled_again e ballots election (All-tail (IsValid e) b ballots valid))
 

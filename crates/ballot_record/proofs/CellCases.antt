@@ -6,7 +6,7 @@ use Rattle.std.specs.Bool.{Decides}
 use Rattle.std.specs.Str.{bytes_eq}
 use Rattle.ballot_record.proofs.FormatReading.{cell_again}
 use Rattle.ballot_record.specs.Format.{ballot_at}
-use Rattle.store_spec.specs.Ballot.{Ballot, HasMarks, IsValid}
+use Rattle.store_spec.specs.Ballot.{Ballot, HasMarks, IsValid, MARK_SETS}
 use Rattle.store_spec.specs.Election.{Election, IsElection, cell_size, choices_on}
 use Rattle.store_spec.specs.Image.{IsCellOf, IsEmptyCell, ballot_bytes}
 
@@ -34,7 +34,7 @@ marks_or_not : (e : Election) (style : ℕ) (marks : List ℕ) → HasMarks e st
 marks_or_not e style marks =
     let Fits : ℕ → Type 0 = λ k. get_or marks k 0 < 2 ^ choices_on e style (k + 1) in
     let At : ℕ → ℕ → Type 0 = λ k place. get_or marks place 0 < 2 ^ choices_on e style k in
-    elim (each_or_one Fits (λ k. elim (cases_lt (get_or marks k 0) (2 ^ choices_on e style (k + 1))) [ inl less ↦ inl less | inr more ↦ inr (λ less. omega arith) ]) 16) [
+    elim (each_or_one Fits (λ k. elim (cases_lt (get_or marks k 0) (2 ^ choices_on e style (k + 1))) [ inl less ↦ inl less | inr more ↦ inr (λ less. omega arith) ]) MARK_SETS) [
       | inl each ↦ inl (λ k some few.
           let back : k - 1 + 1 ≡ k = omega arith in
           subst (λ (k' : ℕ). At k' (k - 1)) back (each (k - 1) (omega arith)))
@@ -53,7 +53,7 @@ valid_or_not e b =
           | inr none ↦ inr (λ valid. omega (arith, valid.some_style))
           | inl some_style ↦ elim (cases_lt (length e.styles) b.style) [
             | inl unknown ↦ inr (λ valid. omega (arith, valid.known_style))
-            | inr known ↦ elim (cases_eq (length b.marks) 16) [
+            | inr known ↦ elim (cases_eq (length b.marks) MARK_SETS) [
               | inr other ↦ inr (λ valid. other valid.every_set)
               | inl every ↦ elim (marks_or_not e b.style b.marks) [
                 | inr not ↦ inr (λ valid. not valid.marked)
@@ -75,8 +75,8 @@ valid_or_not e b =
 -- the bytes of a cell are those of one ballot at most, which is read from them
 pub held_or_not : (e : Election) (bytes : List ℕ) → IsElection e → ((b : Ballot) × IsCellOf e bytes b) ⊎ ((b : Ballot) → IsCellOf e bytes b → ⊥)
 held_or_not e bytes election =
-    let read = ballot_at (length e.contests) bytes in
-    let only : (b : Ballot) → IsCellOf e bytes b → read ≡ b = λ b is. ap (ballot_at (length e.contests)) is.1 ∙ cell_again e b election is.0 in
+    let read = ballot_at e bytes in
+    let only : (b : Ballot) → IsCellOf e bytes b → read ≡ b = λ b is. ap (ballot_at e) is.1 ∙ cell_again e b election is.0 in
     elim (valid_or_not e read) [
       | inr not ↦ inr (λ b is. not (subst (IsValid e) (sym (only b is)) is.0))
       | inl valid ↦ elim (same_or_not bytes (ballot_bytes e read)) [

@@ -14,17 +14,14 @@ pub record IsCell (e : Election) (bytes : List ℕ) (r : Record) : Type 0 where
   pub election : IsElection e
   pub fits : AreBytes bytes
   pub long : length bytes ≡ cell_size e
-  pub read : ballot r ≡ ballot_at (length e.contests) bytes
-
-pub cell_read : (e : Election) (bytes : List ℕ) (r : Record) (contests : ℕ) → IsElection e → AreBytes bytes → length bytes ≡ cell_size e → contests ≡ length e.contests → ballot r ≡ ballot_at contests bytes → IsCell e bytes r
-cell_read e bytes r contests election fits long count read = record { election = election; fits = fits; long = long; read = read ∙ ap (λ n. ballot_at n bytes) count }
+  pub read : ballot r ≡ ballot_at e bytes
 
 pub spelled : (e : Election) (bytes : List ℕ) (r : Record) → IsCell e bytes r → bytes ≡ ballot_bytes e (ballot r)
 spelled e bytes r cell = cell_spelled e bytes cell.fits cell.long ∙ ap (ballot_bytes e) (sym cell.read)
 
 -- no other valid ballot has these bytes
 pub only : (e : Election) (bytes : List ℕ) (r : Record) → IsCell e bytes r → (b : Ballot) → IsValid e b → bytes ≡ ballot_bytes e b → ballot r ≡ b
-only e bytes r cell b valid is = cell.read ∙ ap (ballot_at (length e.contests)) is ∙ cell_again e b cell.election valid
+only e bytes r cell b valid is = cell.read ∙ ap (ballot_at e) is ∙ cell_again e b cell.election valid
 
 record_like : Ballot → Record
 record_like b = record { number = b.number; style = b.style; marks = b.marks }
@@ -33,8 +30,7 @@ record_like b = record { number = b.number; style = b.style; marks = b.marks }
 pub one_record : (e : Election) (bytes : List ℕ) (r other : Record) → IsElection e → IsCellOf e bytes (ballot r) → IsCellOf e bytes (ballot other) → r ≡ other
 unfolding record_like
 one_record e bytes r other election held is =
-    let n = length e.contests in
-    let same : ballot r ≡ ballot other = sym (cell_again e (ballot r) election held.0) ∙ ap (ballot_at n) (sym held.1 ∙ is.1) ∙ cell_again e (ballot other) election is.0 in
+    let same : ballot r ≡ ballot other = sym (cell_again e (ballot r) election held.0) ∙ ap (ballot_at e) (sym held.1 ∙ is.1) ∙ cell_again e (ballot other) election is.0 in
     ap record_like same
 
 pub valid_too : (e : Election) (bytes : List ℕ) (r : Record) → IsCell e bytes r → (b : Ballot) → IsValid e b → bytes ≡ ballot_bytes e b → IsValid e (ballot r)
@@ -50,9 +46,8 @@ each_zero bytes n zeros = subst (All {X = ℕ} (λ byte. byte ≡ 0)) (sym zeros
 pub no_ballot : (e : Election) (bytes : List ℕ) → IsElection e → bytes ≡ replicate (cell_size e) 0 → (b : Ballot) → IsValid e b → bytes ≡ ballot_bytes e b → ⊥
 unfolding cell_size
 no_ballot e bytes election zeros b valid is =
-    let n = length e.contests in
     let none = replicate (cell_size e) 0 in
-    let again : ballot_at n none ≡ b = ap (ballot_at n) (sym zeros ∙ is) ∙ cell_again e b election valid in
+    let again : ballot_at e none ≡ b = ap (ballot_at e) (sym zeros ∙ is) ∙ cell_again e b election valid in
     let front : take 8 none ≡ replicate 8 0 = take-replicate 8 (cell_size e) 0 (omega arith) in
     let number : from_be_bytes w64 (replicate 8 0) ≡ b.number = sym (ap (from_be_bytes w64) front) ∙ ap (λ (b : Ballot). b.number) again in
     let zero : from_be_bytes w64 (replicate 8 0) ≡ 0 = refl in

@@ -27,3 +27,4 @@ pub mod OnStyle
 mod Places
 pub mod Reasons
 pub mod ValidMarks
+pub mod Versions

@@ -8,7 +8,8 @@ use Rattle.std.proofs.lemmas.Bool.{leb-false, eqb-true, lt-leb, ne_eqb}
 use Rattle.std.proofs.lemmas.Option.{none-some, some_pair_parts, same_Some, option_and_then_some}
 use Rattle.std.proofs.lemmas.Fmt.{decimal_nonempty, first_decimal}
 use Rattle.store_spec.specs.BallotLine.{IsGroup, group_text}
-use Rattle.store_spec.specs.Election.{Election}
+use Rattle.store_spec.specs.Election.{Election, most_choices}
+use Rattle.ballot_record.proofs.Versions.{few_choices}
 use Rattle.ballot_record.specs.LineReading.{digits_at, past_byte, with_first, choices_at, group_at}
 use Rattle.ballot_record.proofs.LineNumbers.{chosen, StopsDigits, number_takes, number_again}
 
@@ -43,38 +44,38 @@ pub join_more : (between : ℕ) (x : List ℕ) (xs : List (List ℕ)) → 1 ≤ 
 join_more between x [] some = absurd (omega arith)
 join_more between x (y ∷ xs) some = refl
 
--- each choice is above the one before it, and at most 32
-abbrev pub RisesFrom : ℕ → List ℕ → Type 0
-RisesFrom last [] = Unit {0}
-RisesFrom last (choice ∷ choices) = (last < choice) × (choice ≤ 32) × RisesFrom choice choices
+-- each choice is above the one before it, and at most the last that there may be
+abbrev pub RisesFrom : ℕ → ℕ → List ℕ → Type 0
+RisesFrom most last [] = Unit {0}
+RisesFrom most last (choice ∷ choices) = (last < choice) × (choice ≤ most) × RisesFrom most choice choices
 
 abbrev pub choices_text : List ℕ → List ℕ
 choices_text choices = join_with_byte 44 (map decimal choices)
 
-record AreChoicesAt (last : ℕ) (bytes choices rest : List ℕ) : Type 0 where
+record AreChoicesAt (most last : ℕ) (bytes choices rest : List ℕ) : Type 0 where
   spelled : bytes ≡ choices_text choices ++ rest
   some : 1 ≤ length choices
-  rises : RisesFrom last choices
+  rises : RisesFrom most last choices
 
 some_decimals : (choices : List ℕ) → 1 ≤ length choices → 1 ≤ length (map decimal choices)
 some_decimals [] some = some
 some_decimals (choice ∷ choices) some = omega arith
 
-choices_take : (more last : ℕ) (bytes choices rest : List ℕ) → choices_at more last bytes ≡ Some (choices, rest) → AreChoicesAt last bytes choices rest
+choices_take : (most : ℕ) → most ≤ 64 → (more last : ℕ) (bytes choices rest : List ℕ) → choices_at most more last bytes ≡ Some (choices, rest) → AreChoicesAt most last bytes choices rest
 unfolding choices_at
-choices_take zero last bytes choices rest e = absurd (none-some (choices, rest) e)
-choices_take (suc more) last bytes choices rest e =
-    option_and_then_some _ (digits_at 32 0 bytes) (choices, rest) e (λ first first_is goes_on.
-    let number = number_takes 32 (omega arith) bytes first.0 first.1 first_is in
+choices_take most few zero last bytes choices rest e = absurd (none-some (choices, rest) e)
+choices_take most few (suc more) last bytes choices rest e =
+    option_and_then_some _ (digits_at most 0 bytes) (choices, rest) e (λ first first_is goes_on.
+    let number = number_takes most (omega arith) bytes first.0 first.1 first_is in
     elim (chosen (leb first.0 last) _ _ (Some (choices, rest)) goes_on) [
       | inl falls ↦ absurd (none-some (choices, rest) falls.1)
       | inr rises ↦
           let above : last < first.0 = leb-false first.0 last rises.0 in
           elim (passed 44 first.1 _ _ (Some (choices, rest)) rises.1) [
             | inl comma ↦
-                let others = option_map_some (with_first first.0) (choices_at more first.0 comma.rest) (choices, rest) comma.is in
-                let at = choices_take more first.0 comma.rest others.0.0 others.0.1 others.1 in
-                let P : List ℕ × List ℕ → Type 0 = λ found. AreChoicesAt last bytes found.0 found.1 in
+                let others = option_map_some (with_first first.0) (choices_at most more first.0 comma.rest) (choices, rest) comma.is in
+                let at = choices_take most few more first.0 comma.rest others.0.0 others.0.1 others.1 in
+                let P : List ℕ × List ℕ → Type 0 = λ found. AreChoicesAt most last bytes found.0 found.1 in
                 let joined : choices_text (first.0 ∷ others.0.0) ≡ decimal first.0 ++ (44 ∷ choices_text others.0.0) = join_more 44 (decimal first.0) (map decimal others.0.0) (some_decimals others.0.0 at.some) in
                 subst P others.2 (record {
                   spelled = number.spelled ∙ ap (λ rest. decimal first.0 ++ rest) (comma.bytes_are ∙ ap (λ rest. 44 ∷ rest) at.spelled)
@@ -84,7 +85,7 @@ choices_take (suc more) last bytes choices rest e =
                 })
             | inr last_one ↦
                 let parts = some_pair_parts (first.0 ∷ []) choices first.1 rest last_one in
-                subst₂ (λ (choices rest : List ℕ). AreChoicesAt last bytes choices rest) parts.0 parts.1 (record {
+                subst₂ (λ (choices rest : List ℕ). AreChoicesAt most last bytes choices rest) parts.0 parts.1 (record {
                   spelled = number.spelled;
                   some = omega arith;
                   rises = (above, number.within, tt);
@@ -96,47 +97,47 @@ choices_take (suc more) last bytes choices rest e =
 abbrev pub StopsChoices : List ℕ → Type 0
 StopsChoices rest = StopsDigits rest × LacksFirst 44 rest
 
-choices_again : (more last choice : ℕ) (choices rest : List ℕ) → 32 ≤ more + last → RisesFrom last (choice ∷ choices) → StopsChoices rest
-    → choices_at more last (choices_text (choice ∷ choices) ++ rest) ≡ Some (choice ∷ choices, rest)
+choices_again : (most : ℕ) → most ≤ 64 → (more last choice : ℕ) (choices rest : List ℕ) → most ≤ more + last → RisesFrom most last (choice ∷ choices) → StopsChoices rest
+    → choices_at most more last (choices_text (choice ∷ choices) ++ rest) ≡ Some (choice ∷ choices, rest)
 unfolding choices_at
-choices_again zero last choice choices rest room rises stops = absurd (omega arith)
-choices_again (suc more) last choice [] rest room rises stops =
+choices_again most few zero last choice choices rest room rises stops = absurd (omega arith)
+choices_again most few (suc more) last choice [] rest room rises stops =
     let alone : Option (List ℕ × List ℕ) = Some (choice ∷ [], rest) in
-    rw (number_again 32 choice rest (omega arith) (omega arith) rises.1 stops.0, lt-leb choice last rises.0)
-    (not_past 44 rest (λ rest. option_map (with_first choice) (choices_at more choice rest)) alone stops.1)
-choices_again (suc more) last choice (next ∷ choices) rest room rises stops =
+    rw (number_again most choice rest (omega arith) (omega arith) rises.1 stops.0, lt-leb choice last rises.0)
+    (not_past 44 rest (λ rest. option_map (with_first choice) (choices_at most more choice rest)) alone stops.1)
+choices_again most few (suc more) last choice (next ∷ choices) rest room rises stops =
     let others = choices_text (next ∷ choices) ++ rest in
-    ap (choices_at (suc more) last) (append_assoc (decimal choice) (44 ∷ choices_text (next ∷ choices)) rest)
-    ∙ rw (number_again 32 choice (44 ∷ others) (omega arith) (omega arith) rises.1 refl, lt-leb choice last rises.0)
-    (ap (option_map (with_first choice)) (choices_again more choice next choices rest (omega arith) rises.2 stops))
+    ap (choices_at most (suc more) last) (append_assoc (decimal choice) (44 ∷ choices_text (next ∷ choices)) rest)
+    ∙ rw (number_again most choice (44 ∷ others) (omega arith) (omega arith) rises.1 refl, lt-leb choice last rises.0)
+    (ap (option_map (with_first choice)) (choices_again most few more choice next choices rest (omega arith) rises.2 stops))
 
 -- ---- a group
 
-rises_within : (last : ℕ) (choices : List ℕ) → RisesFrom last choices → All (λ c. (1 ≤ c) × (c ≤ 32)) choices
-rises_within last [] rises k d below = absurd (omega arith)
-rises_within last (choice ∷ choices) rises zero d below = (omega arith, rises.1)
-rises_within last (choice ∷ choices) rises (suc k) d below = rises_within choice choices rises.2 k d (omega arith)
+rises_within : (most last : ℕ) (choices : List ℕ) → RisesFrom most last choices → All (λ c. (1 ≤ c) × (c ≤ most)) choices
+rises_within most last [] rises k d below = absurd (omega arith)
+rises_within most last (choice ∷ choices) rises zero d below = (omega arith, rises.1)
+rises_within most last (choice ∷ choices) rises (suc k) d below = rises_within most choice choices rises.2 k d (omega arith)
 
-rises_ascending : (last : ℕ) (choices : List ℕ) → RisesFrom last choices → IsStrictlyIncreasing choices
-rises_ascending last [] rises k below = absurd (omega arith)
-rises_ascending last (choice ∷ []) rises k below = absurd (omega arith)
-rises_ascending last (choice ∷ next ∷ choices) rises zero below = rises.2.0
-rises_ascending last (choice ∷ next ∷ choices) rises (suc k) below =
-    let same : suc k + 1 ≡ suc (k + 1) = omega arith in rw same (rises_ascending choice (next ∷ choices) rises.2 k (omega arith))
+rises_ascending : (most last : ℕ) (choices : List ℕ) → RisesFrom most last choices → IsStrictlyIncreasing choices
+rises_ascending most last [] rises k below = absurd (omega arith)
+rises_ascending most last (choice ∷ []) rises k below = absurd (omega arith)
+rises_ascending most last (choice ∷ next ∷ choices) rises zero below = rises.2.0
+rises_ascending most last (choice ∷ next ∷ choices) rises (suc k) below =
+    let same : suc k + 1 ≡ suc (k + 1) = omega arith in rw same (rises_ascending most choice (next ∷ choices) rises.2 k (omega arith))
 
-pub IsGroup-from_rises : (e : Election) (last : ℕ) (choices : List ℕ) → RisesFrom last choices → IsGroup e choices
-IsGroup-from_rises e last choices rises = record { within = rises_within last choices rises; ascending = rises_ascending last choices rises }
+pub IsGroup-from_rises : (e : Election) (last : ℕ) (choices : List ℕ) → RisesFrom (most_choices e) last choices → IsGroup e choices
+IsGroup-from_rises e last choices rises = record { within = rises_within (most_choices e) last choices rises; ascending = rises_ascending (most_choices e) last choices rises }
 
-rises_from : (last : ℕ) (choices : List ℕ) → (1 ≤ length choices → last < get_or choices 0 0) → All (λ c. (1 ≤ c) × (c ≤ 32)) choices → IsStrictlyIncreasing choices → RisesFrom last choices
-rises_from last [] above within ascending = tt
-rises_from last (choice ∷ choices) above within ascending = (
+rises_from : (most last : ℕ) (choices : List ℕ) → (1 ≤ length choices → last < get_or choices 0 0) → All (λ c. (1 ≤ c) × (c ≤ most)) choices → IsStrictlyIncreasing choices → RisesFrom most last choices
+rises_from most last [] above within ascending = tt
+rises_from most last (choice ∷ choices) above within ascending = (
   above (omega arith),
   (within 0 0 (omega arith)).1,
-  rises_from choice choices (λ some. ascending 0 (omega arith)) (λ k d below. within (suc k) d (omega arith)) (λ k below. let same : suc k + 1 ≡ suc (k + 1) = omega arith in rw same at (ascending (suc k) (omega arith))),
+  rises_from most choice choices (λ some. ascending 0 (omega arith)) (λ k d below. within (suc k) d (omega arith)) (λ k below. let same : suc k + 1 ≡ suc (k + 1) = omega arith in rw same at (ascending (suc k) (omega arith))),
 )
 
-pub rises_from_IsGroup : (e : Election) (choices : List ℕ) → IsGroup e choices → RisesFrom 0 choices
-rises_from_IsGroup e choices group = rises_from 0 choices (λ some. (group.within 0 0 (omega arith)).0) group.within group.ascending
+pub rises_from_IsGroup : (e : Election) (choices : List ℕ) → IsGroup e choices → RisesFrom (most_choices e) 0 choices
+rises_from_IsGroup e choices group = rises_from (most_choices e) 0 choices (λ some. (group.within 0 0 (omega arith)).0) group.within group.ascending
 
 pub record IsGroupAt (e : Election) (bytes choices rest : List ℕ) : Type 0 where
   pub spelled : bytes ≡ group_text choices ++ rest
@@ -146,7 +147,7 @@ pub text_of_some : (choices : List ℕ) → 1 ≤ length choices → group_text 
 text_of_some [] some = absurd (omega arith)
 text_of_some (choice ∷ choices) some = refl
 
-pub group_takes : (e : Election) (bytes choices rest : List ℕ) → group_at bytes ≡ Some (choices, rest) → IsGroupAt e bytes choices rest
+pub group_takes : (e : Election) (bytes choices rest : List ℕ) → group_at (most_choices e) bytes ≡ Some (choices, rest) → IsGroupAt e bytes choices rest
 unfolding group_at
 group_takes e bytes choices rest is =
     elim (passed 45 bytes _ _ (Some (choices, rest)) is) [
@@ -154,7 +155,7 @@ group_takes e bytes choices rest is =
           let parts = some_pair_parts [] choices dash.rest rest dash.is in
           subst₂ (λ (choices rest : List ℕ). IsGroupAt e bytes choices rest) parts.0 parts.1 (record { spelled = dash.bytes_are; group = IsGroup-from_rises e 0 [] tt })
       | inr some ↦
-          let at = choices_take 32 0 bytes choices rest some in
+          let at = choices_take (most_choices e) (few_choices e) (most_choices e) 0 bytes choices rest some in
           record { spelled = at.spelled ∙ ap (λ text. text ++ rest) (sym (text_of_some choices at.some)); group = IsGroup-from_rises e 0 choices at.rises }
     ]
 
@@ -162,16 +163,16 @@ starts_above : (text : List ℕ) (rest : List ℕ) → 0 < length text → 48 < 
 starts_above [] rest some above = absurd (omega arith)
 starts_above (byte ∷ text) rest some above = ne_eqb byte 45 (λ is. omega arith)
 
-choices_start : (choice : ℕ) (choices rest : List ℕ) → 1 ≤ choice → choice ≤ 32 → LacksFirst 45 (choices_text (choice ∷ choices) ++ rest)
+choices_start : (choice : ℕ) (choices rest : List ℕ) → 1 ≤ choice → choice ≤ 64 → LacksFirst 45 (choices_text (choice ∷ choices) ++ rest)
 choices_start choice [] rest some few = starts_above (decimal choice) rest (decimal_nonempty choice (omega arith)) (first_decimal choice (omega arith) (omega arith))
 choices_start choice (next ∷ choices) rest some few =
     subst (LacksFirst 45) (sym (append_assoc (decimal choice) (44 ∷ choices_text (next ∷ choices)) rest))
     (starts_above (decimal choice) (44 ∷ choices_text (next ∷ choices) ++ rest) (decimal_nonempty choice (omega arith)) (first_decimal choice (omega arith) (omega arith)))
 
-pub group_again : (e : Election) (choices rest : List ℕ) → IsGroup e choices → StopsChoices rest → group_at (group_text choices ++ rest) ≡ Some (choices, rest)
+pub group_again : (e : Election) (choices rest : List ℕ) → IsGroup e choices → StopsChoices rest → group_at (most_choices e) (group_text choices ++ rest) ≡ Some (choices, rest)
 unfolding group_at
 group_again e [] rest group stops = refl
 group_again e (choice ∷ choices) rest group stops =
     let rises = rises_from_IsGroup e (choice ∷ choices) group in
-    not_past 45 (choices_text (choice ∷ choices) ++ rest) _ (choices_at 32 0 (choices_text (choice ∷ choices) ++ rest)) (choices_start choice choices rest (omega arith) rises.1)
-    ∙ choices_again 32 0 choice choices rest (omega arith) rises stops
+    not_past 45 (choices_text (choice ∷ choices) ++ rest) _ (choices_at (most_choices e) (most_choices e) 0 (choices_text (choice ∷ choices) ++ rest)) (choices_start choice choices rest (omega arith) (omega (arith, rises.1, few_choices e)))
+    ∙ choices_again (most_choices e) (few_choices e) (most_choices e) 0 choice choices rest (omega arith) rises stops

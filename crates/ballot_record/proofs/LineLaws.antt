@@ -8,9 +8,11 @@ use Rattle.std.proofs.lemmas.Fmt.{length-decimal-le}
 use Rattle.std.proofs.lemmas.List.{length-map}
 use Rattle.std.proofs.lemmas.List.Elements.{recursion_from_All, All-from_recursion}
 use Rattle.std.proofs.lemmas.Option.{none-some, same_Some}
-use Rattle.store_spec.specs.Ballot.{Ballot, IsValid}
+use Rattle.store_spec.specs.Ballot.{Ballot, IsValid, MARK_SETS}
 use Rattle.store_spec.specs.BallotLine.{IsRecordLine, RecordLine, IsGroup, ReadsAs, Spells, group_text, line_text, longest_line, mark_set, ballot_of_line, choices_in, line_of_ballot, record_line}
-use Rattle.store_spec.specs.Election.{Election, IsElection}
+use Rattle.store_spec.specs.Election.{Election, IsElection, most_choices}
+use Rattle.std.proofs.Math.Nat.{mul-le-mul_left, mul-one, mul-suc}
+use Rattle.ballot_record.proofs.Versions.{contests_fit, few_choices, longest, some_choices}
 use Rattle.ballot_record.proofs.LineGroups.{RisesFrom, choices_text, rises_from_IsGroup}
 use Rattle.ballot_record.specs.LineReading.{line_of}
 use Rattle.ballot_record.proofs.LineWhole.{groups_text, line_again}
@@ -22,36 +24,36 @@ one_reading e bytes x y first second = same_Some x y (sym (line_again e bytes x 
 
 -- ---- how long a line is
 
-choice_length : (choice : ℕ) → choice ≤ 32 → (length (decimal choice) ≤ 2) × (choice < 10 → length (decimal choice) ≤ 1)
+choice_length : (choice : ℕ) → choice ≤ 64 → (length (decimal choice) ≤ 2) × (choice < 10 → length (decimal choice) ≤ 1)
 choice_length choice few = (length-decimal-le 2 choice (omega arith) (omega arith) (omega arith), λ one. length-decimal-le 1 choice (omega arith) (omega arith) (omega arith))
 
 -- nine choices have one digit each, the others two, and all but one have a comma
-choices_length : (last choice : ℕ) (choices : List ℕ) → RisesFrom last (choice ∷ choices) → length (choices_text (choice ∷ choices)) + 1 + (9 - last) ≤ 3 * (32 - last)
-choices_length last choice [] rises =
-    let digits = choice_length choice rises.1 in
+choices_length : (most : ℕ) → 9 ≤ most → most ≤ 64 → (last choice : ℕ) (choices : List ℕ) → RisesFrom most last (choice ∷ choices) → length (choices_text (choice ∷ choices)) + 1 + (9 - last) ≤ 3 * (most - last)
+choices_length most some few last choice [] rises =
+    let digits = choice_length choice (omega (arith, rises.1)) in
     elim (cases_lt choice 10) [
       | inl one ↦ omega (arith, digits.1 one, rises.0, rises.1)
       | inr two ↦ omega (arith, digits.0, rises.0, rises.1)
     ]
-choices_length last choice (next ∷ choices) rises =
-    let digits = choice_length choice rises.1 in
-    let rest = choices_length choice next choices rises.2 in
+choices_length most some few last choice (next ∷ choices) rises =
+    let digits = choice_length choice (omega (arith, rises.1)) in
+    let rest = choices_length most some few choice next choices rises.2 in
     let whole = length-append (decimal choice) (44 ∷ choices_text (next ∷ choices)) in
     elim (cases_lt choice 10) [
       | inl one ↦ omega (arith, digits.1 one, rest, whole, rises.0, rises.1)
       | inr two ↦ omega (arith, digits.0, rest, whole, rises.0, rises.1)
     ]
 
-group_length : (e : Election) (choices : List ℕ) → IsGroup e choices → length (group_text choices) ≤ 86
-group_length e [] group = omega arith
-group_length e (choice ∷ choices) group = omega (arith, choices_length 0 choice choices (rises_from_IsGroup e (choice ∷ choices) group))
+group_length : (e : Election) (choices : List ℕ) → IsGroup e choices → length (group_text choices) + 10 ≤ 3 * most_choices e
+group_length e [] group = omega (arith, some_choices e)
+group_length e (choice ∷ choices) group = omega (arith, choices_length (most_choices e) (some_choices e) (few_choices e) 0 choice choices (rises_from_IsGroup e (choice ∷ choices) group))
 
-groups_length : (e : Election) (group : List ℕ) (groups : List (List ℕ)) → AllByRecursion (IsGroup e) (group ∷ groups) → length (groups_text (group ∷ groups)) + 1 ≤ 87 * length (group ∷ groups)
-groups_length e group [] each = omega (arith, group_length e group each.0)
+groups_length : (e : Election) (group : List ℕ) (groups : List (List ℕ)) → AllByRecursion (IsGroup e) (group ∷ groups) → length (groups_text (group ∷ groups)) + 1 ≤ (3 * most_choices e - 9) * length (group ∷ groups)
+groups_length e group [] each = omega (arith, group_length e group each.0, mul-one (3 * most_choices e - 9))
 groups_length e group (next ∷ groups) each =
-    omega (arith, group_length e group each.0, groups_length e next groups each.1, length-append (group_text group) (47 ∷ groups_text (next ∷ groups)))
+    omega (arith, group_length e group each.0, groups_length e next groups each.1, length-append (group_text group) (47 ∷ groups_text (next ∷ groups)), mul-suc (3 * most_choices e - 9) (length (next ∷ groups)))
 
-all_groups_length : (e : Election) (groups : List (List ℕ)) → All (IsGroup e) groups → 1 ≤ length groups → length (groups_text groups) + 1 ≤ 87 * length groups
+all_groups_length : (e : Election) (groups : List (List ℕ)) → All (IsGroup e) groups → 1 ≤ length groups → length (groups_text groups) + 1 ≤ (3 * most_choices e - 9) * length groups
 all_groups_length e [] each some = absurd (omega arith)
 all_groups_length e (group ∷ groups) each some = groups_length e group groups (recursion_from_All (IsGroup e) (group ∷ groups) each)
 
@@ -64,7 +66,7 @@ short_lines e bytes is =
     let style = length-decimal-le 3 line.style (omega arith) (omega (arith, p.short_style)) (omega (arith, p.short_style)) in
     let front = length-append (decimal line.number) (32 ∷ decimal line.style) in
     let whole = length-append (decimal line.number ++ (32 ∷ decimal line.style)) (32 ∷ groups_text line.groups) in
-    omega (arith, ap length reads.spelled, number, style, front, whole, all_groups_length e line.groups p.each_group p.some_group, p.few_groups)
+    omega (arith, ap length reads.spelled, number, style, front, whole, all_groups_length e line.groups p.each_group p.some_group, mul-le-mul_left (3 * most_choices e - 9) p.few_groups, longest e)
 
 -- ---- a line and its ballot
 
@@ -104,7 +106,7 @@ one_spelling e a b x first second =
 
 -- ---- a line for each ballot
 
-sets_again : (e : Election) (sets : List ℕ) → ((i : ℕ) → i < length sets → get_or sets i 0 < 2 ^ 32) → map mark_set (map (choices_in e) sets) ≡ sets
+sets_again : (e : Election) (sets : List ℕ) → ((i : ℕ) → i < length sets → get_or sets i 0 < 2 ^ most_choices e) → map mark_set (map (choices_in e) sets) ≡ sets
 sets_again e [] small = refl
 sets_again e (set ∷ sets) small =
     let first : mark_set (choices_in e set) ≡ set = mark_set-choices_in e set (small 0 (omega arith)) in
@@ -120,12 +122,12 @@ ballot_again e x election valid =
     let n = length e.contests in
     let front = take n x.marks in
     let groups = map (choices_in e) front in
-    let front_length : length front ≡ n = omega (arith, length-take n x.marks, valid.every_set, election.few_contests) in
+    let front_length : length front ≡ n = omega (arith, length-take n x.marks, valid.every_set, contests_fit e election) in
     let sets : map mark_set groups ≡ front = sets_again e front (λ i within.
-    subst (λ set. set < 2 ^ 32) (sym (get_or-take n x.marks i 0 (omega (arith, front_length)))) (small_set e x election valid i (omega (arith, front_length, election.few_contests)))) in
-    let count : 16 - n ≡ 16 - length groups = omega (arith, length-map front (choices_in e), front_length) in
-    let marks : x.marks ≡ map mark_set groups ++ replicate (16 - length groups) 0 =
-    marks_kept e x election valid ∙ ap (λ k. front ++ replicate k 0) count ∙ ap (λ sets. sets ++ replicate (16 - length groups) 0) (sym sets) in
+    subst (λ set. set < 2 ^ most_choices e) (sym (get_or-take n x.marks i 0 (omega (arith, front_length)))) (small_set e x election valid i)) in
+    let count : MARK_SETS - n ≡ MARK_SETS - length groups = omega (arith, length-map front (choices_in e), front_length) in
+    let marks : x.marks ≡ map mark_set groups ++ replicate (MARK_SETS - length groups) 0 =
+    marks_kept e x election valid ∙ ap (λ k. front ++ replicate k 0) count ∙ ap (λ sets. sets ++ replicate (MARK_SETS - length groups) 0) (sym sets) in
     let made : List ℕ → Ballot = λ marks. record { number = x.number; style = x.style; marks = marks } in
     ap made marks
 
@@ -133,7 +135,7 @@ pub spells_its_ballot : (e : Election) (x : Ballot) → IsElection e → IsValid
 spells_its_ballot e x election valid =
     let n = length e.contests in
     let sets = take n x.marks in
-    let count : length (map (choices_in e) sets) ≡ n = omega (arith, length-map sets (choices_in e), length-take n x.marks, valid.every_set, election.few_contests) in
+    let count : length (map (choices_in e) sets) ≡ n = omega (arith, length-map sets (choices_in e), length-take n x.marks, valid.every_set, contests_fit e election) in
     record {
       line = line_of_ballot e x;
       reads = record {
@@ -158,20 +160,20 @@ line_of_its_ballot e bytes x election is = one_spelling e bytes (record_line e x
 
 -- ---- mark sets
 
-choice_counts : (choices : List ℕ) (last n : ℕ) → RisesFrom last choices → mark_set choices < 2 ^ n → AllByRecursion (λ choice. choice ≤ n) choices
-choice_counts [] last n rises small = tt
-choice_counts (choice ∷ choices) last n rises small =
+choice_counts : (most : ℕ) (choices : List ℕ) (last n : ℕ) → RisesFrom most last choices → mark_set choices < 2 ^ n → AllByRecursion (λ choice. choice ≤ n) choices
+choice_counts most [] last n rises small = tt
+choice_counts most (choice ∷ choices) last n rises small =
     let sum = mark_set-cons choice choices in
     elim (cases_lt n choice) [
       | inl past ↦ let large : 2 ^ n ≤ 2 ^ (choice - 1) = pow_mono (omega arith) in absurd (omega arith)
-      | inr within ↦ (within, choice_counts choices choice n rises.2 (omega arith))
+      | inr within ↦ (within, choice_counts most choices choice n rises.2 (omega arith))
     ]
 
-set_counts : (choices : List ℕ) (last n : ℕ) → RisesFrom last choices → last ≤ n → AllByRecursion (λ choice. choice ≤ n) choices → mark_set choices + 2 ^ last ≤ 2 ^ n
-set_counts [] last n rises low offered = let power : 2 ^ last ≤ 2 ^ n = pow_mono low in omega arith
-set_counts (choice ∷ choices) last n rises low offered =
+set_counts : (most : ℕ) (choices : List ℕ) (last n : ℕ) → RisesFrom most last choices → last ≤ n → AllByRecursion (λ choice. choice ≤ n) choices → mark_set choices + 2 ^ last ≤ 2 ^ n
+set_counts most [] last n rises low offered = let power : 2 ^ last ≤ 2 ^ n = pow_mono low in omega arith
+set_counts most (choice ∷ choices) last n rises low offered =
     let sum = mark_set-cons choice choices in
-    let rest = set_counts choices choice n rises.2 offered.0 offered.1 in
+    let rest = set_counts most choices choice n rises.2 offered.0 offered.1 in
     let power : 2 ^ last ≤ 2 ^ (choice - 1) = pow_mono (omega (arith, rises.0)) in
     let twice : 2 ^ choice ≡ 2 * 2 ^ (choice - 1) = doubled choice (omega (arith, rises.0)) in
     omega arith
@@ -181,11 +183,11 @@ one_group e a b first second same = sym (choices_in-mark_set e a first) ∙ ap (
 
 pub set_within : (e : Election) (choices : List ℕ) (n : ℕ) → IsGroup e choices → (mark_set choices < 2 ^ n) ↔ All (λ choice. choice ≤ n) choices
 set_within e choices n group = (
-  λ small. All-from_recursion (λ choice. choice ≤ n) choices (choice_counts choices 0 n (rises_from_IsGroup e choices group) small),
-  λ offered. omega (arith, set_counts choices 0 n (rises_from_IsGroup e choices group) (omega arith) (recursion_from_All (λ choice. choice ≤ n) choices offered)),
+  λ small. All-from_recursion (λ choice. choice ≤ n) choices (choice_counts (most_choices e) choices 0 n (rises_from_IsGroup e choices group) small),
+  λ offered. omega (arith, set_counts (most_choices e) choices 0 n (rises_from_IsGroup e choices group) (omega arith) (recursion_from_All (λ choice. choice ≤ n) choices offered)),
 )
 
 -- ---- what is no line
 
-pub not_read : (e : Election) (bytes : List ℕ) → line_of bytes ≡ None → ¬ IsRecordLine e bytes
+pub not_read : (e : Election) (bytes : List ℕ) → line_of e bytes ≡ None → ¬ IsRecordLine e bytes
 not_read e bytes none is = none-some is.0 (sym none ∙ line_again e bytes is.0 is.1)

@@ -4,15 +4,16 @@ use Rattle.std.specs.Prelude.{option_map}
 use Rattle.std.proofs.lemmas.List.{set_at, length-map}
 use Rattle.std.proofs.lemmas.List.{map-append}
 use Rattle.std.proofs.lemmas.Option.{some_pair_parts}
+use Rattle.store_spec.specs.Ballot.{MARK_SETS}
 use Rattle.store_spec.specs.BallotLine.{mark_set}
 use Rattle.ballot_record.specs.LineReading.{group_at, groups_of}
 use Rattle.ballot_record.specs.Line.{set_seen, sets_seen}
 use Rattle.ballot_record.proofs.LineSets.{rest_past, when_past, when_not_past}
 
 -- the choices behind a mark set that was read
-pub record IsGroupRead (rest : List ℕ) (set : ℕ) (after : List ℕ) : Type 0 where
+pub record IsGroupRead (most : ℕ) (rest : List ℕ) (set : ℕ) (after : List ℕ) : Type 0 where
   pub choices : List ℕ
-  pub found : group_at rest ≡ Some (choices, after)
+  pub found : group_at most rest ≡ Some (choices, after)
   pub is : set ≡ mark_set choices
 
 seen_from : (o : Option (List ℕ × List ℕ)) (set : ℕ) (after : List ℕ) → Some (set, after) ≡ option_map set_seen o → (choices : List ℕ) × (o ≡ Some (choices, after)) × (set ≡ mark_set choices)
@@ -25,83 +26,86 @@ none_from : (o : Option (List ℕ × List ℕ)) → None ≡ option_map set_seen
 none_from None e = refl
 none_from (Some found) e = absurd cc
 
-pub group_read : (rest : List ℕ) (set : ℕ) (after : List ℕ) → Some (set, after) ≡ option_map set_seen (group_at rest) → IsGroupRead rest set after
-group_read rest set after e = let seen = seen_from (group_at rest) set after e in record { choices = seen.0; found = seen.1; is = seen.2 }
+pub group_read : (most : ℕ) (rest : List ℕ) (set : ℕ) (after : List ℕ) → Some (set, after) ≡ option_map set_seen (group_at most rest) → IsGroupRead most rest set after
+group_read most rest set after e = let seen = seen_from (group_at most rest) set after e in record { choices = seen.0; found = seen.1; is = seen.2 }
 
 -- what all groups are, where some were read before these
 abbrev pub after_groups : List (List ℕ) → Option (List (List ℕ)) → Option (List (List ℕ))
 after_groups before o = option_map (λ groups. before ++ groups) o
 
-pub record IsSoFar (before : List (List ℕ)) (place : ℕ) (rest : List ℕ) (all : Option (List (List ℕ))) : Type 0 where
+pub record IsSoFar (most groups : ℕ) (before : List (List ℕ)) (place : ℕ) (rest : List ℕ) (all : Option (List (List ℕ))) : Type 0 where
   pub counted : length before ≡ place
-  pub more : after_groups before (groups_of (16 - place) rest) ≡ all
+  pub more : after_groups before (groups_of most (groups - place) rest) ≡ all
 
 nothing_before : (o : Option (List (List ℕ))) → after_groups [] o ≡ o
 nothing_before None = refl
 nothing_before (Some groups) = refl
 
-pub no_groups_yet : (bytes : List ℕ) → IsSoFar [] 0 bytes (groups_of 16 bytes)
-no_groups_yet bytes = record { counted = refl; more = nothing_before (groups_of 16 bytes) }
+pub no_groups_yet : (most groups : ℕ) (bytes : List ℕ) → IsSoFar most groups [] 0 bytes (groups_of most groups bytes)
+no_groups_yet most groups bytes = record {
+  counted = refl;
+  more = nothing_before (groups_of most (groups - 0) bytes) ∙ ap (λ n. groups_of most n bytes) (let same : groups - 0 ≡ groups = omega arith in same);
+}
 
-pub no_group : (before : List (List ℕ)) (place : ℕ) (rest : List ℕ) (all : Option (List (List ℕ))) → place < 16 → IsSoFar before place rest all → None ≡ option_map set_seen (group_at rest) → all ≡ None
+pub no_group : (most groups : ℕ) (before : List (List ℕ)) (place : ℕ) (rest : List ℕ) (all : Option (List (List ℕ))) → place < groups → IsSoFar most groups before place rest all → None ≡ option_map set_seen (group_at most rest) → all ≡ None
 unfolding groups_of
-no_group before place rest all within so_far none =
-    let one_more : 16 - place ≡ suc (16 - (place + 1)) = omega arith in
-    sym so_far.more ∙ rw (one_more, none_from (group_at rest) none) refl
+no_group most groups before place rest all within so_far none =
+    let one_more : groups - place ≡ suc (groups - (place + 1)) = omega arith in
+    sym so_far.more ∙ rw (one_more, none_from (group_at most rest) none) refl
 
-pub last_group : (before : List (List ℕ)) (place : ℕ) (rest : List ℕ) (all : Option (List (List ℕ))) → place < 16 → IsSoFar before place rest all → (choices after : List ℕ) → group_at rest ≡ Some (choices, after) → eqb (length after) 0 ≡ true → all ≡ Some (before ++ choices ∷ [])
+pub last_group : (most groups : ℕ) (before : List (List ℕ)) (place : ℕ) (rest : List ℕ) (all : Option (List (List ℕ))) → place < groups → IsSoFar most groups before place rest all → (choices after : List ℕ) → group_at most rest ≡ Some (choices, after) → eqb (length after) 0 ≡ true → all ≡ Some (before ++ choices ∷ [])
 unfolding groups_of
-last_group before place rest all within so_far choices after found empty =
-    let one_more : 16 - place ≡ suc (16 - (place + 1)) = omega arith in
+last_group most groups before place rest all within so_far choices after found empty =
+    let one_more : groups - place ≡ suc (groups - (place + 1)) = omega arith in
     sym so_far.more ∙ rw (one_more, found, empty) refl
 
-no_slash_after : (most : ℕ) (rest choices after : List ℕ) → group_at rest ≡ Some (choices, after) → eqb (length after) 0 ≡ false → None ≡ rest_past 47 after → groups_of (suc most) rest ≡ None
+no_slash_after : (most more : ℕ) (rest choices after : List ℕ) → group_at most rest ≡ Some (choices, after) → eqb (length after) 0 ≡ false → None ≡ rest_past 47 after → groups_of most (suc more) rest ≡ None
 unfolding groups_of
-no_slash_after most rest choices after found further none =
+no_slash_after most more rest choices after found further none =
     let nothing : Option (List (List ℕ)) = None in
-    rw (found, further) (when_not_past 47 after (λ rest. option_map (λ others. choices ∷ others) (groups_of most rest)) nothing none)
+    rw (found, further) (when_not_past 47 after (λ rest. option_map (λ others. choices ∷ others) (groups_of most more rest)) nothing none)
 
-slash_after : (most : ℕ) (rest choices after next : List ℕ) → group_at rest ≡ Some (choices, after) → eqb (length after) 0 ≡ false → Some next ≡ rest_past 47 after → groups_of (suc most) rest ≡ option_map (λ others. choices ∷ others) (groups_of most next)
+slash_after : (most more : ℕ) (rest choices after next : List ℕ) → group_at most rest ≡ Some (choices, after) → eqb (length after) 0 ≡ false → Some next ≡ rest_past 47 after → groups_of most (suc more) rest ≡ option_map (λ others. choices ∷ others) (groups_of most more next)
 unfolding groups_of
-slash_after most rest choices after next found further slash =
+slash_after most more rest choices after next found further slash =
     let nothing : Option (List (List ℕ)) = None in
-    rw (found, further) (when_past 47 after next (λ rest. option_map (λ others. choices ∷ others) (groups_of most rest)) nothing slash)
+    rw (found, further) (when_past 47 after next (λ rest. option_map (λ others. choices ∷ others) (groups_of most more rest)) nothing slash)
 
-pub no_slash : (before : List (List ℕ)) (place : ℕ) (rest : List ℕ) (all : Option (List (List ℕ))) → place < 16 → IsSoFar before place rest all → (choices after : List ℕ) → group_at rest ≡ Some (choices, after) → eqb (length after) 0 ≡ false → None ≡ rest_past 47 after → all ≡ None
-no_slash before place rest all within so_far choices after found further none =
-    let one_more : 16 - place ≡ suc (16 - (place + 1)) = omega arith in
-    sym so_far.more ∙ ap (λ n. after_groups before (groups_of n rest)) one_more ∙ ap (after_groups before) (no_slash_after (16 - (place + 1)) rest choices after found further none)
+pub no_slash : (most groups : ℕ) (before : List (List ℕ)) (place : ℕ) (rest : List ℕ) (all : Option (List (List ℕ))) → place < groups → IsSoFar most groups before place rest all → (choices after : List ℕ) → group_at most rest ≡ Some (choices, after) → eqb (length after) 0 ≡ false → None ≡ rest_past 47 after → all ≡ None
+no_slash most groups before place rest all within so_far choices after found further none =
+    let one_more : groups - place ≡ suc (groups - (place + 1)) = omega arith in
+    sym so_far.more ∙ ap (λ n. after_groups before (groups_of most n rest)) one_more ∙ ap (after_groups before) (no_slash_after most (groups - (place + 1)) rest choices after found further none)
 
 regrouped : (before : List (List ℕ)) (choices : List ℕ) (o : Option (List (List ℕ))) → after_groups (before ++ choices ∷ []) o ≡ after_groups before (option_map (λ others. choices ∷ others) o)
 regrouped before choices None = refl
 regrouped before choices (Some groups) = ap (λ groups. Some groups) (append_assoc before (choices ∷ []) groups)
 
-pub next_group : (before : List (List ℕ)) (place : ℕ) (rest : List ℕ) (all : Option (List (List ℕ))) → place < 16 → IsSoFar before place rest all → (choices after next : List ℕ) → group_at rest ≡ Some (choices, after) → eqb (length after) 0 ≡ false → Some next ≡ rest_past 47 after → IsSoFar (before ++ choices ∷ []) (place + 1) next all
-next_group before place rest all within so_far choices after next found further slash =
-    let one_more : 16 - place ≡ suc (16 - (place + 1)) = omega arith in
+pub next_group : (most groups : ℕ) (before : List (List ℕ)) (place : ℕ) (rest : List ℕ) (all : Option (List (List ℕ))) → place < groups → IsSoFar most groups before place rest all → (choices after next : List ℕ) → group_at most rest ≡ Some (choices, after) → eqb (length after) 0 ≡ false → Some next ≡ rest_past 47 after → IsSoFar most groups (before ++ choices ∷ []) (place + 1) next all
+next_group most groups before place rest all within so_far choices after next found further slash =
+    let one_more : groups - place ≡ suc (groups - (place + 1)) = omega arith in
     record {
       counted = omega (arith, length-append before (choices ∷ []), so_far.counted);
-      more = regrouped before choices (groups_of (16 - (place + 1)) next)
-          ∙ sym (ap (λ n. after_groups before (groups_of n rest)) one_more ∙ ap (after_groups before) (slash_after (16 - (place + 1)) rest choices after next found further slash))
+      more = regrouped before choices (groups_of most (groups - (place + 1)) next)
+          ∙ sym (ap (λ n. after_groups before (groups_of most n rest)) one_more ∙ ap (after_groups before) (slash_after most (groups - (place + 1)) rest choices after next found further slash))
           ∙ so_far.more;
     }
 
-pub no_more_groups : (before : List (List ℕ)) (place : ℕ) (rest : List ℕ) (all : Option (List (List ℕ))) → 16 ≤ place → IsSoFar before place rest all → all ≡ None
+pub no_more_groups : (most groups : ℕ) (before : List (List ℕ)) (place : ℕ) (rest : List ℕ) (all : Option (List (List ℕ))) → groups ≤ place → IsSoFar most groups before place rest all → all ≡ None
 unfolding groups_of
-no_more_groups before place rest all past so_far =
-    let none_left : 16 - place ≡ 0 = omega arith in
+no_more_groups most groups before place rest all past so_far =
+    let none_left : groups - place ≡ 0 = omega arith in
     sym so_far.more ∙ rw none_left refl
 
 -- ---- the array
 
 abbrev pub sets_kept : List (List ℕ) → ℕ → List ℕ
-sets_kept before place = map mark_set before ++ replicate (16 - place) 0
+sets_kept before place = map mark_set before ++ replicate (MARK_SETS - place) 0
 
-pub set_written : (before : List (List ℕ)) (place : ℕ) (marks : List ℕ) (set_read : ℕ) (choices : List ℕ) → place < 16 → length before ≡ place → marks ≡ sets_kept before place → set_read ≡ mark_set choices
+pub set_written : (before : List (List ℕ)) (place : ℕ) (marks : List ℕ) (set_read : ℕ) (choices : List ℕ) → place < MARK_SETS → length before ≡ place → marks ≡ sets_kept before place → set_read ≡ mark_set choices
     → set marks place set_read ≡ sets_kept (before ++ choices ∷ []) (place + 1)
 set_written before place marks set_read choices within counted kept is =
-    let one_more : 16 - place ≡ suc (16 - (place + 1)) = omega arith in
-    let behind = replicate (16 - (place + 1)) 0 in
+    let one_more : MARK_SETS - place ≡ suc (MARK_SETS - (place + 1)) = omega arith in
+    let behind = replicate (MARK_SETS - (place + 1)) 0 in
     ap (λ marks. set marks place set_read) (kept ∙ ap (λ n. map mark_set before ++ replicate n 0) one_more)
     ∙ set_at (map mark_set before) 0 behind set_read place (length-map before mark_set ∙ counted)
     ∙ ap (λ s. map mark_set before ++ s ∷ behind) is

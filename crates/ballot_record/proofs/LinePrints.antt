@@ -5,19 +5,19 @@ use Rattle.std.proofs.lemmas.List.{drop_all}
 use Rattle.std.specs.Fmt.{decimal}
 use Rattle.std.specs.List.{join_with_byte}
 use Rattle.store_spec.specs.BallotLine.{choices_in, comma, group_text, mark_set, slash, space}
-use Rattle.store_spec.specs.Election.{Election}
+use Rattle.store_spec.specs.Election.{Election, most_choices}
 use Rattle.ballot_record.proofs.Joining.{joined_after, part_put, all_put}
 use Rattle.ballot_record.proofs.LineGroups.{choices_text, text_of_some}
-use Rattle.ballot_record.proofs.MarkSets.{choices_from, choices_from-mark_set, choices_in-is, mark_set-choices_in}
+use Rattle.ballot_record.proofs.MarkSets.{choices_from, choices_of_word, choices_from-mark_set, choices_in-is, mark_set-choices_in}
 
 -- The choices of a set are put up to this one, and the rest has the bits of those above it. So many of them may follow.
 pub record ChoicesPut (first : Bool) (more choice rest : ℕ) (now whole : List ℕ) : Type 0 where
-  pub room : more + choice ≡ 32
+  pub room : more + choice ≡ 64
   pub few : rest < 2 ^ more
   pub text : now ++ joined_after first comma (map decimal (choices_from more choice rest)) ≡ whole
 
-pub no_choice_put : (set : ℕ) (now : List ℕ) → set < 2 ^ 32
-    → ChoicesPut true 32 0 set now (now ++ choices_text (choices_from 32 0 set))
+pub no_choice_put : (set : ℕ) (now : List ℕ) → set < 2 ^ 64
+    → ChoicesPut true 64 0 set now (now ++ choices_text (choices_from 64 0 set))
 unfolding joined_after
 no_choice_put set now small = record { room = omega arith; few = small; text = refl }
 
@@ -68,27 +68,28 @@ kept first after m choice rest now put whole same_first same_text is =
 
 -- all choices of a set are put
 pub choices_put : (e : Election) (set : ℕ) (first : Bool) (more choice rest : ℕ) (before now : List ℕ)
-    → ChoicesPut first more choice rest now (before ++ choices_text (choices_from 32 0 set)) → rest ≡ 0
+    → set < 2 ^ most_choices e
+    → ChoicesPut first more choice rest now (before ++ choices_text (choices_from 64 0 set)) → rest ≡ 0
     → now ≡ before ++ choices_text (choices_in e set)
-choices_put e set first more choice rest before now so_far none =
+choices_put e set first more choice rest before now small so_far none =
     let left : choices_from more choice rest ≡ [] =
-    choices_from-mark_set more choice rest [] (omega (arith, so_far.room)) tt
+    choices_from-mark_set 64 more choice rest [] (omega (arith, so_far.room)) tt
     (sym (ap (λ n. n * 2 ^ choice) none ∙ zero-mul (2 ^ choice))) in
-    all_put first comma now (before ++ choices_text (choices_from 32 0 set))
+    all_put first comma now (before ++ choices_text (choices_from 64 0 set))
     (ap (λ choices. now ++ joined_after first comma (map decimal choices)) (sym left) ∙ so_far.text)
-    ∙ ap (λ choices. before ++ choices_text choices) (sym (choices_in-is e set))
+    ∙ ap (λ choices. before ++ choices_text choices) (choices_of_word e set small)
 
 -- ---- groups
 
 pub no_choices_in : (e : Election) (set : ℕ) → set ≡ 0 → choices_in e set ≡ []
 no_choices_in e set none = choices_in-is e set
-    ∙ choices_from-mark_set 32 0 set [] (omega arith) tt (sym none ∙ sym (mul-one set))
+    ∙ choices_from-mark_set (most_choices e) (most_choices e) 0 set [] (omega arith) tt (sym none ∙ sym (mul-one set))
 
 some_marked : (set : ℕ) (choices : List ℕ) → 0 < set → mark_set choices ≡ set → 1 ≤ length choices
 some_marked set [] some is = absurd (omega arith)
 some_marked set (choice ∷ choices) some is = omega arith
 
-pub text_of_set : (e : Election) (set : ℕ) → 0 < set → set < 2 ^ 32
+pub text_of_set : (e : Election) (set : ℕ) → 0 < set → set < 2 ^ most_choices e
     → choices_text (choices_in e set) ≡ group_text (choices_in e set)
 text_of_set e set some small =
     sym (text_of_some (choices_in e set) (some_marked set (choices_in e set) some (mark_set-choices_in e set small)))

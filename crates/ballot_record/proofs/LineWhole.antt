@@ -8,7 +8,7 @@ use Rattle.std.proofs.lemmas.List.{nil_from_length, length-map}
 use Rattle.std.proofs.lemmas.List.Elements.{All-from_recursion, recursion_from_All}
 use Rattle.std.proofs.lemmas.Option.{none-some, same_Some, option_and_then_some}
 use Rattle.store_spec.specs.BallotLine.{RecordLine, IsGroup, ReadsAs, group_text}
-use Rattle.store_spec.specs.Election.{Election}
+use Rattle.store_spec.specs.Election.{Election, most_choices, most_contests}
 use Rattle.ballot_record.specs.LineReading.{digits_at, group_at, groups_of, line_of}
 use Rattle.ballot_record.proofs.LineNumbers.{chosen, number_takes, number_again}
 use Rattle.ballot_record.proofs.LineGroups.{passed, option_map_some, join_more, group_takes, group_again}
@@ -22,11 +22,11 @@ record AreGroups (e : Election) (most : ℕ) (bytes : List ℕ) (groups : List (
   few : length groups ≤ most
   each : AllByRecursion (IsGroup e) groups
 
-groups_take : (e : Election) (most : ℕ) (bytes : List ℕ) (groups : List (List ℕ)) → groups_of most bytes ≡ Some groups → AreGroups e most bytes groups
+groups_take : (e : Election) (most : ℕ) (bytes : List ℕ) (groups : List (List ℕ)) → groups_of (most_choices e) most bytes ≡ Some groups → AreGroups e most bytes groups
 unfolding groups_of
 groups_take e zero bytes groups is = absurd (none-some groups is)
 groups_take e (suc most) bytes groups is =
-    option_and_then_some _ (group_at bytes) groups is (λ first first_is goes_on.
+    option_and_then_some _ (group_at (most_choices e) bytes) groups is (λ first first_is goes_on.
     let group = group_takes e bytes first.0 first.1 first_is in
     elim (chosen (eqb (length first.1) 0) _ _ (Some groups) goes_on) [
       | inl end ↦
@@ -40,7 +40,7 @@ groups_take e (suc most) bytes groups is =
       | inr further ↦
           elim (passed 47 first.1 _ _ (Some groups) further.1) [
             | inl slash ↦
-                let others = option_map_some (λ others. first.0 ∷ others) (groups_of most slash.rest) groups slash.is in
+                let others = option_map_some (λ others. first.0 ∷ others) (groups_of (most_choices e) most slash.rest) groups slash.is in
                 let at = groups_take e most slash.rest others.0 others.1 in
                 let joined : groups_text (first.0 ∷ others.0) ≡ group_text first.0 ++ (47 ∷ groups_text others.0) = join_more 47 (group_text first.0) (map group_text others.0) (omega (arith, length-map others.0 group_text, at.some)) in
                 subst (AreGroups e (suc most) bytes) others.2 (record {
@@ -53,11 +53,11 @@ groups_take e (suc most) bytes groups is =
           ]
     ])
 
-groups_again : (e : Election) (most : ℕ) (group : List ℕ) (groups : List (List ℕ)) → length (group ∷ groups) ≤ most → AllByRecursion (IsGroup e) (group ∷ groups) → groups_of most (groups_text (group ∷ groups)) ≡ Some (group ∷ groups)
+groups_again : (e : Election) (most : ℕ) (group : List ℕ) (groups : List (List ℕ)) → length (group ∷ groups) ≤ most → AllByRecursion (IsGroup e) (group ∷ groups) → groups_of (most_choices e) most (groups_text (group ∷ groups)) ≡ Some (group ∷ groups)
 unfolding groups_of
 groups_again e zero group groups few each = absurd (omega arith)
 groups_again e (suc most) group [] few each =
-    ap (groups_of (suc most)) (sym (append-nil (group_text group))) ∙ rw (group_again e group [] each.0 (tt, tt)) refl
+    ap (groups_of (most_choices e) (suc most)) (sym (append-nil (group_text group))) ∙ rw (group_again e group [] each.0 (tt, tt)) refl
 groups_again e (suc most) group (next ∷ groups) few each =
     let others = groups_text (next ∷ groups) in
     rw (group_again e group (47 ∷ others) each.0 (refl, refl), ne_eqb (length (47 ∷ others)) 0 (λ zero. omega arith))
@@ -65,7 +65,7 @@ groups_again e (suc most) group (next ∷ groups) few each =
 
 -- ---- the whole line
 
-pub line_takes : (e : Election) (bytes : List ℕ) (line : RecordLine) → line_of bytes ≡ Some line → ReadsAs e bytes line
+pub line_takes : (e : Election) (bytes : List ℕ) (line : RecordLine) → line_of e bytes ≡ Some line → ReadsAs e bytes line
 unfolding line_of
 line_takes e bytes line is =
     option_and_then_some _ (digits_at (2 ^ 64 - 1) 0 bytes) line is (λ number number_is goes_on.
@@ -76,8 +76,8 @@ line_takes e bytes line is =
           let style_at = number_takes 255 (omega arith) space.rest style.0 style.1 style_is in
           elim (passed 32 style.1 _ _ (Some line) goes_on) [
             | inl further ↦
-                let groups = option_map_some (λ groups. record { number = number.0; style = style.0; groups = groups }) (groups_of 16 further.rest) line further.is in
-                let at = groups_take e 16 further.rest groups.0 groups.1 in
+                let groups = option_map_some (λ groups. record { number = number.0; style = style.0; groups = groups }) (groups_of (most_choices e) (most_contests e) further.rest) line further.is in
+                let at = groups_take e (most_contests e) further.rest groups.0 groups.1 in
                 subst (ReadsAs e bytes) groups.2 (record {
                   parts = record {
                     some_number = number_at.some;
@@ -97,17 +97,17 @@ line_takes e bytes line is =
       | inr none ↦ absurd (none-some line none)
     ])
 
-groups_again_some : (e : Election) (groups : List (List ℕ)) → 1 ≤ length groups → length groups ≤ 16 → All (IsGroup e) groups → groups_of 16 (groups_text groups) ≡ Some groups
+groups_again_some : (e : Election) (groups : List (List ℕ)) → 1 ≤ length groups → length groups ≤ most_contests e → All (IsGroup e) groups → groups_of (most_choices e) (most_contests e) (groups_text groups) ≡ Some groups
 groups_again_some e [] some few each = absurd (omega arith)
-groups_again_some e (group ∷ groups) some few each = groups_again e 16 group groups few (recursion_from_All (IsGroup e) (group ∷ groups) each)
+groups_again_some e (group ∷ groups) some few each = groups_again e (most_contests e) group groups few (recursion_from_All (IsGroup e) (group ∷ groups) each)
 
-pub line_again : (e : Election) (bytes : List ℕ) (line : RecordLine) → ReadsAs e bytes line → line_of bytes ≡ Some line
+pub line_again : (e : Election) (bytes : List ℕ) (line : RecordLine) → ReadsAs e bytes line → line_of e bytes ≡ Some line
 unfolding line_of
 line_again e bytes line reads =
     let p = reads.parts in
     let marks = groups_text line.groups in
     let regrouped : bytes ≡ decimal line.number ++ (32 ∷ (decimal line.style ++ (32 ∷ marks))) = reads.spelled ∙ append_assoc (decimal line.number) (32 ∷ decimal line.style) (32 ∷ marks) in
-    ap line_of regrouped
+    ap (line_of e) regrouped
     ∙ rw (
       number_again (2 ^ 64 - 1) line.number (32 ∷ (decimal line.style ++ (32 ∷ marks))) (omega arith) p.some_number (omega (arith, p.short_number)) refl,
       number_again 255 line.style (32 ∷ marks) (omega arith) p.some_style p.short_style refl,

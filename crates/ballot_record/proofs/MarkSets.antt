@@ -8,6 +8,7 @@ use Rattle.std.specs.List.{filter, range_with_len}
 use Rattle.std.specs.Prelude.{◌==◌}
 use Rattle.store_spec.specs.BallotLine.{IsGroup, choices_in, mark_set}
 use Rattle.store_spec.specs.Election.{Election, most_choices}
+use Rattle.ballot_record.proofs.Versions.{few_choices}
 use Rattle.ballot_record.proofs.LineGroups.{RisesFrom, IsGroup-from_rises, rises_from_IsGroup}
 
 -- the choices of a set, from choice k + 1 on, where bit 0 stands for it
@@ -47,13 +48,13 @@ mark_set-choices_from (suc more) k set small =
       | inr even ↦ rw (ne_eqb (set % 2) 1 even) (rest ∙ even_halves set (set / 2) (2 ^ k) (omega arith))
     ]
 
-pub rises-choices_from : (more k last set : ℕ) → last ≤ k → k + more ≤ 32 → RisesFrom last (choices_from more k set)
+pub rises-choices_from : (most more k last set : ℕ) → last ≤ k → k + more ≤ most → RisesFrom most last (choices_from more k set)
 unfolding choices_from
-rises-choices_from zero k last set low few = tt
-rises-choices_from (suc more) k last set low few =
+rises-choices_from most zero k last set low few = tt
+rises-choices_from most (suc more) k last set low few =
     elim (cases_eq (set % 2) 1) [
-      | inl odd ↦ rw (eq-eqb (set % 2) 1 odd) (omega arith, omega arith, rises-choices_from more (k + 1) (k + 1) (set / 2) (omega arith) (omega arith))
-      | inr even ↦ rw (ne_eqb (set % 2) 1 even) (rises-choices_from more (k + 1) last (set / 2) (omega arith) (omega arith))
+      | inl odd ↦ rw (eq-eqb (set % 2) 1 odd) (omega arith, omega arith, rises-choices_from most more (k + 1) (k + 1) (set / 2) (omega arith) (omega arith))
+      | inr even ↦ rw (ne_eqb (set % 2) 1 even) (rises-choices_from most more (k + 1) last (set / 2) (omega arith) (omega arith))
     ]
 
 -- ---- and back
@@ -65,41 +66,41 @@ cancelled : (a b power : ℕ) → 0 < power → a * power ≡ b * power → a �
 cancelled a b power some same = sym (mul-div_cancel a some) ∙ ap (λ n. n / power) same ∙ mul-div_cancel b some
 
 -- no bit below the choices that may follow
-divisible : (k : ℕ) (choices : List ℕ) → RisesFrom k choices → (high : ℕ) × (mark_set choices ≡ high * 2 ^ k)
-divisible k [] rises = (0, sym (zero-mul (2 ^ k)))
-divisible k (choice ∷ choices) rises =
-    let rest = divisible choice choices rises.2 in
+divisible : (most k : ℕ) (choices : List ℕ) → RisesFrom most k choices → (high : ℕ) × (mark_set choices ≡ high * 2 ^ k)
+divisible most k [] rises = (0, sym (zero-mul (2 ^ k)))
+divisible most k (choice ∷ choices) rises =
+    let rest = divisible most choice choices rises.2 in
     let bit : 2 ^ (choice - 1) ≡ 2 ^ (choice - 1 - k) * 2 ^ k = let same : choice - 1 ≡ choice - 1 - k + k = omega arith in ap (λ n. 2 ^ n) same ∙ pow-add 2 (choice - 1 - k) k in
     let above : 2 ^ choice ≡ 2 ^ (choice - k) * 2 ^ k = let same : choice ≡ choice - k + k = omega arith in ap (λ n. 2 ^ n) same ∙ pow-add 2 (choice - k) k in (
       2 ^ (choice - 1 - k) + rest.0 * 2 ^ (choice - k),
       mark_set-cons choice choices ∙ rw (rest.1, bit, above) (factored (2 ^ (choice - 1 - k)) rest.0 (2 ^ (choice - k)) (2 ^ k)),
     )
 
-pub choices_from-mark_set : (more k set : ℕ) (choices : List ℕ) → 32 ≤ k + more → RisesFrom k choices → mark_set choices ≡ set * 2 ^ k → choices_from more k set ≡ choices
+pub choices_from-mark_set : (most more k set : ℕ) (choices : List ℕ) → most ≤ k + more → RisesFrom most k choices → mark_set choices ≡ set * 2 ^ k → choices_from more k set ≡ choices
 unfolding choices_from
-choices_from-mark_set zero k set [] room rises is = refl
-choices_from-mark_set zero k set (choice ∷ choices) room rises is = absurd (omega (arith, rises.0, rises.1))
-choices_from-mark_set (suc more) k set [] room rises is =
+choices_from-mark_set most zero k set [] room rises is = refl
+choices_from-mark_set most zero k set (choice ∷ choices) room rises is = absurd (omega (arith, rises.0, rises.1))
+choices_from-mark_set most (suc more) k set [] room rises is =
     let none : set ≡ 0 = cancelled set 0 (2 ^ k) (pow_pos k) (sym is ∙ sym (zero-mul (2 ^ k))) in
-    rw none (choices_from-mark_set more (k + 1) 0 [] (omega arith) tt (sym (zero-mul (2 ^ (k + 1)))))
-choices_from-mark_set (suc more) k set (choice ∷ choices) room rises is =
+    rw none (choices_from-mark_set most more (k + 1) 0 [] (omega arith) tt (sym (zero-mul (2 ^ (k + 1)))))
+choices_from-mark_set most (suc more) k set (choice ∷ choices) room rises is =
     elim (cases_lt (k + 1) choice) [
       | inl later ↦
-          let high = divisible (k + 1) (choice ∷ choices) (later, rises.1, rises.2) in
+          let high = divisible most (k + 1) (choice ∷ choices) (later, rises.1, rises.2) in
           let even : set ≡ high.0 * 2 = cancelled set (high.0 * 2) (2 ^ k) (pow_pos k) (sym is ∙ high.1 ∙ rw (twice k) (omega arith)) in
           let none : set % 2 ≡ 0 = omega arith in
           let half : set / 2 ≡ high.0 = omega arith in
-          rw (none, half) (choices_from-mark_set more (k + 1) high.0 (choice ∷ choices) (omega arith) (later, rises.1, rises.2) high.1)
+          rw (none, half) (choices_from-mark_set most more (k + 1) high.0 (choice ∷ choices) (omega arith) (later, rises.1, rises.2) high.1)
       | inr now ↦
           let this : choice ≡ k + 1 = omega (arith, rises.0) in
-          let rises_on : RisesFrom (k + 1) choices = subst (λ c. RisesFrom c choices) this rises.2 in
-          let high = divisible (k + 1) choices rises_on in
+          let rises_on : RisesFrom most (k + 1) choices = subst (λ c. RisesFrom most c choices) this rises.2 in
+          let high = divisible most (k + 1) choices rises_on in
           let sum : mark_set (choice ∷ choices) ≡ (high.0 * 2 + 1) * 2 ^ k =
           mark_set-cons choice choices ∙ ap (λ c. 2 ^ (c - 1) + mark_set choices) this ∙ rw (first_bit k, high.1, twice k) (omega arith) in
           let odd : set ≡ high.0 * 2 + 1 = cancelled set (high.0 * 2 + 1) (2 ^ k) (pow_pos k) (sym is ∙ sum) in
           let one : set % 2 ≡ 1 = omega arith in
           let half : set / 2 ≡ high.0 = omega arith in
-          rw (one, half) (ap (λ rest. (k + 1) ∷ rest) (choices_from-mark_set more (k + 1) high.0 choices (omega arith) rises_on high.1) ∙ ap (λ c. c ∷ choices) (sym this))
+          rw (one, half) (ap (λ rest. (k + 1) ∷ rest) (choices_from-mark_set most more (k + 1) high.0 choices (omega arith) rises_on high.1) ∙ ap (λ c. c ∷ choices) (sym this))
     ]
 
 -- ---- the choices in a set
@@ -116,17 +117,25 @@ by_bits (suc more) k set =
     by_bits more (k + 1) set ∙ ap (choices_from more (k + 1)) (next_bit set k) in
     rw (back, rest) refl
 
-pub choices_in-is : (e : Election) (set : ℕ) → choices_in e set ≡ choices_from 32 0 set
+pub choices_in-is : (e : Election) (set : ℕ) → choices_in e set ≡ choices_from (most_choices e) 0 set
 unfolding choices_in
-choices_in-is e set = by_bits 32 0 set ∙ ap (choices_from 32 0) (div-one set)
+choices_in-is e set = by_bits (most_choices e) 0 set ∙ ap (choices_from (most_choices e) 0) (div-one set)
+
+-- of a set with no choice above the last that there may be, a search through all bits of a word finds the same
+pub choices_of_word : (e : Election) (set : ℕ) → set < 2 ^ most_choices e → choices_from 64 0 set ≡ choices_in e set
+choices_of_word e set small =
+    let most = most_choices e in
+    choices_from-mark_set 64 64 0 set (choices_from most 0 set) (omega arith)
+    (rises-choices_from 64 most 0 0 set (omega arith) (omega (arith, few_choices e)))
+    (mark_set-choices_from most 0 set small) ∙ sym (choices_in-is e set)
 
 pub IsGroup-choices_in : (e : Election) (set : ℕ) → IsGroup e (choices_in e set)
 IsGroup-choices_in e set =
-    subst (IsGroup e) (sym (choices_in-is e set)) (IsGroup-from_rises e 0 (choices_from 32 0 set) (rises-choices_from 32 0 0 set (omega arith) (omega arith)))
+    subst (IsGroup e) (sym (choices_in-is e set)) (IsGroup-from_rises e 0 (choices_from (most_choices e) 0 set) (rises-choices_from (most_choices e) (most_choices e) 0 0 set (omega arith) (omega arith)))
 
 pub mark_set-choices_in : (e : Election) (set : ℕ) → set < 2 ^ most_choices e → mark_set (choices_in e set) ≡ set
-mark_set-choices_in e set small = ap mark_set (choices_in-is e set) ∙ mark_set-choices_from 32 0 set small ∙ mul-one set
+mark_set-choices_in e set small = ap mark_set (choices_in-is e set) ∙ mark_set-choices_from (most_choices e) 0 set small ∙ mul-one set
 
 pub choices_in-mark_set : (e : Election) (choices : List ℕ) → IsGroup e choices → choices_in e (mark_set choices) ≡ choices
 choices_in-mark_set e choices group =
-    choices_in-is e (mark_set choices) ∙ choices_from-mark_set 32 0 (mark_set choices) choices (omega arith) (rises_from_IsGroup e choices group) (sym (mul-one (mark_set choices)))
+    choices_in-is e (mark_set choices) ∙ choices_from-mark_set (most_choices e) (most_choices e) 0 (mark_set choices) choices (omega arith) (rises_from_IsGroup e choices group) (sym (mul-one (mark_set choices)))

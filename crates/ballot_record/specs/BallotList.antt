@@ -21,4 +21,4 @@ with_more list b = record { election = list.election; ballots = list.ballots ++ 
 unfoldable pub ballots_at : Election → ℕ → List ℕ → List Ballot
 ballots_at e zero bytes = []
 ballots_at e (suc more) bytes =
-    ballot_at (length e.contests) (take (cell_size e) bytes) ∷ ballots_at e more (drop (cell_size e) bytes)
+    ballot_at e (take (cell_size e) bytes) ∷ ballots_at e more (drop (cell_size e) bytes)

@@ -4,6 +4,7 @@ use Rattle.std.proofs.lemmas.List.{length-take-le, length-map}
 use Rattle.ballot_record.specs.declared.contest.Contest.{Contest}
 use Rattle.ballot_record.specs.Contest.{contest_of, contests_of, contest_like, no_contest}
 use Rattle.ballot_record.specs.declared.election.Election.TheInside.{Inside}
+use Rattle.store_spec.specs.Ballot.{MARK_SETS}
 use Rattle.store_spec.specs.Election.{Election, IsElection}
 
 abbrev pub election_of : Inside → Election
@@ -18,7 +19,7 @@ election_of a = record {
 
 abbrev pub kept_of : Election → Inside
 kept_of e = record {
-  contests = map contest_like e.contests ++ replicate (16 - length e.contests) no_contest;
+  contests = map contest_like e.contests ++ replicate (MARK_SETS - length e.contests) no_contest;
   contest_count = length e.contests;
   styles = e.styles ++ replicate (255 - length e.styles) 0;
   style_count = length e.styles;
@@ -30,12 +31,12 @@ kept_of e = record {
 
 pub record IsKept (a : Inside) : Type 0 where
   pub election : IsElection (election_of a)
-  pub contest_count : a.contest_count ≤ 16
+  pub contest_count : a.contest_count ≤ MARK_SETS
   pub style_count : a.style_count ≤ 255
-  pub contest_places : length a.contests ≡ 16
+  pub contest_places : length a.contests ≡ MARK_SETS
   pub style_places : length a.styles ≡ 255
   pub no_more_contests : drop a.contest_count a.contests
-      ≡ replicate (16 - a.contest_count) no_contest
+      ≡ replicate (MARK_SETS - a.contest_count) no_contest
   pub no_more_styles : drop a.style_count a.styles ≡ replicate (255 - a.style_count) 0
 
 contests_back : (contests : List Contest) → map contest_like (contests_of contests) ≡ contests
@@ -52,7 +53,7 @@ whole xs n total none all within behind =
 -- nothing of what is kept is lost in what a contract sees
 pub kept_of-election_of : (a : Inside) → IsKept a → kept_of (election_of a) ≡ a
 kept_of-election_of a kept =
-    let contests = whole a.contests a.contest_count 16 no_contest kept.contest_places kept.contest_count kept.no_more_contests in
+    let contests = whole a.contests a.contest_count MARK_SETS no_contest kept.contest_places kept.contest_count kept.no_more_contests in
     let styles = whole a.styles a.style_count 255 0 kept.style_places kept.style_count kept.no_more_styles in
     let contest_count : length (contests_of (take a.contest_count a.contests)) ≡ a.contest_count =
     length-map (take a.contest_count a.contests) contest_of ∙ contests.0 in

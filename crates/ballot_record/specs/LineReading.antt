@@ -2,7 +2,7 @@
 use Rattle.std.specs.Prelude.{ℕ, zero, suc, ◌+◌, ◌-◌, ◌*◌, ◌^◌, ◌==◌, nat_lt, nat_le, if◌then◌else◌, List, [], ◌∷◌, length, Option, Some, None, option_map, option_and_then}
 use Rattle.std.specs.Char.{is_ascii_digit}
 use Rattle.store_spec.specs.BallotLine.{RecordLine, comma, dash, slash, space}
-use Rattle.store_spec.specs.Election.{most_styles}
+use Rattle.store_spec.specs.Election.{Election, most_choices, most_contests, most_styles}
 
 -- The number that goes on with these bytes after digits of this value; 0 is no digit yet. It is at most the limit.
 unfoldable pub digits_at : ℕ → ℕ → List ℕ → Option (ℕ × List ℕ)
@@ -54,40 +54,40 @@ past_byte wanted (byte ∷ bytes) goes_on otherwise =
 abbrev pub with_first : {A B : Type 0} → A → List A × B → List A × B
 with_first first others = (first ∷ others.0, others.1)
 
--- so many choices at most, with commas between them, each above the last one
-unfoldable pub choices_at : ℕ → ℕ → List ℕ → Option (List ℕ × List ℕ)
-choices_at zero last bytes = None
-choices_at (suc more) last bytes =
+-- of the choices from 1 to the last that there may be so many at most, with commas between them, each above the last one
+unfoldable pub choices_at : ℕ → ℕ → ℕ → List ℕ → Option (List ℕ × List ℕ)
+choices_at most zero last bytes = None
+choices_at most (suc more) last bytes =
     option_and_then (λ (first : ℕ × List ℕ).
     if nat_le first.0 last then None
     else past_byte comma first.1
-    (λ rest. option_map (with_first first.0) (choices_at more first.0 rest))
+    (λ rest. option_map (with_first first.0) (choices_at most more first.0 rest))
     (Some (first.0 ∷ [], first.1)))
-    (digits_at 32 0 bytes)
+    (digits_at most 0 bytes)
 
 -- a dash, or choices
-unfoldable pub group_at : List ℕ → Option (List ℕ × List ℕ)
-group_at bytes = past_byte dash bytes (λ rest. Some ([], rest)) (choices_at 32 0 bytes)
+unfoldable pub group_at : ℕ → List ℕ → Option (List ℕ × List ℕ)
+group_at most bytes = past_byte dash bytes (λ rest. Some ([], rest)) (choices_at most most 0 bytes)
 
--- so many groups at most, with slashes between them, up to the end
-unfoldable pub groups_of : ℕ → List ℕ → Option (List (List ℕ))
-groups_of zero bytes = None
-groups_of (suc more) bytes =
+-- of such groups so many at most, with slashes between them, up to the end
+unfoldable pub groups_of : ℕ → ℕ → List ℕ → Option (List (List ℕ))
+groups_of most zero bytes = None
+groups_of most (suc more) bytes =
     option_and_then (λ (first : List ℕ × List ℕ).
     if length first.1 == 0 then Some (first.0 ∷ [])
     else past_byte slash first.1
-    (λ rest. option_map (λ others. first.0 ∷ others) (groups_of more rest)) None)
-    (group_at bytes)
+    (λ rest. option_map (λ others. first.0 ∷ others) (groups_of most more rest)) None)
+    (group_at most bytes)
 
--- all of a line
-unfoldable pub line_of : List ℕ → Option RecordLine
-line_of bytes =
+-- all of a line of an election's version
+unfoldable pub line_of : Election → List ℕ → Option RecordLine
+line_of e bytes =
     option_and_then (λ (number : ℕ × List ℕ).
     past_byte space number.1 (λ bytes.
     option_and_then (λ (style : ℕ × List ℕ).
     past_byte space style.1 (λ bytes.
     option_map (λ groups. record { number = number.0; style = style.0; groups = groups })
-    (groups_of 16 bytes))
+    (groups_of (most_choices e) (most_contests e) bytes))
     None)
     (digits_at most_styles 0 bytes))
     None)

@@ -1,12 +1,12 @@
--- An election from its parts, as a caller hands them in. Its version is 1.
+-- An election from its parts, as a caller hands them in.
 use Rattle.std.specs.Prelude.{ℕ, ◌≤◌, List, length, All}
 use Rattle.ballot_record.specs.Contest.{contests_of}
 use Rattle.ballot_record.specs.declared.contest.Contest.{Contest}
 use Rattle.store_spec.specs.Election as definition
 
-abbrev pub parts_of : List Contest → List ℕ → ℕ → ℕ → ℕ → definition.Election
-parts_of contests styles limit bits salt = record {
-  version = 1;
+abbrev pub parts_of : ℕ → List Contest → List ℕ → ℕ → ℕ → ℕ → definition.Election
+parts_of version contests styles limit bits salt = record {
+  version = version;
   contests = contests_of contests;
   styles = styles;
   limit = limit;

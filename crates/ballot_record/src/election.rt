@@ -1,15 +1,12 @@
 ghost use Rattle.std.specs.Int.{bit_at};
 ghost use Rattle.std.specs.Prelude.{◌≡◌, ◌==◌, ℕ, ◌-◌, ◌^◌, ◌<◌, ◌≤◌, ◌++◌, ◌↔◌, length, replicate, All, Some, IsTrue, IsSome, IfSome, slice_get};
-ghost use Rattle.store_spec.specs.Election.{IsContest, IsContestUpTo, IsStyle, IsElection, choices_of, choices_on, is_on_style, cell_count, most_cells, most_choices, example};
+ghost use Rattle.store_spec.specs.Election.{IsContest, IsContestUpTo, IsStyle, HasVersionOne, IsElection, as_version_one, choices_of, choices_on, is_on_style, cell_count, most_cells, most_choices, example};
 ghost use Rattle.ballot_record.specs.Contest.{contest_of, contests_of, no_contest};
 ghost use Rattle.ballot_record.specs.Parts.{parts_of, AreContests, AreStyles};
 
-use crate::{Contest, MAX_CHOICES};
+use crate::{Contest, MAX_CONTESTS, most_choices, most_contests};
 use probe_order::Salted;
 use std::marker::Model;
-
-/// The most contests of an election.
-pub const MAX_CONTESTS: usize = 16;
 
 /// The most ballot styles of an election.
 pub const MAX_STYLES: usize = 255;
@@ -20,8 +17,8 @@ pub const MAX_LIMIT: u32 = 32768;
 /// The most bits of a home.
 pub const MAX_BITS: u8 = 16;
 
-/// The version of every election.
-const VERSION: u16 = 1;
+/// The last version of elections.
+const LAST_VERSION: u16 = 2;
 
 const NO_CONTEST: Contest = Contest {
     choices: 0,
@@ -57,18 +54,18 @@ impl Model for Election {
     ghost inverse_ok = { kept_of-election_of };
 }
 
-fn each_is_valid(contests: &[Contest]) -> bool
+fn each_is_valid(contests: &[Contest], most: u8) -> bool
     ensures { IsTrue result
-        ↔ All (λ contest. IsContestUpTo MAX_CHOICES (contest_of contest)) contests.now }
+        ↔ All (λ contest. IsContestUpTo most (contest_of contest)) contests.now }
 {
-    contests.iter().all(|contest| contest.is_valid())
+    contests.iter().all(|contest| contest.is_valid(most))
 }
 
-fn are_contests(contests: &[Contest]) -> bool
-    ensures { IsTrue result ↔ AreContests MAX_CONTESTS MAX_CHOICES (contests_of contests.now) }
+fn are_contests(contests: &[Contest], most: usize, most_choices: u8) -> bool
+    ensures { IsTrue result ↔ AreContests most most_choices (contests_of contests.now) }
 {
     let count = contests.len();
-    1 <= count && count <= MAX_CONTESTS && each_is_valid(contests)
+    1 <= count && count <= most && each_is_valid(contests, most_choices)
 }
 
 fn are_styles(styles: &[u32], contests: usize) -> bool
@@ -102,9 +99,10 @@ fn styles_kept(styles: &[u32]) -> [u32; MAX_STYLES]
 }
 
 impl Election {
-    /// The election of these parts, in version 1. Contests and styles come in the order of their numbers, from 1; in a
-    /// style bit k - 1 stands for contest k. `None` where a rule on elections fails.
+    /// The election of these parts. Contests and styles come in the order of their numbers, from 1; in a style bit k - 1
+    /// stands for contest k. `None` where the version is neither 1 nor 2, or another rule on elections fails.
     pub fn from_parts(
+        version: u16,
         contests: &[Contest],
         styles: &[u32],
         limit: u32,
@@ -112,11 +110,17 @@ impl Election {
         salt: u64,
     ) -> Option<Election>
         ensures valid { IsSome result
-            ↔ IsElection (parts_of contests.now styles.now limit bits salt) }
+            ↔ IsElection (parts_of version contests.now styles.now limit bits salt) }
         ensures parts { IfSome result
-            (λ election. election ≡ parts_of contests.now styles.now limit bits salt) }
+            (λ election. election ≡ parts_of version contests.now styles.now limit bits salt) }
     {
-        if !are_contests(contests) || !are_styles(styles, contests.len()) {
+        if version == 0 || version > LAST_VERSION {
+            return None;
+        }
+        if !are_contests(contests, most_contests(version), most_choices(version)) {
+            return None;
+        }
+        if !are_styles(styles, contests.len()) {
             return None;
         }
         if limit == 0 || limit > MAX_LIMIT || bits > MAX_BITS {
@@ -130,11 +134,26 @@ impl Election {
             limit,
             bits,
             salt,
-            version: VERSION,
+            version,
         })
     }
 
-    /// The example of the documents: two contests on one style, at most 8 ballots and 8 homes.
+    /// The same parts in version 1. `None` exactly where the version is 1, or there are more contests, or more choices of
+    /// a contest, than version 1 allows.
+    pub fn as_version_one(&self) -> Option<Election>
+        ensures some { IsSome result ↔ HasVersionOne self.now }
+        ensures same { IfSome result (λ election. election ≡ as_version_one self.now) }
+    {
+        if self.version == 1 {
+            return None;
+        }
+        let contests = &self.contests[..self.contests()];
+        let styles = &self.styles[..self.styles()];
+        Election::from_parts(1, contests, styles, self.limit, self.bits, self.salt)
+    }
+
+    /// The example of the documents in version 1: two contests on one style, at most 8 ballots and 8 homes.
+    #[tactic(auto, unfolding(store_spec::specs::Election::in_version))]
     pub fn example() -> Election
         ensures { result ≡ example }
     {
@@ -148,15 +167,16 @@ impl Election {
                 allowed: 2,
             },
         ];
-        match Election::from_parts(&contests, &[0b11], 8, 3, 0) {
+        match Election::from_parts(1, &contests, &[0b11], 8, 3, 0) {
             Some(election) => election,
             None => unreachable!(),
         }
     }
 
-    /// Its version.
+    /// Its version, 1 or 2.
     pub fn version(&self) -> u16
-        ensures { result ≡ self.now.version }
+        ensures version { result ≡ self.now.version }
+        ensures valid { IsElection self.now }
     {
         self.version
     }
@@ -164,6 +184,7 @@ impl Election {
     /// How many contests it has.
     pub fn contests(&self) -> usize
         ensures count { result ≡ length self.now.contests }
+        ensures at_most { result ≤ MAX_CONTESTS }
         ensures valid { IsElection self.now }
     {
         usize::from(self.contest_count)

@@ -2,16 +2,18 @@
 //! this module knows their widths.
 #![tactic(auto, unfolding(store_spec::specs::Election::header_size, crate::specs::Format::largest_cell, crate::specs::Format::largest_bank))]
 
-ghost use Rattle.std.specs.Prelude.{◌≡◌, ◌+◌, ◌-◌, ◌*◌, ◌<◌, ◌≤◌, ◌++◌, ◌↔◌, length, take, drop, replicate, slice_index, All, IsTrue};
-ghost use Rattle.std.specs.Int.{from_be_bytes, w32};
+ghost use Rattle.std.specs.Prelude.{◌≡◌, ℕ, ◌+◌, ◌-◌, ◌*◌, ◌^◌, ◌<◌, ◌≤◌, ◌++◌, ◌↔◌, length, drop, flat_map, replicate, slice_index, All, IsTrue};
+ghost use Rattle.std.specs.Int.{bytes_high_first};
+ghost use Rattle.byteorder.specs.Endian.{big_number};
 ghost use Rattle.store_spec.specs.Ballot.{Ballot, IsValid, MARK_SETS};
 ghost use Rattle.store_spec.specs.Damage.{number_at};
-ghost use Rattle.store_spec.specs.Election.{IsElection, bank_size, cell_size, medium_size};
+ghost use Rattle.store_spec.specs.Election.{IsElection, bank_size, cell_size, medium_size, set_width};
 ghost use Rattle.store_spec.specs.Image.{IsEmptyCell, IsCellOf, ballot_bytes, header_of};
-ghost use Rattle.ballot_record.specs.Format.{ballot_at, largest_bank, largest_cell, number_size, sets_at};
+ghost use Rattle.ballot_record.specs.Format.{IsSetWidth, ballot_at, largest_bank, largest_cell, number_size, sets_at};
 ghost use Rattle.ballot_record.specs.Record.{ballot};
 ghost use Rattle.ballot_record.specs.declared.record.Record as declared;
 
+use crate::version::{MAX_SET_BYTES, set_bytes};
 use crate::{Election, MAX_BITS, MAX_LIMIT, MAX_MARK_SETS, Record};
 use byteorder::{BigEndian, ByteOrder};
 
@@ -21,11 +23,8 @@ pub const HEADER_BYTES: usize = 32;
 /// How many bytes stand in a cell before the mark sets: a number and a style.
 const FRONT_BYTES: usize = 9;
 
-/// How many bytes a mark set has.
-const SET_BYTES: usize = 4;
-
 /// The most bytes of a cell, whatever the election.
-pub const MAX_CELL_BYTES: usize = FRONT_BYTES + SET_BYTES * MAX_MARK_SETS;
+pub const MAX_CELL_BYTES: usize = FRONT_BYTES + MAX_SET_BYTES * MAX_MARK_SETS;
 
 /// The most cells of a bank, whatever the election.
 const MAX_CELLS: usize = (1 << MAX_BITS) + MAX_LIMIT as usize;
@@ -50,7 +49,16 @@ impl Election {
         ensures at_most { result ≤ largest_cell }
         ensures valid { IsElection self.now }
     {
-        FRONT_BYTES + SET_BYTES * self.contests()
+        FRONT_BYTES + self.set_bytes() * self.contests()
+    }
+
+    /// How many bytes a mark set has in a cell: 4 in version 1, and 8 in version 2.
+    fn set_bytes(&self) -> usize
+        ensures width { result ≡ set_width self.now }
+        ensures known { IsSetWidth result }
+        ensures valid { IsElection self.now }
+    {
+        set_bytes(self.version())
     }
 
     /// How many bytes a bank has.
@@ -118,27 +126,41 @@ pub enum CellKind {
     Bad,
 }
 
-/// The first mark set, and the bytes after it.
-fn take_set(bytes: &[u8]) -> (u32, &[u8])
-    requires { SET_BYTES ≤ length bytes.now }
-    ensures set { result.0 ≡ from_be_bytes w32 (take SET_BYTES bytes.now) }
-    ensures rest { result.1.now ≡ drop SET_BYTES bytes.now }
+/// The mark set that stands first, of so many bytes.
+fn first_set(bytes: &[u8], width: usize) -> u64
+    requires known { IsSetWidth width }
+    requires long { width ≤ length bytes.now }
+    ensures { result ≡ big_number width bytes.now }
 {
-    let (front, rest) = bytes.split_at(SET_BYTES);
-    let set = u32::from_be_bytes([front[0], front[1], front[2], front[3]]);
-    (set, rest)
+    if width == MAX_SET_BYTES {
+        BigEndian::read_u64(bytes)
+    } else {
+        u64::from(BigEndian::read_u32(bytes))
+    }
 }
 
-/// Puts so many mark sets before the zeros.
-fn put_sets(bytes: &[u8], contests: usize, marks: &mut [u32; MAX_MARK_SETS])
+/// The mark set that stands first, of so many bytes, and the bytes after it.
+fn take_set(bytes: &[u8], width: usize) -> (u64, &[u8])
+    requires known { IsSetWidth width }
+    requires long { width ≤ length bytes.now }
+    ensures set { result.0 ≡ big_number width bytes.now }
+    ensures rest { result.1.now ≡ drop width bytes.now }
+{
+    let (_, rest) = bytes.split_at(width);
+    (first_set(bytes, width), rest)
+}
+
+/// Puts so many mark sets, of so many bytes each, before the zeros.
+fn put_sets(bytes: &[u8], width: usize, contests: usize, marks: &mut [u64; MAX_MARK_SETS])
+    requires known { IsSetWidth width }
     requires few { contests ≤ MARK_SETS }
-    requires long { length bytes.now ≡ SET_BYTES * contests }
+    requires long { length bytes.now ≡ width * contests }
     requires empty { marks.old ≡ replicate MAX_MARK_SETS 0 }
-    ensures { marks.new ≡ sets_at contests bytes.now ++ replicate (MARK_SETS - contests) 0 }
+    ensures { marks.new ≡ sets_at width contests bytes.now ++ replicate (MARK_SETS - contests) 0 }
 {
     let mut rest = bytes;
     for place in 0..contests {
-        let (set, after) = take_set(rest);
+        let (set, after) = take_set(rest, width);
         marks[place] = set;
         rest = after;
     }
@@ -146,18 +168,19 @@ fn put_sets(bytes: &[u8], contests: usize, marks: &mut [u32; MAX_MARK_SETS])
 
 /// Puts the parts of the record that the bytes of a cell spell, valid or not. They are written in place, as a record
 /// is long.
-fn put_parts(bytes: &[u8], contests: usize, parts: &mut Record)
-    requires few { contests ≤ MARK_SETS }
-    requires long { length bytes.now ≡ FRONT_BYTES + SET_BYTES * contests }
+#[tactic(auto, unfolding(store_spec::specs::Election::cell_size))]
+fn put_parts(bytes: &[u8], election: &Election, parts: &mut Record)
+    requires long { length bytes.now ≡ cell_size election.now }
     requires empty { parts.old.marks ≡ replicate MAX_MARK_SETS 0 }
-    ensures { ballot parts.new ≡ ballot_at contests bytes.now }
+    ensures parts { ballot parts.new ≡ ballot_at election.now bytes.now }
+    ensures valid { IsElection election.now }
 {
     let (front, rest) = bytes.split_at(8);
     parts.number = u64::from_be_bytes([
         front[0], front[1], front[2], front[3], front[4], front[5], front[6], front[7],
     ]);
     parts.style = rest[0];
-    put_sets(&rest[1..], contests, &mut parts.marks);
+    put_sets(&rest[1..], election.set_bytes(), election.contests(), &mut parts.marks);
 }
 
 fn are_zero(bytes: &[u8]) -> bool
@@ -179,10 +202,9 @@ pub fn take_cell_into(bytes: &[u8], election: &Election, out: &mut Record) -> Ce
         × ((b : Ballot) → ¬ IsCellOf election.now bytes.now b)) }
     ensures valid { IsElection election.now }
 {
-    let contests = election.contests();
     *out = Record::blank();
-    put_parts(bytes, contests, out);
-    if out.valid_up_to(election, contests) {
+    put_parts(bytes, election, out);
+    if out.valid_up_to(election, election.contests()) {
         CellKind::Held
     } else if are_zero(bytes) {
         CellKind::Empty
@@ -209,15 +231,41 @@ pub fn take_cell(bytes: &[u8], election: &Election) -> CellRead
     }
 }
 
+/// Puts a mark set, in so many bytes, in place of those that stand first.
+fn put_set(set: u64, width: usize, out: &mut [u8])
+    requires known { IsSetWidth width }
+    requires fits { set < 256 ^ width }
+    requires room { width ≤ length out.old }
+    ensures { out.new ≡ bytes_high_first width set ++ drop width out.old }
+{
+    if width == MAX_SET_BYTES {
+        BigEndian::write_u64(out, set);
+    } else {
+        BigEndian::write_u32(out, set as u32);
+    }
+}
+
+/// Puts mark sets, in so many bytes each.
+fn put_all_sets(sets: &[u64], width: usize, out: &mut [u8])
+    requires known { IsSetWidth width }
+    requires fit { (k : ℕ) → k < length sets.now → slice_index sets.now k < 256 ^ width }
+    requires room { length out.old ≡ width * length sets.now }
+    ensures { out.new ≡ flat_map (bytes_high_first width) sets.now }
+{
+    'sets: for place in 0..sets.len() {
+        put_set(sets[place], width, &mut out[width * place..]);
+    }
+}
+
 impl Record {
     /// The record that the bytes of a cell spell, valid or not.
     #[tactic(auto, unfolding(store_spec::specs::Election::cell_size))]
     pub fn of_cell(bytes: &[u8], election: &Election) -> Record
         requires { length bytes.now ≡ cell_size election.now }
-        ensures { ballot result ≡ ballot_at (length election.now.contests) bytes.now }
+        ensures { ballot result ≡ ballot_at election.now bytes.now }
     {
         let mut record = Record::blank();
-        put_parts(bytes, election.contests(), &mut record);
+        put_parts(bytes, election, &mut record);
         record
     }
 
@@ -228,10 +276,10 @@ impl Record {
         requires room { length out.old ≡ cell_size election.now }
         ensures { out.new ≡ ballot_bytes election.now (ballot self.now) }
     {
-        let contests = election.contests();
+        let sets = &self.marks[..election.contests()];
         BigEndian::write_u64(out, self.number);
         out[8] = self.style;
-        BigEndian::write_u32_into(&self.marks[..contests], &mut out[9..]);
+        put_all_sets(sets, election.set_bytes(), &mut out[9..]);
     }
 }
 
@@ -255,13 +303,13 @@ pub fn style_of(bytes: &[u8], election: &Election) -> u8
 
 /// The mark set that the ballot in a cell has for the contest at a place, counted from 0.
 #[tactic(auto, unfolding(store_spec::specs::Election::cell_size))]
-pub fn set_of(bytes: &[u8], election: &Election, place: usize) -> u32
+pub fn set_of(bytes: &[u8], election: &Election, place: usize) -> u64
     requires valid { IsElection election.now }
     requires long { length bytes.now ≡ cell_size election.now }
     requires within { place < length election.now.contests }
     ensures { (b : Ballot) → IsCellOf election.now bytes.now b → result ≡ slice_index b.marks place }
 {
-    let (_, onward) = bytes.split_at(FRONT_BYTES + SET_BYTES * place);
-    let (set, _) = take_set(onward);
-    set
+    let width = election.set_bytes();
+    let (_, onward) = bytes.split_at(FRONT_BYTES + width * place);
+    first_set(onward, width)
 }

@@ -10,9 +10,10 @@ mod line;
 mod list;
 mod print;
 mod record;
+mod version;
 
-pub use contest::{Contest, MAX_CHOICES};
-pub use election::{Election, MAX_BITS, MAX_CONTESTS, MAX_LIMIT, MAX_STYLES};
+pub use contest::Contest;
+pub use election::{Election, MAX_BITS, MAX_LIMIT, MAX_STYLES};
 pub use fault::{LineFault, LineWhy};
 pub use format::{
     CellKind, CellRead, HEADER_BYTES, Header, MAX_BANK_BYTES, MAX_CELL_BYTES, set_of, style_of,
@@ -22,3 +23,4 @@ pub use line::{read_line, read_line_into, take_number};
 pub use list::BallotList;
 pub use print::{put_cell_line, put_line};
 pub use record::{MAX_MARK_SETS, Record};
+pub use version::{MAX_CHOICES, MAX_CONTESTS, most_choices, most_contests};

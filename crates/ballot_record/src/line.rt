@@ -4,7 +4,7 @@ ghost use Rattle.ballot_record.specs.LineReading.{digits_at, four_at, eight_at, 
 ghost use Rattle.ballot_record.specs.Line.{set_seen, sets_seen, line_seen};
 ghost use Rattle.ballot_record.specs.Record.{ballot};
 
-use crate::{Election, LineFault, MAX_CHOICES, MAX_CONTESTS, MAX_MARK_SETS, MAX_STYLES, Record};
+use crate::{Election, LineFault, MAX_CHOICES, MAX_CONTESTS, MAX_MARK_SETS, MAX_STYLES, Record, most_choices, most_contests};
 
 /// What follows a byte, where it stands first.
 fn after_byte(bytes: &[u8], byte: u8) -> Option<&[u8]>
@@ -146,16 +146,19 @@ pub fn take_number(bytes: &[u8], limit: u64) -> Option<(u64, &[u8])>
     take_digits(rest, value, limit)
 }
 
-/// The mark set of choices in ascending order, with commas between them, and the bytes after them.
-fn take_choices(bytes: &[u8]) -> Option<(u32, &[u8])>
+/// The mark set of choices in ascending order from 1 to the last that there may be, with commas between them, and the
+/// bytes after them.
+fn take_choices(bytes: &[u8], most: u64) -> Option<(u64, &[u8])>
+    requires low { 9 ≤ most }
+    requires high { most ≤ MAX_CHOICES }
     ensures { option_map (λ x. (x.0, x.1.now)) result
-        ≡ option_map set_seen (choices_at MAX_CHOICES 0 bytes.now) }
+        ≡ option_map set_seen (choices_at most most 0 bytes.now) }
 {
-    let mut set: u32 = 0;
+    let mut set: u64 = 0;
     let mut last = 0;
     let mut rest = bytes;
     loop {
-        let (choice, after) = take_short(rest, MAX_CHOICES as u64)?;
+        let (choice, after) = take_short(rest, most)?;
         if choice <= last {
             return None;
         }
@@ -170,24 +173,35 @@ fn take_choices(bytes: &[u8]) -> Option<(u32, &[u8])>
 
 /// The mark set of a group, and the bytes after it.
 #[tactic(auto, unfolding(crate::specs::LineReading::group_at))]
-fn take_group(bytes: &[u8]) -> Option<(u32, &[u8])>
-    ensures { option_map (λ x. (x.0, x.1.now)) result ≡ option_map set_seen (group_at bytes.now) }
+fn take_group(bytes: &[u8], most: u64) -> Option<(u64, &[u8])>
+    requires low { 9 ≤ most }
+    requires high { most ≤ MAX_CHOICES }
+    ensures { option_map (λ x. (x.0, x.1.now)) result
+        ≡ option_map set_seen (group_at most bytes.now) }
 {
     match after_byte(bytes, b'-') {
         Some(rest) => Some((0, rest)),
-        None => take_choices(bytes),
+        None => take_choices(bytes, most),
     }
 }
 
-/// Puts the mark sets of the groups up to the end, and says how many groups there are.
-fn put_groups(bytes: &[u8], marks: &mut [u32; MAX_MARK_SETS]) -> Option<usize>
-    requires { marks.old ≡ replicate MAX_MARK_SETS 0 }
+/// Puts the mark sets of so many groups at most, up to the end, and says how many groups there are.
+fn put_groups(
+    bytes: &[u8],
+    groups: usize,
+    choices: u64,
+    marks: &mut [u64; MAX_MARK_SETS],
+) -> Option<usize>
+    requires few { groups ≤ MAX_CONTESTS }
+    requires low { 9 ≤ choices }
+    requires high { choices ≤ MAX_CHOICES }
+    requires empty { marks.old ≡ replicate MAX_MARK_SETS 0 }
     ensures { option_map (λ count. (marks.new, count)) result
-        ≡ option_map sets_seen (groups_of MAX_CONTESTS bytes.now) }
+        ≡ option_map sets_seen (groups_of choices groups bytes.now) }
 {
     let mut rest = bytes;
-    for place in 0..MAX_CONTESTS {
-        let (set, after) = take_group(rest)?;
+    for place in 0..groups {
+        let (set, after) = take_group(rest, choices)?;
         marks[place] = set;
         if after.is_empty() {
             return Some(place + 1);
@@ -199,16 +213,18 @@ fn put_groups(bytes: &[u8], marks: &mut [u32; MAX_MARK_SETS]) -> Option<usize>
 
 /// Puts the parts of the record that a line in the grammar spells, and says how many groups it has.
 #[tactic(auto, unfolding(crate::specs::LineReading::line_of))]
-fn put_parts(line: &[u8], parts: &mut Record) -> Option<usize>
+fn put_parts(line: &[u8], election: &Election, parts: &mut Record) -> Option<usize>
     requires { parts.old.marks ≡ replicate MAX_MARK_SETS 0 }
     ensures { option_map (λ count. (ballot parts.new, count)) result
-        ≡ option_map line_seen (line_of line.now) }
+        ≡ option_map line_seen (line_of election.now line.now) }
 {
     let (number, rest) = take_number(line, u64::MAX)?;
     let (style, rest) = take_short(after_byte(rest, b' ')?, MAX_STYLES as u64)?;
     parts.number = number;
     parts.style = style as u8;
-    put_groups(after_byte(rest, b' ')?, &mut parts.marks)
+    let groups = most_contests(election.version());
+    let choices = u64::from(most_choices(election.version()));
+    put_groups(after_byte(rest, b' ')?, groups, choices, &mut parts.marks)
 }
 
 /// Puts the record of a line under an election in place of what stands there. The whole line is judged by the grammar of
@@ -223,7 +239,7 @@ pub fn read_line_into(line: &[u8], election: &Election, out: &mut Record) -> Res
         ↔ (IsRecordLine election.now line.now × ¬ IsLineOf election.now line.now) }
 {
     *out = Record::blank();
-    let Some(groups) = put_parts(line, out) else {
+    let Some(groups) = put_parts(line, election, out) else {
         return Err(LineFault::Malformed);
     };
     if groups != election.contests() || !out.valid_up_to(election, groups) {

@@ -1,9 +1,9 @@
-ghost use Rattle.std.specs.Prelude.{◌≡◌, [], ◌∷◌, ◌++◌, if◌then◌else◌, length, map, take, decimal, OnErr, OnOk};
+ghost use Rattle.std.specs.Prelude.{◌≡◌, [], ◌∷◌, ◌++◌, ◌^◌, ◌<◌, if◌then◌else◌, length, map, take, decimal, OnErr, OnOk};
 ghost use Rattle.std.specs.List.{join_with_byte};
 ghost use Rattle.store_spec.specs.Ballot.{Ballot, IsValid};
 ghost use Rattle.store_spec.specs.BallotLine.{choices_in, comma, group_text, record_line, slash};
 ghost use Rattle.store_spec.specs.Election as definition;
-ghost use Rattle.store_spec.specs.Election.{IsElection, cell_size};
+ghost use Rattle.store_spec.specs.Election.{IsElection, cell_size, most_choices};
 ghost use Rattle.store_spec.specs.Image.{IsCellOf};
 ghost use Rattle.ballot_record.specs.Print.{IsFrontOf};
 ghost use Rattle.ballot_record.specs.Record as seen;
@@ -36,10 +36,10 @@ fn put_between(first: bool, between: u8, out: &mut Vec<u8>) -> Result<(), Memory
 }
 
 /// Appends the choices of a mark set, in ascending order with commas between them.
-fn put_choices(set: u32, out: &mut Vec<u8>) -> Result<(), Memory>
-    ensures text { (e : definition.Election) → OnOk result
+fn put_choices(set: u64, out: &mut Vec<u8>) -> Result<(), Memory>
+    ensures text { (e : definition.Election) → set < 2 ^ most_choices e → OnOk result
         (out.new.items ≡ out.old.items ++ join_with_byte comma (map decimal (choices_in e set))) }
-    ensures front { OnErr result (IsFrontOf out.old.items out.new.items) }
+    ensures front { IsFrontOf out.old.items out.new.items }
 {
     let mut rest = set;
     let mut choice = 0;
@@ -57,10 +57,10 @@ fn put_choices(set: u32, out: &mut Vec<u8>) -> Result<(), Memory>
 }
 
 /// Appends the choices of a mark set, or a dash where there is none.
-fn put_group(set: u32, out: &mut Vec<u8>) -> Result<(), Memory>
-    ensures text { (e : definition.Election) → OnOk result
+fn put_group(set: u64, out: &mut Vec<u8>) -> Result<(), Memory>
+    ensures text { (e : definition.Election) → set < 2 ^ most_choices e → OnOk result
         (out.new.items ≡ out.old.items ++ group_text (choices_in e set)) }
-    ensures front { OnErr result (IsFrontOf out.old.items out.new.items) }
+    ensures front { IsFrontOf out.old.items out.new.items }
 {
     if set == 0 {
         out.push(b'-')?;

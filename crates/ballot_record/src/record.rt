@@ -2,24 +2,28 @@ ghost use Rattle.std.specs.Prelude.{◌≡◌, ℕ, ◌-◌, ◌^◌, ◌<◌, �
 ghost use Rattle.store_spec.specs.Election.{choices_on};
 ghost use Rattle.store_spec.specs.Ballot.{IsValid, HasMarks};
 
-use crate::Election;
+use crate::{Election, MAX_CONTESTS};
 
 /// How many mark sets a record has room for, however many contests its election has.
-pub const MAX_MARK_SETS: usize = 16;
+pub const MAX_MARK_SETS: usize = MAX_CONTESTS;
 
 /// A cast ballot: its number, its style, and its mark sets: in that of contest k bit c - 1 stands for choice c.
 #[derive(Clone, Copy, Debug, PartialEq, Eq)]
 pub struct Record {
     pub number: u64,
     pub style: u8,
-    pub marks: [u32; MAX_MARK_SETS],
+    pub marks: [u64; MAX_MARK_SETS],
 }
 
 /// Whether a mark set has only choices that this contest offers on this style.
-fn has_choices(set: u32, election: &Election, style: u8, contest: usize) -> bool
+fn has_choices(set: u64, election: &Election, style: u8, contest: usize) -> bool
     ensures { IsTrue result ↔ set < 2 ^ choices_on election.now style contest }
 {
-    set == 0 || u64::from(set) < 1 << election.choices_on(style, contest)
+    if set == 0 {
+        return true;
+    }
+    let choices = election.choices_on(style, contest);
+    choices >= 64 || set >> choices == 0
 }
 
 impl Record {

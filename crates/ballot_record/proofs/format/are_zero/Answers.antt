@@ -10,5 +10,5 @@ pub returns : goal.returns
 returns c =
     let bytes = c.args.bytes.now in
     let is = slice_eq-Decides Decides-eqb _ _ _ c.eq.ensures in
-    let zeros = take-replicate (length bytes) 73 0 (omega (arith, c.requires)) in
+    let zeros = take-replicate (length bytes) 201 0 (omega (arith, c.requires)) in
     (λ same. each_zero bytes (length bytes) (is.0 same ∙ zeros), λ all. is.1 (zeros_from_all bytes all ∙ sym zeros))

@@ -1,9 +1,10 @@
-use Rattle.std.proofs.Common.{drop, refl, ap, arith}
+use Rattle.std.proofs.Common.{drop, length, refl, ap, arith}
 use Rattle.std.proofs.lemmas.Bool.{false≢true}
 use Rattle.store_spec.specs.Ballot.{Ballot}
-use Rattle.store_spec.specs.Election.{cell_size}
+use Rattle.store_spec.specs.Election.{cell_size, set_width}
 use Rattle.ballot_record.specs.Record.{ballot}
-use Rattle.ballot_record.proofs.FormatAnswers.{cell_read, spelled, valid_too, zeros_of, each_zero}
+use Rattle.ballot_record.proofs.FormatAnswers.{IsCell, spelled, valid_too, zeros_of, each_zero}
+use Rattle.ballot_record.proofs.CellFormat.{cell_fits, largest_cell_width}
 use Rattle.ballot_record.proofs.FormatReading.{nothing_behind}
 use Rattle.ballot_record.proofs.format.take_cell_into.Goals as goal
 
@@ -12,7 +13,7 @@ returns-then-valid_up_to-clause-held c _ =
     let e = c.args.election.now in
     let bytes = c.args.bytes.now in
     let r = c.put_parts.new.parts in
-    let cell = cell_read e bytes r c.contests-contests.result c.contests-contests.ensures.valid (λ i. omega (arith, c.type_inv.bytes i)) c.requires c.contests-contests.ensures.count c.put_parts.ensures in
+    let cell : IsCell e bytes r = record { election = c.put_parts.ensures.valid; fits = λ i. omega (arith, c.type_inv.bytes i); long = c.requires; read = c.put_parts.ensures.parts } in
     (c.if-valid_up_to.ensures.0 refl, spelled e bytes r cell)
 
 pub returns-then-valid_up_to-clause-bad : goal.returns-then-valid_up_to-clause-bad
@@ -20,7 +21,7 @@ returns-then-valid_up_to-clause-bad c =
     let e = c.args.election.now in
     let bytes = c.args.bytes.now in
     let r = c.put_parts.new.parts in
-    let cell = cell_read e bytes r c.contests-contests.result c.contests-contests.ensures.valid (λ i. omega (arith, c.type_inv.bytes i)) c.requires c.contests-contests.ensures.count c.put_parts.ensures in
+    let cell : IsCell e bytes r = record { election = c.put_parts.ensures.valid; fits = λ i. omega (arith, c.type_inv.bytes i); long = c.requires; read = c.put_parts.ensures.parts } in
     (λ wrong. absurd cc, λ none. absurd (none.1 (ballot r) (c.if-valid_up_to.ensures.0 refl, spelled e bytes r cell)))
 
 pub returns-then-are_zero-clause-empty : goal.returns-then-are_zero-clause-empty
@@ -36,7 +37,7 @@ returns-else-are_zero-clause-bad c =
     let e = c.args.election.now in
     let bytes = c.args.bytes.now in
     let r = c.put_parts.new.parts in
-    let cell = cell_read e bytes r c.contests-contests.result c.contests-contests.ensures.valid (λ i. omega (arith, c.type_inv.bytes i)) c.requires c.contests-contests.ensures.count c.put_parts.ensures in (
+    let cell : IsCell e bytes r = record { election = c.put_parts.ensures.valid; fits = λ i. omega (arith, c.type_inv.bytes i); long = c.requires; read = c.put_parts.ensures.parts } in (
       λ _. (
         λ zeros. false≢true (c.if-are_zero.ensures.1 (each_zero bytes (cell_size e) zeros)),
         λ b is. false≢true (c.if-valid_up_to.ensures.1 (valid_too e bytes r cell b is.0 is.1)),
@@ -46,4 +47,9 @@ returns-else-are_zero-clause-bad c =
 
 pub valid_up_to-requires-clause-behind : goal.valid_up_to-requires-clause-behind
 valid_up_to-requires-clause-behind c k past =
-    nothing_behind c.contests-contests.result (drop 9 c.args.bytes.now) c.put_parts.new.parts.marks (ap (λ (b : Ballot). b.marks) c.put_parts.ensures) k past
+    let e = c.args.election.now in
+    nothing_behind (set_width e) (length e.contests) (drop 9 c.args.bytes.now) c.put_parts.new.parts.marks (ap (λ (b : Ballot). b.marks) c.put_parts.ensures.parts) k (omega (arith, past, c.contests.ensures.count))
+
+pub are_zero-requires : goal.are_zero-requires
+are_zero-requires c =
+    omega (arith, c.requires, cell_fits c.args.election.now c.put_parts.ensures.valid, largest_cell_width)

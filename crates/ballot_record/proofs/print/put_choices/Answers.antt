@@ -9,7 +9,7 @@ use Rattle.ballot_record.proofs.print.put_choices.Goals.{then-rest-eq1+in_ok-put
 
 pub choices-init : goal.choices-init
 choices-init c = record {
-  put = (32, no_choice_put c.args.set c.args.out.now.items (omega arith));
+  put = (64, no_choice_put c.args.set c.args.out.now.items (omega arith));
   front = search rules;
 }
 
@@ -17,7 +17,7 @@ pub choices-preserved : goal.choices-preserved
 choices-preserved c =
     let l = c.choices in
     let so_far = l.invariant.put in
-    let whole = c.args.out.now.items ++ choices_text (choices_from 32 0 c.args.set) in
+    let whole = c.args.out.now.items ++ choices_text (choices_from 64 0 c.args.set) in
     let next = c.if-rest-eq1 in
     let some : 0 < l.rest = omega arith in
     elim c.if-rest-eq1.branch [
@@ -51,5 +51,5 @@ choices-preserved c =
     ]
 
 pub returns-clause-text : goal.returns-clause-text
-returns-clause-text c e = choices_put e c.args.set c.choices.first c.choices.invariant.put.0 c.choices.choice
-    c.choices.rest c.args.out.now.items c.choices.out.items c.choices.invariant.put.1 (omega arith)
+returns-clause-text c e small = choices_put e c.args.set c.choices.first c.choices.invariant.put.0 c.choices.choice
+    c.choices.rest c.args.out.now.items c.choices.out.items small c.choices.invariant.put.1 (omega arith)

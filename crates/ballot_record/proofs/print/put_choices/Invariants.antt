@@ -9,7 +9,7 @@ use Rattle.ballot_record.proofs.print.put_choices.Given as goal
 abbrev pub invariant-choices : goal.invariant-choices
 invariant-choices l = record {
   put : (more : ℕ) × ChoicesPut l.first more l.choice l.rest l.out.items
-      (l.initial.out.items ++ choices_text (choices_from 32 0 l.set));
+      (l.initial.out.items ++ choices_text (choices_from 64 0 l.set));
   front : IsFrontOf l.initial.out.items l.out.items;
 }
 

@@ -4,6 +4,8 @@ use Rattle.store_spec.specs.Election.{example}
 use Rattle.ballot_record.proofs.Fronts.{IsFrontOf-more, IsFrontOf-after}
 use Rattle.ballot_record.proofs.LinePrints.{no_group_put, group_put, groups_put}
 use Rattle.ballot_record.proofs.LineWhole.{groups_text}
+use Rattle.ballot_record.proofs.ValidMarks.{small_set}
+use Rattle.ballot_record.proofs.Versions.{contests_fit}
 use Rattle.ballot_record.proofs.print.put_groups.Goals as goal
 
 pub groups-init : goal.groups-init
@@ -25,7 +27,7 @@ returns-in_err-put_group-clause-front c =
     let front = IsFrontOf-after c.args.out.now.items c.put_between.new.out.items c.put_group.new.out.items
     (IsFrontOf-more c.args.out.now.items c.groups.out.items c.put_between.new.out.items
     (cond (eqb c.groups.place 0) [] (47 ∷ [])) c.groups.invariant.front c.in_ok-put_between.ensures.text)
-    c.in_err-put_group.ensures.front in
+    c.put_group.ensures.front in
     search rules
 
 pub groups-preserved : goal.groups-preserved
@@ -40,15 +42,16 @@ groups-preserved c =
       put = λ b is.
           let sets = take n b.marks in
           let within : l.place < n = omega arith in
+          let small = small_set e b c.requires.valid is.0 l.place in
           let set : c.set_of.result ≡ get_or sets l.place 0 = c.set_of.ensures b is ∙ sym (get_or-take n b.marks l.place 0 within) in
           group_put e sets l.place l.out.items apart now (old ++ groups_text (map (choices_in e) sets))
-          (omega (arith, length-take n b.marks, is.0.every_set, c.requires.valid.few_contests))
+          (omega (arith, length-take n b.marks, is.0.every_set, contests_fit e c.requires.valid))
           (l.invariant.put b is) c.in_ok-put_between.ensures.text
-          (c.in_ok-put_group.ensures.text e ∙ ap (λ set. apart ++ group_text (choices_in e set)) set);
-      front = IsFrontOf-more old apart now (group_text (choices_in example c.set_of.result))
+          (c.in_ok-put_group.ensures.text e (rw (c.set_of.ensures b is) small) ∙ ap (λ set. apart ++ group_text (choices_in e set)) set);
+      front = IsFrontOf-after old apart now
           (IsFrontOf-more old l.out.items apart
           (cond (eqb l.place 0) [] (47 ∷ [])) l.invariant.front c.in_ok-put_between.ensures.text)
-          (c.in_ok-put_group.ensures.text example);
+          c.put_group.ensures.front;
     }
 
 pub returns-clause-text : goal.returns-clause-text

@@ -11,5 +11,5 @@ returns c =
     there.1
     ∙ ap Some
     (sym (c.of_cell.ensures
-    ∙ ap₂ (λ (e : Election) bytes. ballot_at (length e.contests) bytes) c.requires.election there.2.1
+    ∙ ap₂ (λ (e : Election) bytes. ballot_at e bytes) c.requires.election there.2.1
     ∙ spells_itself e there.0 c.cell.ensures.election there.2.0))

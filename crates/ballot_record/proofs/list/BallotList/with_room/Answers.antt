@@ -6,7 +6,7 @@ use Rattle.ballot_record.specs.declared.list.BallotList.TheInside.{Inside}
 
 pub overflow_mul-room : goal.overflow_mul-room
 overflow_mul-room c =
-    let wide : c.cell_bytes-size.result ≤ 73 = omega (arith, c.cell_bytes-size.ensures.at_most, largest_cell_width) in
+    let wide : c.cell_bytes-size.result ≤ 201 = omega (arith, c.cell_bytes-size.ensures.at_most, largest_cell_width) in
     omega (arith, mul-le-mul_left c.args.room wide, c.requires)
 
 pub invariant_of-result : goal.invariant_of-result
