@@ -31,7 +31,7 @@ valid number first second some short low lower = record {
 }
 
 -- a line that is read spells its ballot
-pub spells : (rest : List ℕ) (line : RecordLine) → line_of rest ≡ Some line → length line.groups ≡ 2 → IsValid example (ballot_of_line line) → Spells example rest (ballot_of_line line)
+pub spells : (rest : List ℕ) (line : RecordLine) → line_of example rest ≡ Some line → length line.groups ≡ 2 → IsValid example (ballot_of_line line) → Spells example rest (ballot_of_line line)
 spells rest line read two valid = record { line = line; reads = line_takes example rest line read; a_group_each = two; is = refl; valid = valid }
 
 -- the lines of the figures spell their ballots

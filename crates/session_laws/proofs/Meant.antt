@@ -98,7 +98,7 @@ numbered_or_not w bytes =
 -- bytes are a record line, or not
 record_line_or_not : (e : Election) (rest : List ℕ) → IsRecordLine e rest ⊎ ¬ IsRecordLine e rest
 record_line_or_not e rest =
-    elim (option_cases (line_of rest)) [
+    elim (option_cases (line_of e rest)) [
       | inl none ↦ inr (not_read e rest none)
       | inr some ↦ inl (some.0, line_takes e rest some.0 some.1)
     ]
