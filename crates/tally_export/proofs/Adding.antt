@@ -12,28 +12,28 @@ use Rattle.tally_export.proofs.Counting.{allowed_few, bit_few, one_few}
 use Rattle.tally_export.specs.Counted.{AddsBallots, AddsUp, IsTallyOf, IsUpTo}
 use Rattle.tally_export.specs.declared.counts.Tally.{Tally}
 
--- what counts no more than 32 of a ballot counts no more than 32 of each
-few_each : (f : Ballot → ℕ) (p : Ballot → Bool) (bs : List Ballot) → ((b : Ballot) → f b ≤ 32)
-    → sum_by f (filter p bs) ≤ 32 * length bs
+-- what counts no more than 64 of a ballot counts no more than 64 of each
+few_each : (f : Ballot → ℕ) (p : Ballot → Bool) (bs : List Ballot) → ((b : Ballot) → f b ≤ 64)
+    → sum_by f (filter p bs) ≤ 64 * length bs
 few_each f p [] each = omega arith
 few_each f p (b ∷ bs) each = one (p b) (few_each f p bs each)
   where
-    one : (t : Bool) → sum_by f (filter p bs) ≤ 32 * length bs
-        → sum_by f (cond t (b ∷ filter p bs) (filter p bs)) ≤ 32 * length (b ∷ bs)
+    one : (t : Bool) → sum_by f (filter p bs) ≤ 64 * length bs
+        → sum_by f (cond t (b ∷ filter p bs) (filter p bs)) ≤ 64 * length (b ∷ bs)
     one true few = omega (arith, each b, few, sum_by-cons f b (filter p bs))
     one false few = omega (arith, few)
 
-pub votes_few : (e : Election) (bs : List Ballot) (k c : ℕ) → votes e bs k (c + 1) ≤ 32 * length bs
+pub votes_few : (e : Election) (bs : List Ballot) (k c : ℕ) → votes e bs k (c + 1) ≤ 64 * length bs
 votes_few e bs k c =
     few_each (λ b. cond (is_overvote e k b) 0 (bit_at (marked_in k b) (c + 1 - 1))) (λ b. is_on_style e b.style k) bs
     (λ b. omega (arith, bit_few (is_overvote e k b) (marked_in k b) (c + 1 - 1)))
 
-pub undervotes_few : (e : Election) (bs : List Ballot) (k : ℕ) → IsElection e → undervotes e bs k ≤ 32 * length bs
+pub undervotes_few : (e : Election) (bs : List Ballot) (k : ℕ) → IsElection e → undervotes e bs k ≤ 64 * length bs
 undervotes_few e bs k election =
     few_each (λ b. allowed_of e k - count_ones (marked_in k b)) (λ b. is_on_style e b.style k) bs
     (λ b. omega (arith, allowed_few e k election))
 
-pub overvotes_few : (e : Election) (bs : List Ballot) (k : ℕ) → overvotes e bs k ≤ 32 * length bs
+pub overvotes_few : (e : Election) (bs : List Ballot) (k : ℕ) → overvotes e bs k ≤ 64 * length bs
 overvotes_few e bs k =
     few_each (λ b. cond (is_overvote e k b) 1 0) (λ b. is_on_style e b.style k) bs
     (λ b. omega (arith, one_few (is_overvote e k b)))

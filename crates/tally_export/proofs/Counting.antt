@@ -7,6 +7,7 @@ use Rattle.std.specs.Int.{bit_at}
 use Rattle.std.specs.List.{filter, sum_by}
 use Rattle.std.specs.Option.{option_map_or}
 use Rattle.std.specs.Prelude.{slice_get, Some}
+use Rattle.ballot_record.proofs.Versions.{few_choices}
 use Rattle.store_spec.specs.Ballot.{Ballot}
 use Rattle.store_spec.specs.Election.{Contest, Election, IsContest, IsElection, choices_of}
 use Rattle.store_spec.specs.Report.{allowed_of}
@@ -47,12 +48,12 @@ pub choices_is : (e : Election) (k : ℕ) (contest : Contest) → 1 ≤ k → sl
 choices_is e k contest first is = contest_says (λ contest. contest.choices) e k contest first is
 
 -- a number that is none or few is few
-none_or_few : (b : Bool) (n : ℕ) → n ≤ 32 → cond b 0 n ≤ 32
+none_or_few : (b : Bool) (n : ℕ) → n ≤ 64 → cond b 0 n ≤ 64
 none_or_few true n few = omega arith
 none_or_few false n few = few
 
 -- no contest allows more marks than there may be choices
-pub allowed_few : (e : Election) (k : ℕ) → IsElection e → allowed_of e k ≤ 32
+pub allowed_few : (e : Election) (k : ℕ) → IsElection e → allowed_of e k ≤ 64
 allowed_few e k election =
     let allowed : Contest → ℕ = λ contest. contest.allowed in
     let found = slice_get e.contests (k - 1) in
@@ -61,7 +62,7 @@ allowed_few e k election =
       | inl known ↦
           let is : option_map_or allowed found 0 ≡ known.0.allowed = ap (λ o. option_map_or allowed o 0) known.2 in
           let valid = subst (IsContest e) known.3 (election.each_contest (k - 1) known.0 known.1) in
-          omega (arith, is, valid.few_marks, valid.few_choices)
+          omega (arith, is, valid.few_marks, valid.few_choices, few_choices e)
       | inr past ↦
           let is : option_map_or allowed found 0 ≡ 0 = ap (λ o. option_map_or allowed o 0) past.1 in
           omega (arith, is)

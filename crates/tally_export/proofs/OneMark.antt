@@ -55,7 +55,7 @@ same_behind set k i marked behind =
     ∙ ap (λ n. bit_at n i) parted
 
 -- a mark set that shares no mark with the number in front of it has one
-pub one_mark : (set : ℕ) → 0 < set → set < 2 ^ 32 → bit_and set (set - 1) ≡ 0 → set ≡ 2 ^ trailing_zeros set_word set
+pub one_mark : (set : ℕ) → 0 < set → set < 2 ^ 64 → bit_and set (set - 1) ≡ 0 → set ≡ 2 ^ trailing_zeros set_word set
 one_mark set some fits none =
     let first = bit_at-trailing_zeros set_word set some fits in
     let k = trailing_zeros set_word set in

@@ -18,17 +18,17 @@ use Rattle.tally_export.specs.declared.counts.Tally.{Tally}
 
 -- no ballots have no counts
 pub none_tallied : (e : Election)
-    → IsTallyOf e [] (record { choices = replicate 16 (replicate 32 0); under = replicate 16 0; over = replicate 16 0 })
+    → IsTallyOf e [] (record { choices = replicate 24 (replicate 64 0); under = replicate 24 0; over = replicate 24 0 })
 none_tallied e = record {
-  choices = λ k c known within. ap (λ row. get_or row c 0) (get_or-replicate 16 k (replicate 32 0) [] known)
-      ∙ get_or-replicate 32 c 0 0 within;
-  under = λ k known. get_or-replicate 16 k 0 0 known;
-  over = λ k known. get_or-replicate 16 k 0 0 known;
+  choices = λ k c known within. ap (λ row. get_or row c 0) (get_or-replicate 24 k (replicate 64 0) [] known)
+      ∙ get_or-replicate 64 c 0 0 within;
+  under = λ k known. get_or-replicate 24 k 0 0 known;
+  over = λ k known. get_or-replicate 24 k 0 0 known;
 }
 
 -- what ballots add up to was added in the first contests, and the counts of the others stay
 pub record AddedTo (e : Election) (ballots : List Ballot) (n : ℕ) (before now : Tally) : Type 0 where
-  pub choices : (k c : ℕ) → k < n → c < 32
+  pub choices : (k c : ℕ) → k < n → c < 64
       → choice_count now k c ≡ choice_count before k c + votes e ballots (k + 1) (c + 1)
   pub under : (k : ℕ) → k < n → get_or now.under k 0 ≡ get_or before.under k 0 + undervotes e ballots (k + 1)
   pub over : (k : ℕ) → k < n → get_or now.over k 0 ≡ get_or before.over k 0 + overvotes e ballots (k + 1)

@@ -52,8 +52,8 @@ map_alike f g a (suc n) alike =
     cc
 
 -- the lines of a contest's choices say how many votes each has
-choice_lines : (e : Election) (ballots : List Ballot) (t : Tally) (place : ℕ) → IsTallyOf e ballots t → place < 16
-    → choices_of e (place + 1) ≤ 32
+choice_lines : (e : Election) (ballots : List Ballot) (t : Tally) (place : ℕ) → IsTallyOf e ballots t → place < 24
+    → choices_of e (place + 1) ≤ 64
     → map (λ c. choice_line (place + 1) c (get_or (get_or t.choices place []) (c - 1) 0))
     (range_with_len 1 (choices_of e (place + 1)))
     ≡ map (λ c. choice_line (place + 1) c (votes e ballots (place + 1) c)) (range_with_len 1 (choices_of e (place + 1)))
@@ -66,7 +66,7 @@ choice_lines e ballots t place is known few =
 -- the lines of one contest more were put
 pub contest_put : (e : Election) (ballots : List Ballot) (t : Tally) (place n : ℕ) (before apart now whole : List ℕ)
     → IsTallyOf e ballots t
-    → place < 16 → place < n → choices_of e (place + 1) ≤ 32
+    → place < 24 → place < n → choices_of e (place + 1) ≤ 64
     → before ++ lines_text (flat_map (contest_lines e ballots) (range_with_len (place + 1) (n - place))) ≡ whole
     → apart ≡ before ++ (contest_line (place + 1) (get_or t.under place 0) (get_or t.over place 0) ++ 10 ∷ [])
     → now ≡ apart ++ lines_text (map (λ c. choice_line (place + 1) c (get_or (get_or t.choices place []) (c - 1) 0))

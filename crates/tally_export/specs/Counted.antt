@@ -3,18 +3,18 @@ use Rattle.std.specs.Prelude.{◌≡◌, ◌≢◌, ℕ, ◌+◌, ◌-◌, ◌<�
 use Rattle.std.specs.Int.{bit_at}
 use Rattle.std.specs.List.{slice_index_or}
 use Rattle.store_spec.specs.Ballot.{Ballot}
-use Rattle.store_spec.specs.Election.{Election, most_choices, most_contests}
+use Rattle.store_spec.specs.Election.{Election}
 use Rattle.store_spec.specs.Report.{overvotes, undervotes, votes}
 use Rattle.tally_export.specs.declared.counts.Tally.{Tally}
-use Rattle.ballot_record.specs.declared.election.TheConstants.{MAX_CONTESTS}
+use Rattle.ballot_record.specs.declared.version.TheConstants.{MAX_CONTESTS}
 use Rattle.tally_export.specs.declared.counts.TheConstants.{CHOICES}
 
--- the counts of every choice and contest that there may be
+-- the counts of every choice and contest that there may be in any version
 pub record IsTallyOf (e : Election) (ballots : List Ballot) (tally : Tally) : Type 0 where
-  pub choices : (k c : ℕ) → k < most_contests e → c < most_choices e
+  pub choices : (k c : ℕ) → k < MAX_CONTESTS → c < CHOICES
       → slice_index (slice_index_or tally.choices k []) c ≡ votes e ballots (k + 1) (c + 1)
-  pub under : (k : ℕ) → k < most_contests e → slice_index tally.under k ≡ undervotes e ballots (k + 1)
-  pub over : (k : ℕ) → k < most_contests e → slice_index tally.over k ≡ overvotes e ballots (k + 1)
+  pub under : (k : ℕ) → k < MAX_CONTESTS → slice_index tally.under k ≡ undervotes e ballots (k + 1)
+  pub over : (k : ℕ) → k < MAX_CONTESTS → slice_index tally.over k ≡ overvotes e ballots (k + 1)
 
 -- the count of choice c + 1 of contest k + 1
 abbrev pub choice_count : Tally → ℕ → ℕ → ℕ
@@ -48,9 +48,9 @@ pub record CountsSet (place allowed set : ℕ) (before now : Tally) : Type 0 whe
 
 -- what ballots add up to was added
 pub record AddsBallots (e : Election) (ballots : List Ballot) (before now : Tally) : Type 0 where
-  pub choices : (k c : ℕ) → k < most_contests e → c < most_choices e
+  pub choices : (k c : ℕ) → k < MAX_CONTESTS → c < CHOICES
       → choice_count now k c ≡ choice_count before k c + votes e ballots (k + 1) (c + 1)
-  pub under : (k : ℕ) → k < most_contests e
+  pub under : (k : ℕ) → k < MAX_CONTESTS
       → slice_index now.under k ≡ slice_index before.under k + undervotes e ballots (k + 1)
-  pub over : (k : ℕ) → k < most_contests e
+  pub over : (k : ℕ) → k < MAX_CONTESTS
       → slice_index now.over k ≡ slice_index before.over k + overvotes e ballots (k + 1)

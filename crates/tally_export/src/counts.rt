@@ -30,7 +30,7 @@ fn add_choice(counts: &mut [u64], choice: usize)
 }
 
 /// Counts each choice of a mark set, in one step a mark.
-fn add_choices(counts: &mut [u64], set: u32)
+fn add_choices(counts: &mut [u64], set: u64)
     requires each { length counts.old ≡ CHOICES }
     requires room { (c : ℕ) → c < length counts.old → slice_index counts.old c ≤ 2 ^ 63 }
     ensures { (c : ℕ) → c < length counts.old
@@ -75,7 +75,7 @@ impl Tally {
 
     /// Counts the mark set of a ballot in the contest at a place, where so many marks are allowed. Most sets have one mark
     /// or none.
-    pub fn count_set(&mut self, place: usize, set: u32, allowed: u32)
+    pub fn count_set(&mut self, place: usize, set: u64, allowed: u32)
         requires within { place < MAX_CONTESTS }
         requires some { 1 ≤ allowed }
         requires room { IsUpTo (2 ^ 63) self.old }
@@ -104,7 +104,7 @@ impl Tally {
 
     /// Counts a mark set, however many marks it has.
     #[inline(never)]
-    fn count_marks(&mut self, place: usize, set: u32, allowed: u32)
+    fn count_marks(&mut self, place: usize, set: u64, allowed: u32)
         requires within { place < MAX_CONTESTS }
         requires room { IsUpTo (2 ^ 63) self.old }
         ensures { CountsSet place allowed set self.old self.new }

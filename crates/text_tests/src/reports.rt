@@ -1,10 +1,10 @@
 //! Reports on the example election's store.
 
-ghost use Rattle.std.specs.Prelude.{◌≡◌, IfOk, length};
+ghost use Rattle.std.specs.Prelude.{◌≡◌, ◌≤◌, IfOk, length};
 ghost use Rattle.ballot_record.specs.Record as seen;
 ghost use Rattle.store_spec.specs.Ballot.{IsListing, IsValid};
 
-use ballot_record::{BallotList, Election, MAX_MARK_SETS, Record};
+use ballot_record::{BallotList, Contest, Election, MAX_MARK_SETS, Record};
 use body_store::Closed;
 use outside_io::Memory;
 use std::alloc::Global;
@@ -13,7 +13,7 @@ use std::test::Fail;
 use tally_export::{PutFault, tally, tally_threads};
 
 /// A ballot with these marks.
-fn ballot(rt: &impl Abort, election: &Election, number: u64, first: u32, second: u32) -> Record
+fn ballot(rt: &impl Abort, election: &Election, number: u64, first: u64, second: u64) -> Record
     ensures valid { IsValid election.now (seen.ballot result) }
     ensures number { result.number ≡ number }
 {
@@ -59,6 +59,44 @@ fn a_tally_by_parts(rt: HostRuntime) {
         assert_eq!(rt; tally_threads(&rt, &five, parts), whole, "{parts}");
     }
     assert_eq!(rt; tally_threads(&rt, &empty, 4), tally(&empty));
+}
+
+/// A ballot for the last of 64 choices, and one for all of them.
+fn two_ballots(alloc: Global, rt: &impl Abort, election: &Election) -> Result<BallotList, Memory>
+    ensures election { IfOk result (λ list. list.election ≡ election.now) }
+    ensures listing { IfOk result (λ list. IsListing election.now list.ballots) }
+    ensures count { IfOk result (λ list. length list.ballots ≡ 2) }
+{
+    let mut list = BallotList::new(alloc, election);
+    list.push(&ballot(rt, election, 1, 1 << 63, 0), election)?;
+    list.push(&ballot(rt, election, 2, u64::MAX, 0), election)?;
+    Ok(list)
+}
+
+/// A version 2 election with one contest of 64 choices, of which one may be marked.
+fn wide_election(rt: &impl Abort) -> Election
+    ensures { 2 ≤ result.limit }
+{
+    let contest = Contest {
+        choices: 64,
+        allowed: 1,
+    };
+    let election = Election::from_parts(2, &[contest], &[0b1], 8, 3, 0);
+    election.expect(rt, "a valid election")
+}
+
+#[test]
+fn a_tally_of_64_choices(rt: HostRuntime) {
+    let election = wide_election(&rt);
+    let ballots = two_ballots(rt.alloc(), &rt, &election).expect(&rt, "memory");
+    let two = Closed::from_records(rt.alloc(), &election, &ballots).expect(&rt, "memory");
+    let whole = tally(&two);
+    for (place, votes) in whole.choices[0].iter().enumerate() {
+        assert_eq!(rt; *votes, u64::from(place == 63), "{place}");
+    }
+    assert_eq!(rt; &whole.under[..2], [0, 0].as_slice());
+    assert_eq!(rt; &whole.over[..2], [1, 0].as_slice());
+    assert_eq!(rt; tally_threads(&rt, &two, 2), whole);
 }
 
 #[test]

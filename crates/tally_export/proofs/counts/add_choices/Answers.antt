@@ -8,19 +8,19 @@ use Rattle.tally_export.proofs.counts.add_choices.Goals as goal
 
 -- the marks behind the first
 abbrev without_first : ℕ → ℕ
-without_first marks = bit_and marks (bit_not set_word (1 * 2 ^ trailing_zeros set_word marks % 2 ^ 32))
+without_first marks = bit_and marks (bit_not set_word (1 * 2 ^ trailing_zeros set_word marks % 2 ^ 64))
 
-fewer : (marks : ℕ) → 0 < marks → marks < 2 ^ 32 → without_first marks < marks
+fewer : (marks : ℕ) → 0 < marks → marks < 2 ^ 64 → without_first marks < marks
 fewer marks some fits =
     let first = bit_at-trailing_zeros set_word marks some fits in
     let place = trailing_zeros set_word marks in
     let gone : bit_at (without_first marks) place ≡ 0 = bit_at_clear_same set_word marks place first.0 in
     let other : without_first marks ≢ marks = λ same. let still = ap (λ n. bit_at n place) same in omega
     (arith, gone, first.1, still) in
-    let most : without_first marks ≤ marks = and_le_l marks (bit_not set_word (1 * 2 ^ trailing_zeros set_word marks % 2 ^ 32)) in
+    let most : without_first marks ≤ marks = and_le_l marks (bit_not set_word (1 * 2 ^ trailing_zeros set_word marks % 2 ^ 64)) in
     omega (arith, most, other)
 
-one_counted : (counts : List ℕ) (marks c : ℕ) → length counts ≡ 32 → 0 < marks → marks < 2 ^ 32 → c < 32
+one_counted : (counts : List ℕ) (marks c : ℕ) → length counts ≡ 64 → 0 < marks → marks < 2 ^ 64 → c < 64
     → get_or (set counts (trailing_zeros set_word marks) (get_or counts (trailing_zeros set_word marks) 0 + 1)) c 0 + bit_at
     (without_first marks) c ≡ get_or counts c 0 + bit_at marks c
 one_counted counts marks c size some fits within =
