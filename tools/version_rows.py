@@ -7,6 +7,8 @@ import subprocess
 import sys
 from pathlib import Path
 
+from check_sample import exported, sample
+
 OK = (0, "")
 BAD_ELECTION = (3, "bad election")
 NO_STORE = (9, "no store")
@@ -136,6 +138,9 @@ def example_rows(room):
     for version in (1, 2):
         room.on_medium(f"tally and export in version {version}", room.media[version], room.elections[version], OK,
                        b"tally\nexport\n", told)
+    race = b"start\ncast 2\nlist 1 1\nlist 2 9\nsteps 1 2 2 1 2 1 2 2\n"
+    told = text("steps 8", "cell 4 9", "rest", "cell 4 9", "cell 5 1", "1 1 accepted", "2 1 accepted")
+    table.row("a replay in version 2", ["medium", path, "replay"], OK, race, told)
     torn = IMAGE + b"Z" * 432 + b"\xa7\x3c"
     room.on_medium("a torn bank of version 2", torn, path, OK, b"", after=MEDIUM)
     for place, byte, ending in ((8 + 1, 1, OTHER_ELECTION), (8 + 1, 3, OTHER_ELECTION), (8, 1, OTHER_ELECTION),
@@ -168,6 +173,12 @@ def wide_contest_rows(room):
     none = image(parts, []) * 2 + OPEN_GATES
     room.on_medium("marks up to choice 64", none, path, OK, script, text(*met, *counts, "export 6", *lines), medium)
     room.on_medium("an audit of marks up to choice 64", medium, path, OK, b"", b"canonical 6\n", command="audit")
+    place = table.file("version.medium", medium)
+    drawn = text("sample 6", *lines)
+    table.row("a sample of marks up to choice 64", [place, path, "sample", "6", "6"], OK, output=drawn)
+    told = [*(f"line {k} match" for k in range(1, 7)), "line 7 malformed", "line 8 repeated", "missing 0"]
+    table.row("lines of marks up to choice 64", [place, path, "compare", "6", "6"], OK,
+              text(*lines, "7 1 64/65", "5 1 -/-"), text(*told))
 
 
 def limit_rows(room):
@@ -333,4 +344,6 @@ def county_rows(room):
     room.opinion("the medium of a county", medium.read_bytes(), path)
     told = text(*tally(parts, held), f"export {len(held)}", *held)
     table.row("the night of a county", [str(medium), path, "session"], OK, b"tally\nexport\n", told)
+    drawn = sample("8412", 10, exported(f"export {len(held)}\n" + "".join(line + "\n" for line in held)))
+    table.row("a sample of a county", [str(medium), path, "sample", "8412", "10"], OK, output=text(*drawn))
     table.row("the export of a county, built", ["unused", path, "build"], OK, text(*reversed(held)), bank)
