@@ -13,8 +13,8 @@ offered : (o : Option Contest) (P : ℕ → Type 0) → P 0 → ((contest : Cont
 offered None P none some = none
 offered (Some contest) P none some = some contest refl
 
-few_choices : (e : Election) (k : ℕ) → IsElection e → choices_of e k ≤ most_choices e
-few_choices e k valid =
+pub choices_fit : (e : Election) (k : ℕ) → IsElection e → choices_of e k ≤ most_choices e
+choices_fit e k valid =
     cond_both (eqb k 0) 0 (option_map_or (λ contest. contest.choices) (slice_get e.contests (k - 1)) 0) (λ n. n ≤ most_choices e) (λ _. omega arith)
     (λ _. offered (slice_get e.contests (k - 1)) (λ n. n ≤ most_choices e) (omega arith)
     (λ contest found. (subst (IsContest e) (get_or_from_slice_get e.contests (k - 1) contest contest found) (valid.each_contest (k - 1) contest (slice_get_within e.contests (k - 1) contest found))).few_choices))
@@ -25,7 +25,7 @@ no_choices e k past = rw (ne_eqb k 0 (λ zero. omega arith), slice_get_past e.co
 small_within : (e : Election) (x : Ballot) → IsElection e → IsValid e x → (i : ℕ) → i < MARK_SETS → get_or x.marks i 0 < 2 ^ most_choices e
 small_within e x election valid i within =
     let place : i + 1 - 1 ≡ i = omega arith in
-    let few : choices_on e x.style (i + 1) ≤ most_choices e = cond_both (is_on_style e x.style (i + 1)) (choices_of e (i + 1)) 0 (λ n. n ≤ most_choices e) (λ _. few_choices e (i + 1) election) (λ _. omega arith) in
+    let few : choices_on e x.style (i + 1) ≤ most_choices e = cond_both (is_on_style e x.style (i + 1)) (choices_of e (i + 1)) 0 (λ n. n ≤ most_choices e) (λ _. choices_fit e (i + 1) election) (λ _. omega arith) in
     let below : get_or x.marks i 0 < 2 ^ choices_on e x.style (i + 1) =
     let IsBelow : ℕ → Type 0 = λ j. get_or x.marks j 0 < 2 ^ choices_on e x.style (i + 1) in
     subst IsBelow place (valid.marked (i + 1) (omega arith) (omega arith)) in

@@ -180,7 +180,12 @@ fn put_parts(bytes: &[u8], election: &Election, parts: &mut Record)
         front[0], front[1], front[2], front[3], front[4], front[5], front[6], front[7],
     ]);
     parts.style = rest[0];
-    put_sets(&rest[1..], election.set_bytes(), election.contests(), &mut parts.marks);
+    put_sets(
+        &rest[1..],
+        election.set_bytes(),
+        election.contests(),
+        &mut parts.marks,
+    );
 }
 
 fn are_zero(bytes: &[u8]) -> bool

@@ -4,7 +4,10 @@ ghost use Rattle.ballot_record.specs.LineReading.{digits_at, four_at, eight_at, 
 ghost use Rattle.ballot_record.specs.Line.{set_seen, sets_seen, line_seen};
 ghost use Rattle.ballot_record.specs.Record.{ballot};
 
-use crate::{Election, LineFault, MAX_CHOICES, MAX_CONTESTS, MAX_MARK_SETS, MAX_STYLES, Record, most_choices, most_contests};
+use crate::{
+    Election, LineFault, MAX_CHOICES, MAX_CONTESTS, MAX_MARK_SETS, MAX_STYLES, Record,
+    most_choices, most_contests,
+};
 
 /// What follows a byte, where it stands first.
 fn after_byte(bytes: &[u8], byte: u8) -> Option<&[u8]>

@@ -11,7 +11,7 @@ use Rattle.store_spec.specs.Ballot.{Ballot, IsBallotSet, IsListing, IsValid, num
 use Rattle.store_spec.specs.Election.{Election, example, choices_on}
 
 abbrev pub blank : ℕ → Ballot
-blank number = record { number = number; style = 1; marks = replicate 16 0 }
+blank number = record { number = number; style = 1; marks = replicate 24 0 }
 
 blank_valid : (number : ℕ) → 1 ≤ number → number < 2 ^ 64 → IsValid example (blank number)
 blank_valid number some short = record {
@@ -21,7 +21,7 @@ blank_valid number some short = record {
   known_style = omega arith;
   every_set = refl;
   marked = λ k first last.
-      let none : slice_index (replicate 16 0) (k - 1) ≡ 0 = get_or-replicate 16 (k - 1) 0 0 (omega arith) in
+      let none : slice_index (replicate 24 0) (k - 1) ≡ 0 = get_or-replicate 24 (k - 1) 0 0 (omega arith) in
       subst (λ (n : ℕ). n < 2 ^ choices_on example 1 k) (sym none) (pow_pos (choices_on example 1 k));
 }
 

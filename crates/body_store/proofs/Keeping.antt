@@ -57,15 +57,15 @@ cell_within e cell within =
 
 -- the ballot in a cell with a number, as its bytes spell it
 pub cell_spelled : (e : Election) (ballots : List Ballot) (bytes numbers : List ℕ) (cell : ℕ) → Shows e ballots bytes numbers → cell < cell_count e → get_or numbers cell 0 ≢ 0
-    → Some (ballot_at (length e.contests) (cell_at e cell bytes)) ≡ ballot_of ballots (get_or numbers cell 0)
+    → Some (ballot_at e (cell_at e cell bytes)) ≡ ballot_of ballots (get_or numbers cell 0)
 cell_spelled e ballots bytes numbers cell shown within some =
     let held = shown_held e ballots bytes numbers shown in
     let number = get_or numbers cell 0 in
     let same : get_or (cells_of e ballots) cell 0 ≡ number = ap (λ ns. get_or ns cell 0) (sym shown.cells) in
     let found = ballot_known ballots number (subst (λ (v : ℕ). Contains (numbers_of ballots) v) same (known_in_layout e ballots shown.election held cell (λ z. some (sym same ∙ z)))) in
     let own = All-contains (IsValid e) ballots found.0 shown.listing.valid found.2 in
-    ap (λ bytes. Some (ballot_at (length e.contests) (cell_at e cell bytes))) shown.image
-    ∙ ap (λ bytes. Some (ballot_at (length e.contests) bytes))
+    ap (λ bytes. Some (ballot_at e (cell_at e cell bytes))) shown.image
+    ∙ ap (λ bytes. Some (ballot_at e bytes))
     (cell_of_image e ballots cell shown.election held within ∙ ap (cell_bytes e ballots) same ∙ cell_of_found e ballots number found.0 found.1)
     ∙ ap (λ b. Some b) (spells_itself e found.0 shown.election own)
     ∙ sym found.1

@@ -36,8 +36,8 @@ new_waits e f ballots place size behind election valid same wide within =
 -- they are not too many
 pub few_bytes : (e : Election) (count size place : ℕ) → IsElection e → size ≡ cell_size e → count ≤ most_ballots → place < count → place * size < 2 ^ 32
 few_bytes e count size place election wide few within =
-    let narrow : size ≤ 73 = omega (arith, wide, cell_fits e election, largest_cell_width) in
-    let fits : place * size ≤ most_ballots * 73 = mul-le-mul (let le : place ≤ most_ballots = omega arith in le) narrow in
+    let narrow : size ≤ 201 = omega (arith, wide, cell_fits e election, largest_cell_width) in
+    let fits : place * size ≤ most_ballots * 201 = mul-le-mul (let le : place ≤ most_ballots = omega arith in le) narrow in
     omega arith
 
 -- no number of theirs is 0

@@ -47,19 +47,19 @@ none_with_zero e ballots valid = ⊎_elim
 -- ---- what the bytes spell
 
 one_spelled : (e : Election) (ballots : List Ballot) (number : ℕ) (rest : List ℕ) → IsElection e → All (IsValid e) ballots → (number ≢ 0 → Contains (numbers_of ballots) number)
-    → (if number == 0 then [] else ballot_at (length e.contests) (take (cell_size e) (cell_bytes e ballots number ++ rest)) ∷ []) ≡ as_list (ballot_of ballots number)
+    → (if number == 0 then [] else ballot_at e (take (cell_size e) (cell_bytes e ballots number ++ rest)) ∷ []) ≡ as_list (ballot_of ballots number)
 one_spelled e ballots number rest election valid known =
     let front = take (cell_size e) (cell_bytes e ballots number ++ rest) in
     elim (cases_eq number 0) [
       | inl none ↦
-          cond-true (number == 0) [] (ballot_at (length e.contests) front ∷ []) (eq-eqb number 0 none)
+          cond-true (number == 0) [] (ballot_at e front ∷ []) (eq-eqb number 0 none)
           ∙ sym (ap (λ n. as_list (ballot_of ballots n)) none ∙ ap as_list (none_with_zero e ballots valid))
       | inr some ↦
           let found = ballot_known ballots number (known some) in
           let own = All-contains (IsValid e) ballots found.0 valid found.2 in
           let bytes : front ≡ ballot_bytes e found.0 = take_at (cell_bytes e ballots number) rest (cell_size e) (length-cell_bytes e ballots number election valid) ∙ cell_of_found e ballots number found.0 found.1 in
-          cond-false (number == 0) [] (ballot_at (length e.contests) front ∷ []) (ne_eqb number 0 some)
-          ∙ ap (λ bytes. ballot_at (length e.contests) bytes ∷ []) bytes
+          cond-false (number == 0) [] (ballot_at e front ∷ []) (ne_eqb number 0 some)
+          ∙ ap (λ bytes. ballot_at e bytes ∷ []) bytes
           ∙ ap (λ b. b ∷ []) (spells_itself e found.0 election own)
           ∙ sym (ap as_list found.1)
     ]

@@ -26,5 +26,5 @@ held_in ballots (number ∷ numbers) = as_list (ballot_of ballots number) ++ hel
 abbrev pub spelled_in : Election → List ℕ → List ℕ → List Ballot
 spelled_in e [] bytes = []
 spelled_in e (number ∷ numbers) bytes =
-    (if number == 0 then [] else ballot_at (length e.contests) (take (cell_size e) bytes) ∷ [])
+    (if number == 0 then [] else ballot_at e (take (cell_size e) bytes) ∷ [])
     ++ spelled_in e numbers (drop (cell_size e) bytes)

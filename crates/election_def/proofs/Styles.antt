@@ -1,5 +1,5 @@
 -- The set of a style's contests, number by number.
-use Rattle.std.proofs.Common.{◌≡◌, ℕ, zero, suc, ◌+◌, ◌-◌, ◌*◌, ◌%◌, ◌^◌, ◌<◌, ◌≤◌, inl, inr, Bool, true, false, cond, leb, List, [], ◌∷◌, length, get_or, map, drop, Option, Some, None, refl, sym, ap, ◌∙◌, arith, bit_or, mod-eq_of_lt, zero-add, pow_mono, pow-suc}
+use Rattle.std.proofs.Common.{◌≡◌, ℕ, zero, suc, ◌+◌, ◌-◌, ◌*◌, ◌%◌, ◌^◌, ◌<◌, ◌≤◌, inl, inr, Bool, true, false, cond, leb, List, [], ◌∷◌, length, get_or, map, drop, Option, Some, None, refl, sym, ap, ◌∙◌, arith, bit_or, mod-eq_of_lt, pow_mono, pow-suc}
 use Rattle.std.specs.Prelude.{option_map, option_and_then, All}
 use Rattle.std.specs.List.{AllZip}
 use Rattle.std.specs.List.Sorted.{IsStrictlyIncreasing}
@@ -153,7 +153,7 @@ joined set bit (Some rest) = ap (λ n. Some n) (omega arith)
 doubled : (k : ℕ) → 1 ≤ k → 2 ^ k ≡ 2 * 2 ^ (k - 1)
 doubled k some = let same : k ≡ suc (k - 1) = omega arith in ap (λ n. 2 ^ n) same ∙ pow-suc 2 (k - 1) ∙ omega arith
 
-pub set_grows : (set last k : ℕ) → set < 2 ^ last → last < k → k ≤ 16 → (bit_or set (1 * 2 ^ (k - 1) % 2 ^ 32) ≡ set + 2 ^ (k - 1)) × (set + 2 ^ (k - 1) < 2 ^ k)
+pub set_grows : (set last k : ℕ) → set < 2 ^ last → last < k → k ≤ 24 → (bit_or set (1 * 2 ^ (k - 1) % 2 ^ 32) ≡ set + 2 ^ (k - 1)) × (set + 2 ^ (k - 1) < 2 ^ k)
 set_grows set last k small above few =
     let le : last ≤ k - 1 = omega arith in
     let below : set < 2 ^ (k - 1) = omega (arith, pow_mono {i = last} {j = k - 1} le) in

@@ -1,7 +1,7 @@
 -- The election that a text describes: rules on the value that `serde_json` reads of the text.
 --
 -- In that value an object has each key once: of a key that stands twice in the text the last one counts.
-use Rattle.std.specs.Prelude.{◌≡◌, ℕ, ◌-◌, ◌/◌, ◌%◌, ◌^◌, ◌<◌, ◌≤◌, ◌⊎◌, List, [], ◌∷◌, length, codes, All, Contains, sum_by, slice_index, if◌then◌else◌, nat_lt, Option, Some, IsSome, IsSomeAnd, IsUtf8, option_and_then}
+use Rattle.std.specs.Prelude.{◌≡◌, ℕ, ◌-◌, ◌/◌, ◌%◌, ◌^◌, ◌<◌, ◌≤◌, ◌⊎◌, List, [], ◌∷◌, length, codes, All, Contains, sum_by, slice_index, if◌then◌else◌, nat_lt, Option, None, Some, IsSome, IsSomeAnd, IsUtf8, option_and_then}
 use Rattle.std.specs.List.{AllZip}
 use Rattle.std.specs.List.Sorted.{IsStrictlyIncreasing}
 use Rattle.serde_json.specs.Data.{Data, Items, no_items, item}
@@ -75,10 +75,17 @@ pub record IsSaltText (text : List ℕ) (salt : ℕ) : Type 0 where
 -- ---- an election
 
 abbrev pub election_keys : List (List ℕ)
-election_keys = codes "contests" ∷ codes "styles" ∷ codes "limit" ∷ codes "bits" ∷ codes "salt" ∷ []
+election_keys =
+    codes "version" ∷ codes "contests" ∷ codes "styles" ∷ codes "limit" ∷ codes "bits" ∷ codes "salt" ∷ []
+
+-- the number at the key `version`, or 1 where there is no such key
+abbrev pub IsVersionIn : Data → ℕ → Type 0
+IsVersionIn d version =
+    (number_at (codes "version") d ≡ Some version) ⊎ ((get (codes "version") d ≡ None) × (version ≡ 1))
 
 pub record IsElectionIn (d : Data) (e : Election) : Type 0 where
   pub no_other_key : HasNoKeyBut election_keys d
+  pub version : IsVersionIn d e.version
   pub contests : IsSomeAnd (get (codes "contests") d)
       (IsArrayOf (IsContestIn (most_choices e)) e.contests)
   pub styles : IsSomeAnd (get (codes "styles") d)

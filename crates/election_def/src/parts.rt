@@ -1,12 +1,12 @@
-ghost use Rattle.std.specs.Prelude.{◌≡◌, ◌↔◌, ℕ, ◌<◌, ◌≤◌, map, string_bytes, bytes_eq, Some, IsTrue, IsSome, IsNone, IfSome};
+ghost use Rattle.std.specs.Prelude.{◌≡◌, ◌↔◌, ℕ, ◌<◌, ◌≤◌, ◌^◌, map, string_bytes, bytes_eq, Some, IsTrue, IsSome, IsNone, IfSome};
 ghost use Rattle.std.specs.List.{list_any, list_all};
 ghost use Rattle.std.specs.Map.{keys_of};
 ghost use Rattle.serde_json.specs.View.{view};
 ghost use Rattle.store_spec.specs.Election as definition;
 ghost use Rattle.ballot_record.specs.Contest.{contest_of};
-ghost use Rattle.election_def.specs.Text.{HasNoKeyBut, IsContestIn, IsStyleIn, IsSaltText, IsSaltDigit, contest_keys, salt_digit, number_in, number_at};
+ghost use Rattle.election_def.specs.Text.{HasNoKeyBut, IsVersionIn, IsContestIn, IsStyleIn, IsSaltText, IsSaltDigit, contest_keys, salt_digit, number_in, number_at};
 
-use ballot_record::{Contest, MAX_CHOICES, MAX_CONTESTS};
+use ballot_record::{Contest, MAX_CONTESTS};
 use serde_json::{Map, Value};
 
 const CONTEST_KEYS: [&str; 2] = ["choices", "allowed"];
@@ -57,22 +57,33 @@ pub fn number_at(value: &Value, key: &str, most: u64) -> Option<u64>
     number(value.get(key)?, most)
 }
 
-/// The contest that a value describes.
-pub fn contest(value: &Value) -> Option<Contest>
-    ensures value { IfSome result (λ c. IsContestIn MAX_CHOICES (view value.now) (contest_of c)) }
+/// The version that the value of an election says, where it is at most `u16::MAX`: 1 where there is no such key.
+pub fn version(value: &Value) -> Option<u16>
+    ensures value { IfSome result (λ v. IsVersionIn (view value.now) v) }
+    ensures refused { IsNone result → (v : ℕ) → IsVersionIn (view value.now) v → 2 ^ 16 ≤ v }
+{
+    match value.get("version") {
+        Some(version) => Some(number(version, u16::MAX as u64)? as u16),
+        None => Some(1),
+    }
+}
+
+/// The contest of so many choices at most that a value describes.
+pub fn contest(value: &Value, most: u8) -> Option<Contest>
+    ensures value { IfSome result (λ c. IsContestIn most (view value.now) (contest_of c)) }
     ensures refused { IsNone result
-        → (c : definition.Contest) → ¬ IsContestIn MAX_CHOICES (view value.now) c }
+        → (c : definition.Contest) → ¬ IsContestIn most (view value.now) c }
 {
     if !has_no_key_but(value, &CONTEST_KEYS) {
         return None;
     }
-    let choices = number_at(value, "choices", MAX_CHOICES as u64)?;
+    let choices = number_at(value, "choices", most as u64)?;
     let allowed = number_at(value, "allowed", choices)?;
     let contest = Contest {
         choices: choices as u8,
         allowed: allowed as u8,
     };
-    if contest.is_valid() {
+    if contest.is_valid(most) {
         Some(contest)
     } else {
         None

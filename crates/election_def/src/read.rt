@@ -5,27 +5,26 @@ ghost use Rattle.ballot_record.specs.Contest.{contests_of};
 ghost use Rattle.election_def.specs.Text.{IsArrayOf, IsContestIn, IsStyleIn, IsElectionIn, Describes, IsElectionText};
 
 use crate::ElectionFault;
-use crate::parts::{contest, has_no_key_but, number_at, salt, style};
-use ballot_record::{Contest, Election, MAX_BITS, MAX_CHOICES, MAX_CONTESTS, MAX_LIMIT};
+use crate::parts::{contest, has_no_key_but, number_at, salt, style, version};
+use ballot_record::{Contest, Election, MAX_BITS, MAX_CONTESTS, MAX_LIMIT, most_choices};
 use serde_json::Value;
 use std::alloc::Global;
 
-const ELECTION_KEYS: [&str; 5] = ["contests", "styles", "limit", "bits", "salt"];
+const ELECTION_KEYS: [&str; 6] = ["version", "contests", "styles", "limit", "bits", "salt"];
 
-/// The contests that an array describes.
-fn contests(alloc: Global, value: &Value) -> Result<Vec<Contest>, ElectionFault>
+/// The contests of so many choices at most that an array describes.
+fn contests(alloc: Global, value: &Value, most: u8) -> Result<Vec<Contest>, ElectionFault>
     ensures contests { IfOk result
-        (λ v. IsArrayOf (IsContestIn MAX_CHOICES) (contests_of v.items) (view value.now)) }
+        (λ v. IsArrayOf (IsContestIn most) (contests_of v.items) (view value.now)) }
     ensures refused { result ≡ Err ElectionFault.NotElection
-        → (cs : List definition.Contest)
-        → ¬ IsArrayOf (IsContestIn MAX_CHOICES) cs (view value.now) }
+        → (cs : List definition.Contest) → ¬ IsArrayOf (IsContestIn most) cs (view value.now) }
 {
     let Some(items) = value.as_array() else {
         return Err(ElectionFault::NotElection);
     };
     let mut contests = Vec::new(alloc);
     for item in items {
-        let Some(contest) = contest(item) else {
+        let Some(contest) = contest(item, most) else {
             return Err(ElectionFault::NotElection);
         };
         contests.push(contest)?;
@@ -62,8 +61,9 @@ fn election_in(alloc: Global, value: &Value) -> Result<Election, ElectionFault>
     if !has_no_key_but(value, &ELECTION_KEYS) {
         return Err(ElectionFault::NotElection);
     }
+    let version = version(value).ok_or(ElectionFault::NotElection)?;
     let contests_value = value.get("contests").ok_or(ElectionFault::NotElection)?;
-    let contests = contests(alloc, contests_value)?;
+    let contests = contests(alloc, contests_value, most_choices(version))?;
     if contests.len() > MAX_CONTESTS {
         return Err(ElectionFault::NotElection);
     }
@@ -76,7 +76,7 @@ fn election_in(alloc: Global, value: &Value) -> Result<Election, ElectionFault>
         .and_then(Value::as_str)
         .ok_or(ElectionFault::NotElection)?;
     let salt = salt(salt_text).ok_or(ElectionFault::NotElection)?;
-    Election::from_parts(&contests, &styles, limit as u32, bits as u8, salt).ok_or(
+    Election::from_parts(version, &contests, &styles, limit as u32, bits as u8, salt).ok_or(
         ElectionFault::NotElection,
     )
 }

@@ -184,7 +184,7 @@ fn large_election(rt: &impl Abort) -> Election {
             allowed: 2,
         },
     ];
-    Election::from_parts(&contests, &[0b11], 32_768, 16, 0).expect(rt, "an election")
+    Election::from_parts(1, &contests, &[0b11], 32_768, 16, 0).expect(rt, "an election")
 }
 
 /// The store of the one ballot `1 1 -/-`, whose cell is the one at byte 688,583 of its bank.

@@ -129,7 +129,7 @@ fn more_than_the_limit(rt: HostRuntime) {
             allowed: 2,
         },
     ];
-    let election = Election::from_parts(&contests, &[0b11], 1, 0, 0).expect(&rt, "an election");
+    let election = Election::from_parts(1, &contests, &[0b11], 1, 0, 0).expect(&rt, "an election");
     let mut bytes = [0; 66];
     bytes[..32].copy_from_slice(&HEADER);
     bytes[10] = 0;

@@ -329,7 +329,7 @@ fn crowded(rt: &impl Abort) -> Election {
         choices: 1,
         allowed: 1,
     }];
-    Election::from_parts(&contests, &[1], 300, 2, 0).expect(rt, "an election")
+    Election::from_parts(1, &contests, &[1], 300, 2, 0).expect(rt, "an election")
 }
 
 fn all_withdrawn(rt: &impl Abort, replies: &[Vec<WithdrawReply>]) {

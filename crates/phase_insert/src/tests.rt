@@ -81,7 +81,7 @@ const EIGHT: [(usize, u64); 8] = [
 ];
 
 /// A ballot with these marks in the first contest.
-fn ballot(number: u64, set: u32) -> Record {
+fn ballot(number: u64, set: u64) -> Record {
     let mut marks = [0; MAX_MARK_SETS];
     marks[0] = set;
     Record {
@@ -308,7 +308,7 @@ fn words_seen(rt: HostRuntime) -> Result<(), Fail> {
 fn one_wins<R: Threads + Abort + Sync>(
     rt: &R,
     alloc: Global,
-    set: u32,
+    set: u64,
     refused: Final,
 ) -> Result<(), Memory> {
     let election = Election::example();
@@ -319,7 +319,7 @@ fn one_wins<R: Threads + Abort + Sync>(
     Ok(())
 }
 
-fn assert_won(rt: &impl Abort, one: &Closed, finals: &[Vec<Final>], set: u32, refused: Final) {
+fn assert_won(rt: &impl Abort, one: &Closed, finals: &[Vec<Final>], set: u64, refused: Final) {
     let first = finals.first().and_then(|list| list.first());
     let (replies, kept) = if first == Some(&Accepted) {
         ([Accepted, refused], 1)
@@ -385,7 +385,7 @@ fn crowded(rt: &impl Abort) -> Election {
         choices: 1,
         allowed: 1,
     }];
-    Election::from_parts(&contests, &[1], 300, 2, 0).expect(rt, "an election")
+    Election::from_parts(1, &contests, &[1], 300, 2, 0).expect(rt, "an election")
 }
 
 fn all_accepted(rt: &impl Abort, finals: &[Vec<Final>]) {

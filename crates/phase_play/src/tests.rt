@@ -15,7 +15,7 @@ use std::thread::Threads;
 use step_core::WithdrawReply::{Absent, Gone, Withdrawn};
 
 /// A ballot with these marks in the first contest.
-fn ballot(number: u64, set: u32) -> Record {
+fn ballot(number: u64, set: u64) -> Record {
     let mut marks = [0; MAX_MARK_SETS];
     marks[0] = set;
     Record {

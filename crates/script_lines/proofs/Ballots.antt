@@ -11,19 +11,21 @@ use Rattle.ballot_record.specs.Contest.{contest_of}
 use Rattle.ballot_record.specs.declared.contest.Contest.{Contest}
 use Rattle.script_lines.specs.Generated.{ballot_at, cast_line, marks_at, number_at, style_at}
 use Rattle.script_lines.specs.Parts.{group_at}
+use Rattle.ballot_record.proofs.Versions.{contests_fit}
+use Rattle.store_spec.specs.Ballot.{MARK_SETS}
 use Rattle.store_spec.specs.BallotLine.{IsGroup, choices_in, group_text, line_of_ballot, mark_set, slash, space}
-use Rattle.store_spec.specs.Election.{Election, IsElection, choices_of, is_on_style}
+use Rattle.store_spec.specs.Election.{Election, IsElection, choices_of, is_on_style, most_choices}
 
 -- ---- the marks of one contest
 
 no_choice : (e : Election) → choices_in e 0 ≡ []
 no_choice e = choices_in-mark_set e [] (record { within = λ k d lt. absurd (omega arith); ascending = λ i within. absurd (omega arith) })
 
-one_choice : (e : Election) (c : ℕ) → c < 32 → choices_in e (2 ^ c) ≡ (1 + c) ∷ []
+one_choice : (e : Election) (c : ℕ) → c < most_choices e → choices_in e (2 ^ c) ≡ (1 + c) ∷ []
 one_choice e c few =
     let set : mark_set ((1 + c) ∷ []) ≡ 2 ^ c = mark_set-cons (1 + c) [] ∙ let same : 1 + c - 1 ≡ c = omega arith in ap (λ n. 2 ^ n + 0) same ∙ omega arith in
     let group : IsGroup e ((1 + c) ∷ []) = record {
-      within = All-cons (λ n. (1 ≤ n) × (n ≤ 32)) (1 + c) [] (omega arith, omega arith) (λ k d lt. absurd (omega arith));
+      within = All-cons (λ n. (1 ≤ n) × (n ≤ most_choices e)) (1 + c) [] (omega arith, omega arith) (λ k d lt. absurd (omega arith));
       ascending = λ i within. absurd (omega arith);
     } in
     ap (choices_in e) (sym set) ∙ choices_in-mark_set e ((1 + c) ∷ []) group
@@ -45,7 +47,7 @@ pub choices_offered : (e : Election) (k : ℕ) (contest : Contest) → 1 ≤ k �
 choices_offered e k contest some found = rw (ne_eqb k 0 (λ zero. omega arith), found) refl
 
 -- any other marks one choice
-pub marked : (e : Election) (i k choices : ℕ) → i % 7 ≢ 0 → is_on_style e (style_at e i) k ≡ true → choices_of e k ≡ choices → 1 ≤ choices → choices ≤ 32
+pub marked : (e : Election) (i k choices : ℕ) → i % 7 ≢ 0 → is_on_style e (style_at e i) k ≡ true → choices_of e k ≡ choices → 1 ≤ choices → choices ≤ most_choices e
     → choices_in e (marks_at e i k) ≡ (1 + (i + k) % choices) ∷ []
 marked e i k choices other on offered some few =
     ap (λ (b : Bool). choices_in e (cond b (cond (eqb (i % 7) 0) 0 (2 ^ ((i + k) % choices_of e k))) 0)) on
@@ -74,9 +76,9 @@ mapped e i [] = refl
 mapped e i (k ∷ ks) = ap (λ rest. group_at e i k ∷ rest) (mapped e i ks)
 
 -- the line of a ballot has a group for each contest
-groups_of_ballot : (e : Election) (seed i : ℕ) → IsElection e → map group_text (line_of_ballot e (ballot_at e seed i)).groups ≡ map (group_at e i) (range_with_len 1 (length e.contests))
+pub groups_of_ballot : (e : Election) (seed i : ℕ) → IsElection e → map group_text (line_of_ballot e (ballot_at e seed i)).groups ≡ map (group_at e i) (range_with_len 1 (length e.contests))
 groups_of_ballot e seed i election =
-    ap (λ sets. map group_text (map (choices_in e) sets)) (take-map-range_with_len (marks_at e i) 1 16 (length e.contests) election.few_contests)
+    ap (λ sets. map group_text (map (choices_in e) sets)) (take-map-range_with_len (marks_at e i) 1 MARK_SETS (length e.contests) (contests_fit e election))
     ∙ mapped e i (range_with_len 1 (length e.contests))
 
 -- the parts of a line that casts, each before what was put before it

@@ -9,13 +9,13 @@ use Rattle.std.proofs.lemmas.Option.{slice_get-get_or}
 use Rattle.ballot_record.proofs.OnStyle.{past_contests}
 use Rattle.script_lines.proofs.Numbers.{apart, some}
 use Rattle.script_lines.specs.Generated.{ballot_at, ballot_count, cast_ballots, marks_at, number_at, style_at, withdrawn_numbers}
-use Rattle.store_spec.specs.Ballot.{Ballot, IsValid, numbers_of}
+use Rattle.store_spec.specs.Ballot.{Ballot, IsValid, MARK_SETS, numbers_of}
 use Rattle.store_spec.specs.Election.{Contest, Election, IsElection, choices_of, choices_on, is_on_style}
 
 -- ---- the marks
 
 -- a contest on a style has a choice
-some_choice : (e : Election) (s k : ℕ) → IsElection e → 1 ≤ s → s ≤ length e.styles → 1 ≤ k → is_on_style e s k ≡ true → 1 ≤ choices_of e k
+pub some_choice : (e : Election) (s k : ℕ) → IsElection e → 1 ≤ s → s ≤ length e.styles → 1 ≤ k → is_on_style e s k ≡ true → 1 ≤ choices_of e k
 some_choice e s k election some_style known positive on =
     elim (cases_lt (length e.contests) k) [
       | inl past ↦ absurd (let off : true ≡ false = sym on ∙ past_contests e s k election (λ zero. omega arith) known past in cc)
@@ -50,9 +50,9 @@ valid_ballot e seed i election small positive few =
       short_number = mod-lt ((seed + i) * 0xD1342543DE82EF95) (omega arith);
       some_style = omega arith;
       known_style = omega arith;
-      every_set = length-map-range_with_len (marks_at e i) 1 16;
+      every_set = length-map-range_with_len (marks_at e i) 1 MARK_SETS;
       marked = λ k first last.
-          let set : get_or (ballot_at e seed i).marks (k - 1) 0 ≡ marks_at e i k = get_or-map-range_with_len (marks_at e i) 1 16 (k - 1) k 0 (omega arith) (omega arith) in
+          let set : get_or (ballot_at e seed i).marks (k - 1) 0 ≡ marks_at e i k = get_or-map-range_with_len (marks_at e i) 1 MARK_SETS (k - 1) k 0 (omega arith) (omega arith) in
           subst (λ n. n < 2 ^ choices_on e (style_at e i) k) (sym set) (marks_fit e i k election first);
     }
 

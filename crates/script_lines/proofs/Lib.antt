@@ -1,4 +1,5 @@
 pub mod Ballots
+mod Brief
 pub mod Decimals
 pub mod Entries
 pub mod Forms

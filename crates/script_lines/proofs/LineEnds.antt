@@ -8,7 +8,8 @@ use Rattle.std.proofs.lemmas.Fmt.{decimal_by_steps}
 use Rattle.std.proofs.lemmas.List.Elements.{All-append, All-cons, All-nil, All-push, All-same, recursion_from_All}
 use Rattle.script_lines.proofs.Meanings.{short}
 use Rattle.store_spec.specs.BallotLine.{IsGroup, IsRecordLine, group_text, line_text}
-use Rattle.store_spec.specs.Election.{Election}
+use Rattle.ballot_record.proofs.Versions.{few_choices}
+use Rattle.store_spec.specs.Election.{Election, most_choices}
 use Rattle.store_spec.specs.Input.{begun_with, lines_of, taken_lines}
 use Rattle.store_spec.specs.Report.{lines_text}
 use Rattle.store_spec.specs.ScriptLine.{IsTab, Says, ScriptLine, Work, item_text, open_text, work_text}
@@ -40,13 +41,13 @@ all_joined between [] some each = nothing
 all_joined between (x ∷ []) some each = each.0
 all_joined between (x ∷ y ∷ parts) some each = joined x (between ∷ join_with_byte between (y ∷ parts)) each.0 (behind between (join_with_byte between (y ∷ parts)) some (all_joined between (y ∷ parts) some each.1))
 
-choices : (cs : List ℕ) → AllByRecursion (λ c. (1 ≤ c) × (c ≤ 32)) cs → AllByRecursion ArePrinted (map decimal cs)
-choices [] each = tt
-choices (c ∷ cs) each = (digits c (omega (arith, each.0.1)), choices cs each.1)
+choices : (most : ℕ) → most ≤ 64 → (cs : List ℕ) → AllByRecursion (λ c. (1 ≤ c) × (c ≤ most)) cs → AllByRecursion ArePrinted (map decimal cs)
+choices most few [] each = tt
+choices most few (c ∷ cs) each = (digits c (omega (arith, each.0.1)), choices most few cs each.1)
 
 group : (e : Election) (cs : List ℕ) → IsGroup e cs → ArePrinted (group_text cs)
 group e [] is = behind 45 [] (omega arith) nothing
-group e (c ∷ cs) is = all_joined 44 (map decimal (c ∷ cs)) (omega arith) (choices (c ∷ cs) (recursion_from_All (λ n. (1 ≤ n) × (n ≤ 32)) (c ∷ cs) is.within))
+group e (c ∷ cs) is = all_joined 44 (map decimal (c ∷ cs)) (omega arith) (choices (most_choices e) (few_choices e) (c ∷ cs) (recursion_from_All (λ n. (1 ≤ n) × (n ≤ most_choices e)) (c ∷ cs) is.within))
 
 groups : (e : Election) (gs : List (List ℕ)) → AllByRecursion (IsGroup e) gs → AllByRecursion ArePrinted (map group_text gs)
 groups e [] each = tt
@@ -130,10 +131,8 @@ lines_taken e (bytes ∷ lines) (line ∷ said) says =
     ap (λ (b : Bool). cond b (Some bytes) None ∷ taken_lines lines) (le-leb (length bytes) 8192 (omega (arith, short e bytes line says.0)))
     ∙ ap (λ rest. Some bytes ∷ rest) (lines_taken e lines said says.1)
 
--- how long their text is
-pub text_length : (e : Election) (lines : List (List ℕ)) (said : List ScriptLine) → AllZip (Says e) lines said → length (lines_text lines) ≤ 1429 * length lines
-text_length e [] [] says = omega arith
-text_length e [] (line ∷ said) says = absurd says
-text_length e (bytes ∷ lines) [] says = absurd says
-text_length e (bytes ∷ lines) (line ∷ said) says =
-    omega (arith, short e bytes line says.0, text_length e lines said says.1, length-append (bytes ++ 10 ∷ []) (lines_text lines), length-append bytes (10 ∷ []))
+-- how long the text of lines is that are no longer than this
+pub text_length : (lines : List (List ℕ)) → AllByRecursion (λ line. length line ≤ 200) lines → length (lines_text lines) ≤ 201 * length lines
+text_length [] each = omega arith
+text_length (bytes ∷ lines) each =
+    omega (arith, each.0, text_length lines each.1, length-append (bytes ++ 10 ∷ []) (lines_text lines), length-append bytes (10 ∷ []))

@@ -3,6 +3,7 @@ use Rattle.std.proofs.Common.{◌≡◌, ℕ, ◌+◌, ◌^◌, ◌<◌, ◌≤�
 use Rattle.std.proofs.lemmas.Fmt.{decimal_injective, length-decimal-le}
 use Rattle.std.specs.Fmt.{decimal}
 use Rattle.std.specs.Prelude.{IfNone, IfSome, MatchOption, Option, None, Some}
+use Rattle.ballot_record.proofs.Versions.{few_bytes}
 use Rattle.ballot_record.proofs.LineLaws.{one_ballot, short_lines}
 use Rattle.script_lines.proofs.Forms.{no_work, one_item, one_work}
 use Rattle.script_lines.specs.Line.{script_line}
@@ -90,29 +91,29 @@ command_meant e bytes (Some l) none told = (told e, tt)
 -- ---- how long a line is
 
 -- the longest word of a work is `withdraw`
-work_length : (w : Work) → length (work_text w) ≤ 8
+pub work_length : (w : Work) → length (work_text w) ≤ 8
 work_length Casting = omega arith
 work_length Withdrawing = omega arith
 work_length Finding = omega arith
 
 -- the words and the tabulator of what is for a list
-item_length : (w : Work) (tab : ℕ) (rest : List ℕ) → IsTab tab → length (item_text w tab rest) ≤ 12 + length rest
+pub item_length : (w : Work) (tab : ℕ) (rest : List ℕ) → IsTab tab → length (item_text w tab rest) ≤ 12 + length rest
 item_length w tab rest is_tab =
     let digits = length-decimal-le 2 tab (omega arith) (omega (arith, is_tab.1)) (omega (arith, is_tab.1)) in
     let word = work_length w in
     omega (arith, length-append (work_text w) (32 ∷ (decimal tab ++ 32 ∷ rest)), length-append (decimal tab) (32 ∷ rest))
 
 -- a line for a list with a number is short
-number_length : (w : Work) (tab number : ℕ) (bytes : List ℕ) → IsTab tab → number < 2 ^ 64 → bytes ≡ item_text w tab (decimal number) → length bytes ≤ 1428
+number_length : (w : Work) (tab number : ℕ) (bytes : List ℕ) → IsTab tab → number < 2 ^ 64 → bytes ≡ item_text w tab (decimal number) → length bytes ≤ 4428
 number_length w tab number bytes is_tab small spelled = omega (arith, ap length spelled, item_length w tab (decimal number) is_tab, length-decimal-le 20 number (omega arith) (omega (arith, small)) small)
 
 -- a line that says something is short: the longest one casts
-pub short : (e : Election) (bytes : List ℕ) (line : ScriptLine) → Says e bytes line → length bytes ≤ 1428
+pub short : (e : Election) (bytes : List ℕ) (line : ScriptLine) → Says e bytes line → length bytes ≤ 4428
 short e bytes (Open w tabs) says =
     let digits = length-decimal-le 2 tabs (omega arith) (omega (arith, says.0.1)) (omega (arith, says.0.1)) in
     omega (arith, ap length says.1, work_length w, length-append (work_text w) (32 ∷ decimal tabs))
-short e bytes (Cast tab b) says = omega (arith, ap length says.2, item_length Casting tab says.1 says.0, short_lines e says.1 (says.3.line, says.3.reads))
-short e bytes (CastInvalid tab) says = omega (arith, ap length says.2, item_length Casting tab says.1 says.0, short_lines e says.1 says.3)
+short e bytes (Cast tab b) says = omega (arith, ap length says.2, item_length Casting tab says.1 says.0, short_lines e says.1 (says.3.line, says.3.reads), few_bytes e)
+short e bytes (CastInvalid tab) says = omega (arith, ap length says.2, item_length Casting tab says.1 says.0, short_lines e says.1 says.3, few_bytes e)
 short e bytes (Withdraw tab number) says = number_length Withdrawing tab number bytes says.0 says.1.1 says.2
 short e bytes (Find tab number) says = number_length Finding tab number bytes says.0 says.1.1 says.2
 short e bytes Close says = omega (arith, ap length says)

@@ -4,6 +4,7 @@ use Rattle.std.specs.Prelude.{Some, codes}
 use Rattle.std.specs.List.{AllZip, range_with_len}
 use Rattle.ballot_record.proofs.LineLaws.{spells_its_ballot}
 use Rattle.outside_io.proofs.FirstLine.{all_within}
+use Rattle.script_lines.proofs.Brief.{all_brief}
 use Rattle.script_lines.proofs.GeneratedBallots.{valid_ballot}
 use Rattle.script_lines.proofs.Left.{length_generated}
 use Rattle.script_lines.proofs.LineEnds.{lines_again, lines_taken, text_length}
@@ -73,7 +74,7 @@ read_again e seed count tabs election small is = lines_again e (generated e seed
 pub within_limit : (e : Election) (seed count tabs : ℕ) → IsElection e → seed < 2 ^ 32 → IsTab tabs → length (generated_text e seed count tabs) ≤ script_limit
 within_limit e seed count tabs election small is =
     let few = election.few_ballots in
-    omega (arith, length_generated e seed count tabs, text_length e (generated e seed count tabs) (generated_script e seed count tabs) (all_say e seed count tabs election small is))
+    omega (arith, length_generated e seed count tabs, text_length (generated e seed count tabs) (all_brief e seed count tabs election is))
 
 pub all_taken : (e : Election) (seed count tabs : ℕ) → IsElection e → seed < 2 ^ 32 → IsTab tabs → taken_within script_limit (generated_text e seed count tabs) ≡ map (λ line. Some line) (generated e seed count tabs)
 all_taken e seed count tabs election small is =

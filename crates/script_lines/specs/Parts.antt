@@ -37,4 +37,4 @@ group_at e i k = group_text (choices_in e (marks_at e i k))
 
 -- room for any line of the script, with its end
 abbrev pub line_room : ℕ
-line_room = 512
+line_room = 704

@@ -17,7 +17,7 @@ use outside_io::Memory;
 const SPREAD: u64 = 0xD134_2543_DE82_EF95;
 
 /// Room for any line of the generated script, with its end.
-pub const LINE_ROOM: usize = 512;
+pub const LINE_ROOM: usize = 704;
 
 /// The number of ballot `i`.
 fn ballot_number(seed: u32, i: u64) -> u64
@@ -54,12 +54,12 @@ fn marked_choice(i: u32, style: u8, k: usize, election: &Election) -> Option<u64
 /// Puts the groups of ballot `i` where they end at `end`, with slashes between them, and says where they begin.
 fn put_groups(i: u32, style: u8, election: &Election, line: &mut [u8], end: usize) -> usize
     requires style { style ≡ style_at election.now i }
-    requires room { 336 ≤ end }
+    requires room { 504 ≤ end }
     requires within { end ≤ length line.old }
     ensures text { drop result line.new
         ≡ join_with_byte slash (map (group_at election.now i) (range_with_len 1 (length election.now.contests)))
         ++ drop end line.old }
-    ensures start { (result ≤ end) × (end ≤ result + 336) }
+    ensures start { (result ≤ end) × (end ≤ result + 504) }
 {
     let mut contest = election.contests();
     let mut start = put_group(marked_choice(i, style, contest, election), line, end);
@@ -74,10 +74,10 @@ fn put_groups(i: u32, style: u8, election: &Election, line: &mut [u8], end: usiz
 /// Puts the line that casts ballot `i` where it ends at `end`, and says where it begins.
 fn put_cast(i: u32, seed: u32, tabs: u32, election: &Election, line: &mut [u8], end: usize) -> usize
     requires tabs { 1 ≤ tabs }
-    requires room { 500 ≤ end }
+    requires room { 700 ≤ end }
     requires within { end ≤ length line.old }
     ensures text { drop result line.new ≡ cast_line election.now seed tabs i ++ drop end line.old }
-    ensures start { (result ≤ end) × (end ≤ result + 500) }
+    ensures start { (result ≤ end) × (end ≤ result + 700) }
 {
     let style = ballot_style(i, election);
     let groups = put_groups(i, style, election, line, end);
@@ -90,10 +90,10 @@ fn put_cast(i: u32, seed: u32, tabs: u32, election: &Election, line: &mut [u8], 
 /// Puts the line that withdraws the `j`-th of the tenth ballots where it ends at `end`, and says where it begins.
 fn put_withdraw(j: u32, seed: u32, tabs: u32, line: &mut [u8], end: usize) -> usize
     requires tabs { 1 ≤ tabs }
-    requires room { 500 ≤ end }
+    requires room { 700 ≤ end }
     requires within { end ≤ length line.old }
     ensures text { drop result line.new ≡ withdraw_line seed tabs j ++ drop end line.old }
-    ensures start { (result ≤ end) × (end ≤ result + 500) }
+    ensures start { (result ≤ end) × (end ≤ result + 700) }
 {
     let number = put_number(ballot_number(seed, 10 * u64::from(j)), line, end);
     let tab = put_word(1 + u64::from(j % tabs), line, number);
@@ -110,10 +110,10 @@ fn put_part(
     end: usize,
 ) -> usize
     requires tabs { 1 ≤ tabs }
-    requires room { 500 ≤ end }
+    requires room { 700 ≤ end }
     requires within { end ≤ length line.old }
     ensures text { drop result line.new ≡ part_text election.now seed tabs part ++ drop end line.old }
-    ensures start { (result ≤ end) × (end ≤ result + 500) }
+    ensures start { (result ≤ end) × (end ≤ result + 700) }
 {
     match part {
         Part::OpenCasting => {
@@ -145,7 +145,7 @@ fn put_line_at(
 ) -> Option<usize>
     requires index { 1 ≤ index }
     requires tabs { 1 ≤ tabs }
-    requires room { 500 ≤ end }
+    requires room { 700 ≤ end }
     requires within { end ≤ length line.old }
     ensures some { is_some result ≡ is_some (slice_get (generated election.now seed count tabs) (index - 1)) }
     ensures text { IfSome result (λ start. drop start line.new

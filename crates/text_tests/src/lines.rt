@@ -1,14 +1,14 @@
 mod generated;
 
-use ballot_record::{Election, Record};
+use ballot_record::{Election, MAX_MARK_SETS, Record};
 use script_lines::{Entry, Line, read_entry, read_script_line};
 
 fn read(line: &str) -> Option<Line> {
     read_script_line(line.as_bytes(), &Election::example())
 }
 
-fn ballot(number: u64, sets: [u32; 2]) -> Record {
-    let mut marks = [0; 16];
+fn ballot(number: u64, sets: [u64; 2]) -> Record {
+    let mut marks = [0; MAX_MARK_SETS];
     marks[0] = sets[0];
     marks[1] = sets[1];
     Record {

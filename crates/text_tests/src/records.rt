@@ -1,10 +1,10 @@
 #![tactic(auto, unfolding(store_spec::specs::Election::cell_size))]
 
-use ballot_record::{CellRead, Election, LineFault, LineWhy, Record, take_cell};
+use ballot_record::{CellRead, Election, LineFault, LineWhy, MAX_MARK_SETS, Record, take_cell};
 use std::test::Fail;
 
-fn record_of(number: u64, style: u8, sets: [u32; 3]) -> Record {
-    let mut marks = [0; 16];
+fn record_of(number: u64, style: u8, sets: [u64; 3]) -> Record {
+    let mut marks = [0; MAX_MARK_SETS];
     marks[0] = sets[0];
     marks[1] = sets[1];
     marks[2] = sets[2];
@@ -16,7 +16,7 @@ fn record_of(number: u64, style: u8, sets: [u32; 3]) -> Record {
 }
 
 // Records of the example election, and whether each is a ballot of it.
-const RECORDS: [(u64, u8, [u32; 3], bool); 8] = [
+const RECORDS: [(u64, u8, [u64; 3], bool); 8] = [
     (9, 1, [0b1, 0, 0], true),
     (u64::MAX, 1, [0b1111, 0b111, 0], true),
     (0, 1, [0b1, 0, 0], false),

@@ -67,7 +67,7 @@ fn precinct() -> Option<Election> {
             allowed: 1,
         },
     ];
-    Election::from_parts(&contests, &[0b111, 0b11], 2000, 11, 0)
+    Election::from_parts(1, &contests, &[0b111, 0b11], 2000, 11, 0)
 }
 
 #[test]

@@ -32,6 +32,6 @@ of_cell-requires g c =
 pub returns : goal.returns
 returns g c =
     ap (λ b. Some b) c.of_cell.ensures
-    ∙ ap (λ bytes. Some (ballot_at (length c.args.election.now.contests) bytes))
+    ∙ ap (λ bytes. Some (ballot_at c.args.election.now bytes))
     (c.bytes_in-bytes.ensures ∙ ap (λ size. cell_in size c.args.cell c.args.image.now) c.cell_bytes.ensures.size)
     ∙ cell_spelled c.args.election.now g.ballots c.args.image.now c.args.cells.now c.args.cell c.requires.0 c.requires.1 c.if-cells-cell-eq0.false

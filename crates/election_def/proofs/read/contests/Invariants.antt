@@ -6,4 +6,4 @@ use Rattle.election_def.specs.Text.{IsContestIn}
 use Rattle.election_def.proofs.read.contests.Given as goal
 
 abbrev pub invariant-loop-item : goal.invariant-loop-item
-invariant-loop-item l = AllZip (IsContestIn 32) (map view (take l.item-index l.item-items)) (contests_of l.contests.items)
+invariant-loop-item l = AllZip (IsContestIn l.most) (map view (take l.item-index l.item-items)) (contests_of l.contests.items)

@@ -1,4 +1,5 @@
 use Rattle.std.proofs.Common.{◌≡◌, ◌+◌, ◌-◌, ◌++◌, drop, length, ap, sym, ◌∙◌, arith}
+use Rattle.ballot_record.proofs.Versions.{contests_fit}
 use Rattle.script_lines.proofs.Ballots.{group_before, groups_from}
 use Rattle.script_lines.proofs.generated.put_groups.Goals as goal
 use Rattle.store_spec.specs.BallotLine.{group_text}
@@ -45,4 +46,4 @@ returns-clause-text c =
     ∙ ap (λ n. groups_from e c.args.i 1 n ++ behind) all
 
 pub returns-clause-start : goal.returns-clause-start
-returns-clause-start c = let valid = c.contests-contest.ensures.valid in (omega arith, omega (arith, valid.few_contests))
+returns-clause-start c = let e = c.args.election.now in let valid = c.contests-contest.ensures.valid in (omega arith, omega (arith, contests_fit e valid))
