@@ -18,8 +18,10 @@ SIZES = (8_000, 32_768)
 
 
 def election(contests, bits, limit=32_768):
-    return {"contests": [{"choices": 4, "allowed": 1}] * contests, "styles": [list(range(1, contests + 1))],
-            "limit": limit, "bits": bits, "salt": "0000000000000000"}
+    """Contests of 4 choices; with more than 16 contests of 64 choices, in version 2."""
+    parts = {"contests": [{"choices": 4, "allowed": 1}] * contests, "styles": [list(range(1, contests + 1))],
+             "limit": limit, "bits": bits, "salt": "0000000000000000"}
+    return parts if contests <= 16 else {**parts, "contests": [{"choices": 64, "allowed": 1}] * contests, "version": 2}
 
 
 def ballots(count, contests):
@@ -27,7 +29,8 @@ def ballots(count, contests):
     numbers = {}
     while len(numbers) < count:
         numbers[rng.getrandbits(64) | 1] = None
-    return [(number, "/".join(rng.choice("-1234") for _ in range(contests))) for number in numbers]
+    groups = "-1234" if contests <= 16 else ["-", *map(str, range(1, 65))]
+    return [(number, "/".join(rng.choice(groups) for _ in range(contests))) for number in numbers]
 
 
 def phase(kind, lines, tabs):
@@ -66,6 +69,14 @@ WORKS = [
     Work("large, 16 contests", lambda cast, _: (["large", "--seed", "1", "--count", str(len(cast)), "--tabs", "4"],
                                                 [], []), contests=16),
     Work("one export, 16 contests", on_full(lambda numbers: ["export"]), contests=16),
+    Work("casts, 24 contests of 64 choices", casts(1), contests=24),
+    Work("large, 24 contests of 64 choices",
+         lambda cast, _: (["large", "--seed", "1", "--count", str(len(cast)), "--tabs", "4"], [], []), contests=24),
+    Work("build, 24 contests of 64 choices", lambda cast, _: (["build"], [], cast), contests=24),
+    Work("ten tallies, 24 contests of 64 choices", on_full(lambda numbers: ["tally"] * 10), contests=24),
+    Work("one export, 24 contests of 64 choices", on_full(lambda numbers: ["export"]), contests=24),
+    Work("audit, 24 contests of 64 choices",
+         lambda cast, _: (["audit"], phase("cast", cast, 1) + ["checkpoint"], []), contests=24),
 ]
 
 

@@ -22,6 +22,7 @@ from typing import NamedTuple
 LONGEST_ELECTION = 1_048_576
 DEEPEST = 127
 OPEN_GATE = 0xA7
+VERSIONS = {1: (16, 32, "I"), 2: (24, 64, "Q")}  # most contests, most choices, a mark set of 4 or of 8 bytes
 
 
 class Finding(Exception):
@@ -29,6 +30,7 @@ class Finding(Exception):
 
 
 class Election(NamedTuple):
+    version: int
     choices: list  # of each contest, how many choices it has
     styles: list  # of each style, the numbers of its contests, from 1
     limit: int
@@ -36,10 +38,10 @@ class Election(NamedTuple):
     salt: int
 
     def header(self):
-        return struct.pack(">8sHBBIQ8x", b"HIBSTORE", 1, self.bits, len(self.choices), self.limit, self.salt)
+        return struct.pack(">8sHBBIQ8x", b"HIBSTORE", self.version, self.bits, len(self.choices), self.limit, self.salt)
 
     def cell_format(self):
-        return struct.Struct(f">QB{len(self.choices)}I")  # number, style, mark sets
+        return struct.Struct(f">QB{len(self.choices)}{VERSIONS[self.version][2]}")  # number, style, mark sets
 
     def cell_count(self):
         return 2**self.bits + self.limit
@@ -90,18 +92,21 @@ def parse_election(text):
     text = text.decode("utf-8")
     require(depth(text) <= DEEPEST, "nested too deep")
     document = JSON.decode(text)
+    require(type(document) is dict, "no object")
+    version = whole(document.pop("version", 1), 1, 2)
     contests, styles, limit, bits, salt = members(document, "contests", "styles", "limit", "bits", "salt")
+    most_contests, most_choices, _ = VERSIONS[version]
     choices = []
-    for contest in array(contests, 16):
+    for contest in array(contests, most_contests):
         choice_count, allowed = members(contest, "choices", "allowed")
-        choices.append(whole(choice_count, 1, 32))
+        choices.append(whole(choice_count, 1, most_choices))
         whole(allowed, 1, choice_count)
     for style in array(styles, 255):
         previous = 0
         for contest in array(style, len(choices)):
             previous = whole(contest, previous + 1, len(choices))
     require(type(salt) is str and re.fullmatch("[0-9a-f]{16}", salt), "no salt")
-    return Election(choices, styles, whole(limit, 1, 32768), whole(bits, 0, 16), int(salt, 16))
+    return Election(version, choices, styles, whole(limit, 1, 32768), whole(bits, 0, 16), int(salt, 16))
 
 
 def is_valid(election, ballot):

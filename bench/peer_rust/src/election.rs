@@ -1,19 +1,26 @@
-//! The election, the record line and the record's cell bytes.
+//! The election, the record line and the record's cell bytes, in both versions.
 //! A record is kept as its cell bytes ("row") from the moment its line is read.
 
 use crate::json::{self, Json};
 
-pub const MAX_ROW: usize = 9 + 4 * 16;
+pub const MAX_ROW: usize = 9 + 8 * 24;
+/// bytes of the longest record line
+pub const MAX_LINE: usize = 4416;
 const GOLDEN: u64 = 0x9E37_79B9_7F4A_7C15;
 
 pub struct Election {
+    pub version: u8,
     pub choices: Vec<u8>,
     pub allowed: Vec<u8>,
     pub styles: Vec<u32>,
-    /// masks[(style - 1) * contests + k]: the choices that may be marked, 0 off the style
-    pub masks: Vec<u32>,
+    /// for each style and contest the choices that may not be marked
+    barred: Vec<u64>,
+    /// the same as they lie in a row, in words
+    barred_row: Vec<u32>,
     pub limit: usize,
     pub order: Order,
+    /// bytes of a mark set
+    pub mark: usize,
     /// bytes of a cell
     pub row: usize,
     pub cells: usize,
@@ -40,7 +47,28 @@ pub enum LineFault {
     Invalid,
 }
 
+/// The most contests and the most choices of a version.
+fn most(version: u8) -> (usize, u64) {
+    if version == 2 { (24, 64) } else { (16, 32) }
+}
+
 impl Election {
+    fn new(version: u8, choices: Vec<u8>, allowed: Vec<u8>, styles: Vec<u32>, limit: usize, order: Order) -> Election {
+        let mark = if version == 2 { 8 } else { 4 };
+        let (mut barred, mut barred_row) = (Vec::new(), Vec::new());
+        for set in &styles {
+            for (k, n) in choices.iter().enumerate() {
+                let free = if set >> k & 1 == 1 { u64::MAX >> (64 - *n as u32) } else { 0 };
+                let bytes = (!free).to_be_bytes();
+                barred.push(!free);
+                barred_row.extend(bytes[8 - mark..].chunks_exact(4).map(|b| u32::from_ne_bytes(b.try_into().unwrap())));
+            }
+        }
+        let row = 9 + mark * choices.len();
+        let cells = (1usize << order.bits) + limit;
+        Election { version, choices, allowed, styles, barred, barred_row, limit, order, mark, row, cells, bank: 32 + cells * row }
+    }
+
     pub fn contests(&self) -> usize {
         self.choices.len()
     }
@@ -52,7 +80,7 @@ impl Election {
     pub fn header(&self) -> [u8; 32] {
         let mut h = [0u8; 32];
         h[..8].copy_from_slice(b"HIBSTORE");
-        h[9] = 1;
+        h[9] = self.version;
         h[10] = self.order.bits;
         h[11] = self.contests() as u8;
         h[12..16].copy_from_slice(&(self.limit as u32).to_be_bytes());
@@ -62,10 +90,15 @@ impl Election {
 
     pub fn read(bytes: &[u8]) -> Option<Election> {
         let Json::Object(top) = json::read(bytes)? else { return None };
-        if top.len() != 5 {
+        let get = |name: &str| top.iter().find(|(k, _)| k == name).map(|(_, v)| v);
+        let version = match get("version") {
+            Some(v) => whole(v, 1, 2)? as u8,
+            None => 1,
+        };
+        if top.len() != 5 + get("version").is_some() as usize {
             return None;
         }
-        let get = |name: &str| top.iter().find(|(k, _)| k == name).map(|(_, v)| v);
+        let (most_contests, most_choices) = most(version);
         let Json::Array(contests) = get("contests")? else { return None };
         let Json::Array(styles) = get("styles")? else { return None };
         let limit = whole(get("limit")?, 1, 32_768)? as usize;
@@ -75,7 +108,7 @@ impl Election {
             return None;
         }
         let salt = u64::from_str_radix(salt, 16).ok()?;
-        if contests.is_empty() || contests.len() > 16 || styles.is_empty() || styles.len() > 255 {
+        if contests.is_empty() || contests.len() > most_contests || styles.is_empty() || styles.len() > 255 {
             return None;
         }
         let mut choices = Vec::new();
@@ -86,7 +119,7 @@ impl Election {
                 return None;
             }
             let get = |name: &str| c.iter().find(|(k, _)| k == name).map(|(_, v)| v);
-            let n = whole(get("choices")?, 1, 32)?;
+            let n = whole(get("choices")?, 1, most_choices)?;
             choices.push(n as u8);
             allowed.push(whole(get("allowed")?, 1, n)? as u8);
         }
@@ -104,41 +137,51 @@ impl Election {
             }
             sets.push(set);
         }
-        let mut masks = Vec::new();
-        for set in &sets {
-            for (k, n) in choices.iter().enumerate() {
-                masks.push(if set >> k & 1 == 1 { u32::MAX >> (32 - *n as u32) } else { 0 });
-            }
-        }
-        let row = 9 + 4 * choices.len();
-        let cells = (1usize << bits) + limit;
-        Some(Election {
-            choices,
-            allowed,
-            styles: sets,
-            masks,
-            limit,
-            order: Order { bits, salt },
-            row,
-            cells,
-            bank: 32 + cells * row,
-        })
+        Some(Election::new(version, choices, allowed, sets, limit, Order { bits, salt }))
     }
 
     /// Are these cell bytes, whose number is not 0, those of a valid record?
+    #[inline]
     pub fn valid_row(&self, row: &[u8]) -> bool {
         let style = row[8] as usize;
         if style == 0 || style > self.styles.len() {
             return false;
         }
-        let masks = &self.masks[(style - 1) * self.contests()..style * self.contests()];
-        row[9..].chunks_exact(4).zip(masks).all(|(b, m)| u32::from_be_bytes([b[0], b[1], b[2], b[3]]) & !m == 0)
+        let words = (self.row - 9) / 4;
+        let barred = &self.barred_row[(style - 1) * words..style * words];
+        let word = |b: &[u8]| u32::from_ne_bytes(b.try_into().unwrap());
+        row[9..].chunks_exact(4).zip(barred).fold(0, |all, (b, m)| all | (word(b) & m)) == 0
+    }
+
+    /// The mark set of contest k, counted from 0, in these cell bytes.
+    #[inline(always)]
+    pub fn marks(&self, row: &[u8], k: usize) -> u64 {
+        if self.mark == 4 {
+            u32::from_be_bytes(row[9 + 4 * k..13 + 4 * k].try_into().unwrap()) as u64
+        } else {
+            u64::from_be_bytes(row[9 + 8 * k..17 + 8 * k].try_into().unwrap())
+        }
+    }
+
+    #[inline(always)]
+    pub fn put_marks(&self, row: &mut [u8], k: usize, set: u64) {
+        if self.mark == 4 {
+            row[9 + 4 * k..13 + 4 * k].copy_from_slice(&(set as u32).to_be_bytes());
+        } else {
+            row[9 + 8 * k..17 + 8 * k].copy_from_slice(&set.to_be_bytes());
+        }
     }
 
     /// Reads a record line and puts the record's cell bytes at the front of `row`.
     #[inline]
     pub fn read_record(&self, line: &[u8], row: &mut [u8; MAX_ROW]) -> Result<u64, LineFault> {
+        if self.mark == 4 { self.read_as::<4>(line, row) } else { self.read_as::<8>(line, row) }
+    }
+
+    #[inline]
+    fn read_as<const MARK: usize>(&self, line: &[u8], row: &mut [u8; MAX_ROW]) -> Result<u64, LineFault> {
         use LineFault::*;
+        let (most_contests, most_choices) = most(if MARK == 4 { 1 } else { 2 });
         let mut at = 0;
         let number = decimal(line, &mut at).ok_or(Malformed)?;
         if line.get(at) != Some(&b' ') {
@@ -150,20 +193,22 @@ impl Election {
             return Err(Malformed);
         }
         at += 1;
-        let mut marks = [0u32; 16];
+        let contests = self.contests();
+        let barred = self.barred.get((style as usize - 1) * contests..style as usize * contests).unwrap_or(&[]);
         let mut groups = 0;
+        let mut wrong = 0;
         loop {
-            if groups == 16 {
+            if groups >= most_contests {
                 return Err(Malformed);
             }
-            let mut set = 0u32;
+            let mut set = 0u64;
             if line.get(at) == Some(&b'-') {
                 at += 1;
             } else {
                 let mut last = 0;
                 loop {
-                    let c = decimal(line, &mut at).ok_or(Malformed)?;
-                    if c > 32 || c <= last {
+                    let c = choice(line, &mut at).ok_or(Malformed)?;
+                    if c > most_choices || c <= last {
                         return Err(Malformed);
                     }
                     set |= 1 << (c - 1);
@@ -175,7 +220,8 @@ impl Election {
                     }
                 }
             }
-            marks[groups] = set;
+            row[9 + MARK * groups..9 + MARK * groups + MARK].copy_from_slice(&set.to_be_bytes()[8 - MARK..]);
+            wrong |= barred.get(groups).map_or(u64::MAX, |b| set & b);
             groups += 1;
             match line.get(at) {
                 None => break,
@@ -183,43 +229,70 @@ impl Election {
                 Some(_) => return Err(Malformed),
             }
         }
-        if groups != self.contests() || style as usize > self.styles.len() {
-            return Err(Invalid);
-        }
-        let masks = &self.masks[(style as usize - 1) * groups..style as usize * groups];
         row[..8].copy_from_slice(&number.to_be_bytes());
         row[8] = style as u8;
-        for k in 0..groups {
-            if marks[k] & !masks[k] != 0 {
-                return Err(Invalid);
-            }
-            row[9 + 4 * k..13 + 4 * k].copy_from_slice(&marks[k].to_be_bytes());
-        }
-        Ok(number)
+        if groups == contests && wrong == 0 { Ok(number) } else { Err(Invalid) }
     }
 
     /// Appends the record line of these cell bytes, without a line end.
+    #[inline]
     pub fn put_record(&self, row: &[u8], out: &mut Vec<u8>) {
-        put_number(out, u64::from_be_bytes(row[..8].try_into().unwrap()));
-        out.push(b' ');
-        put_number(out, row[8] as u64);
-        for (k, b) in row[9..].chunks_exact(4).enumerate() {
-            out.push(if k == 0 { b' ' } else { b'/' });
-            let mut set = u32::from_be_bytes([b[0], b[1], b[2], b[3]]);
-            if set == 0 {
-                out.push(b'-');
-            }
-            let mut first = true;
-            while set != 0 {
-                if !first {
-                    out.push(b',');
-                }
-                first = false;
-                put_number(out, set.trailing_zeros() as u64 + 1);
-                set &= set - 1;
-            }
+        out.reserve(MAX_LINE);
+        if self.mark == 4 {
+            put_line(row, row[9..].chunks_exact(4).map(|b| u32::from_be_bytes(b.try_into().unwrap()) as u64), out)
+        } else {
+            put_line(row, row[9..].chunks_exact(8).map(|b| u64::from_be_bytes(b.try_into().unwrap())), out)
         }
     }
+}
+
+/// For each choice a comma, its one or two digits, and how many bytes that are.
+const CHOICES: [[u8; 4]; 65] = {
+    let mut all = [[b',', 0, 0, 2]; 65];
+    let mut c = 1;
+    while c < 65 {
+        let (tens, ones) = (b'0' + c as u8 / 10, b'0' + c as u8 % 10);
+        all[c] = if c < 10 { [b',', ones, 0, 2] } else { [b',', tens, ones, 3] };
+        c += 1;
+    }
+    all
+};
+
+#[inline]
+fn put_line(row: &[u8], sets: impl Iterator<Item = u64>, out: &mut Vec<u8>) {
+    put_number(out, u64::from_be_bytes(row[..8].try_into().unwrap()));
+    out.push(b' ');
+    put_number(out, row[8] as u64);
+    // 64 choices with their commas have 183 bytes
+    let mut group = [0; 192];
+    for (k, mut set) in sets.enumerate() {
+        out.push(if k == 0 { b' ' } else { b'/' });
+        if set == 0 {
+            out.push(b'-');
+            continue;
+        }
+        let mut at = 0;
+        while set != 0 && at < 188 {
+            let text = &CHOICES[set.trailing_zeros() as usize + 1];
+            group[at..at + 4].copy_from_slice(text);
+            at += text[3] as usize;
+            set &= set - 1;
+        }
+        out.extend_from_slice(&group[1..at]);
+    }
+}
+
+/// A choice of one or two digits without a leading zero; a third digit stays and is then wrong.
+#[inline(always)]
+fn choice(line: &[u8], at: &mut usize) -> Option<u64> {
+    let digit = |i: usize| line.get(i).map(|b| b.wrapping_sub(b'0')).filter(|d| *d < 10);
+    let mut v = digit(*at).filter(|d| *d > 0)?;
+    *at += 1;
+    if let Some(d) = digit(*at) {
+        v = v * 10 + d;
+        *at += 1;
+    }
+    Some(v as u64)
 }
 
 fn whole(v: &Json, from: u64, to: u64) -> Option<u64> {

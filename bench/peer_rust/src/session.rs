@@ -207,6 +207,8 @@ pub struct Session<'a> {
     items: Vec<Vec<Item>>,
     numbers: Vec<Vec<u64>>,
     rows: Vec<u8>,
+    /// the cell bytes of the line that is read
+    row: [u8; MAX_ROW],
     tables: Tables,
     /// only `closed N`, `checkpoint N` and the tally are written
     quiet: bool,
@@ -290,6 +292,7 @@ impl<'a> Session<'a> {
             items: Vec::new(),
             numbers: Vec::new(),
             rows: Vec::new(),
+            row: [0; MAX_ROW],
             tables: Tables::new(),
             quiet,
             watch: Watch { on: std::env::var_os("PEER_TIMES").is_some(), last: std::time::Instant::now() },
@@ -314,8 +317,7 @@ impl<'a> Session<'a> {
 
     #[inline]
     pub fn line(&mut self, text: &[u8], index: u64, disk: &mut Disk, out: &mut Out) -> Result<(), End> {
-        let mut row = [0; MAX_ROW];
-        let Some(line) = read_line(text, self.e, &mut row) else {
+        let Some(line) = read_line(text, self.e, &mut self.row) else {
             Session::refused(out, index, b"malformed", b"");
             return if out.spill() { Ok(()) } else { Err(End::Write) };
         };
@@ -330,7 +332,7 @@ impl<'a> Session<'a> {
             return if out.spill() { Ok(()) } else { Err(End::Write) };
         }
         match line {
-            Line::Cast(t, Ok(number)) if t <= self.items.len() => self.queue(t, number, &row),
+            Line::Cast(t, Ok(number)) if t <= self.items.len() => self.queue(t, number),
             Line::Number(_, t, number) if t <= self.numbers.len() => self.numbers[t - 1].push(number),
             Line::Cast(..) | Line::Number(..) => {
                 Session::refused(out, index, b"invalid", b"");
@@ -346,9 +348,9 @@ impl<'a> Session<'a> {
     }
 
     #[inline]
-    fn queue(&mut self, t: usize, number: u64, row: &[u8; MAX_ROW]) {
+    fn queue(&mut self, t: usize, number: u64) {
         let at = self.rows.len() as u32;
-        self.rows.extend_from_slice(&row[..self.e.row]);
+        self.rows.extend_from_slice(&self.row[..self.e.row]);
         self.items[t - 1].push(Item { number, row: at });
     }
 
@@ -438,18 +440,14 @@ impl<'a> Session<'a> {
             self.rows.reserve(n as usize * e.row);
             for i in 1..=n {
                 let style = i as usize % e.styles.len();
-                let mut row = [0; MAX_ROW];
-                row[..8].copy_from_slice(&number(i).to_be_bytes());
-                row[8] = style as u8 + 1;
-                if i % 7 != 0 {
-                    for k in 0..e.contests() {
-                        if e.styles[style] >> k & 1 == 1 {
-                            let c = (i + k as u64 + 1) % e.choices[k] as u64;
-                            row[9 + 4 * k..13 + 4 * k].copy_from_slice(&(1u32 << c).to_be_bytes());
-                        }
-                    }
+                self.row[..8].copy_from_slice(&number(i).to_be_bytes());
+                self.row[8] = style as u8 + 1;
+                for k in 0..e.contests() {
+                    let marked = i % 7 != 0 && e.styles[style] >> k & 1 == 1;
+                    let c = (i + k as u64 + 1) % e.choices[k] as u64;
+                    e.put_marks(&mut self.row, k, (marked as u64) << c);
                 }
-                self.queue(1 + (i % t) as usize, number(i), &row);
+                self.queue(1 + (i % t) as usize, number(i));
             }
             self.close(out)?;
             self.open(Phase::Withdrawing, tabs, out);
@@ -518,6 +516,7 @@ pub fn build(e: &Election) -> BuildEnd {
     let mut cells = vec![0u64; e.cells];
     let mut at: Vec<u32> = vec![0; e.cells];
     let mut rows: Vec<u8> = Vec::new();
+    let mut row = [0; MAX_ROW];
     let (mut held, mut index) = (0, 0);
     loop {
         let range = match lines.next(|| true) {
@@ -528,7 +527,6 @@ pub fn build(e: &Election) -> BuildEnd {
             Next::Fault => return BuildEnd::ReadFault,
         };
         index += 1;
-        let mut row = [0; MAX_ROW];
         let Ok(number) = e.read_record(lines.line(range), &mut row) else { return BuildEnd::Bad(index) };
         let mut p = e.order.home(number);
         while cells[p] > number {
