@@ -1,5 +1,5 @@
 -- A list of ballots of one election, as callers see it, and what the bytes of cells spell.
-use Rattle.std.specs.Prelude.{ℕ, zero, suc, ◌-◌, List, [], ◌∷◌, ◌++◌, drop, length, take}
+use Rattle.std.specs.Prelude.{ℕ, zero, suc, ◌-◌, List, [], ◌∷◌, ◌++◌, drop, take}
 use Rattle.ballot_record.specs.Format.{ballot_at}
 use Rattle.store_spec.specs.Ballot.{Ballot}
 use Rattle.store_spec.specs.Election.{Election, cell_size}

@@ -13,7 +13,7 @@ ghost use Rattle.ballot_record.specs.Format.{IsSetWidth, ballot_at, largest_bank
 ghost use Rattle.ballot_record.specs.Record.{ballot};
 ghost use Rattle.ballot_record.specs.declared.record.Record as declared;
 
-use crate::version::{MAX_SET_BYTES, set_bytes};
+use crate::version::{MAX_SET_BYTES, SHORT_SET_BYTES, set_bytes};
 use crate::{Election, MAX_BITS, MAX_LIMIT, MAX_MARK_SETS, Record};
 use byteorder::{BigEndian, ByteOrder};
 
@@ -314,7 +314,11 @@ pub fn set_of(bytes: &[u8], election: &Election, place: usize) -> u64
     requires within { place < length election.now.contests }
     ensures { (b : Ballot) → IsCellOf election.now bytes.now b → result ≡ slice_index b.marks place }
 {
-    let width = election.set_bytes();
-    let (_, onward) = bytes.split_at(FRONT_BYTES + width * place);
-    first_set(onward, width)
+    if election.set_bytes() == MAX_SET_BYTES {
+        let (_, onward) = bytes.split_at(FRONT_BYTES + MAX_SET_BYTES * place);
+        BigEndian::read_u64(onward)
+    } else {
+        let (_, onward) = bytes.split_at(FRONT_BYTES + SHORT_SET_BYTES * place);
+        u64::from(BigEndian::read_u32(onward))
+    }
 }

@@ -14,6 +14,9 @@ pub const MAX_CHOICES: u8 = 64;
 /// The most bytes of a mark set in a cell, whatever the version.
 pub(crate) const MAX_SET_BYTES: usize = 8;
 
+/// The bytes of a mark set in a cell of version 1.
+pub(crate) const SHORT_SET_BYTES: usize = 4;
+
 /// The most contests of an election in a version.
 pub fn most_contests(version: u16) -> usize
     ensures most { result ≡ in_version version 16 24 }
@@ -37,5 +40,9 @@ pub(crate) fn set_bytes(version: u16) -> usize
     ensures known { IsSetWidth result }
     ensures at_most { result ≤ MAX_SET_BYTES }
 {
-    if version == 1 { 4 } else { MAX_SET_BYTES }
+    if version == 1 {
+        SHORT_SET_BYTES
+    } else {
+        MAX_SET_BYTES
+    }
 }

@@ -1,4 +1,4 @@
-use Rattle.std.proofs.Common.{Some, length, sym, ap, ap₂, ◌∙◌}
+use Rattle.std.proofs.Common.{Some, sym, ap, ap₂, ◌∙◌}
 use Rattle.ballot_record.proofs.CellFormat.{spells_itself}
 use Rattle.ballot_record.proofs.list.BallotList.record.Goals as goal
 use Rattle.ballot_record.specs.Format.{ballot_at}
