@@ -94,7 +94,7 @@ fn versions(rt: HostRuntime) -> Result<(), Fail> {
 }
 
 /// A version, so many contests of so many choices, and whether there is such an election.
-const SIZES: [(u16, usize, u8, bool); 16] = [
+const SIZES: [(u16, usize, u8, bool); 18] = [
     (1, 1, 1, true),
     (1, 16, 1, true),
     (1, 1, 32, true),
@@ -104,7 +104,9 @@ const SIZES: [(u16, usize, u8, bool); 16] = [
     (1, 1, 33, false),
     (1, 1, 64, false),
     (2, 1, 1, true),
-    (2, 17, 33, true),
+    (2, 16, 32, true),
+    (2, 16, 33, true),
+    (2, 17, 32, true),
     (2, 24, 1, true),
     (2, 1, 64, true),
     (2, 24, 64, true),
@@ -144,6 +146,13 @@ fn sizes(rt: HostRuntime) -> Result<(), Fail> {
                 assert_eq!(rt; election.version(), version, "{text}");
                 assert_eq!(rt; election.contests(), contests, "{text}");
                 assert_eq!(rt; election.choices_on(1, contests), choices, "{text}");
+                let fits = version == 2 && contests <= 16 && choices <= 32;
+                let first = election.as_version_one();
+                assert_eq!(rt; first.is_some(), fits, "{text}");
+                if let Some(first) = first {
+                    assert_eq!(rt; first.version(), 1, "{text}");
+                    assert_eq!(rt; first.choices_on(1, contests), choices, "{text}");
+                }
             }
             Err(fault) => {
                 assert!(rt; !some, "{text}");
