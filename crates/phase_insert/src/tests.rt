@@ -16,7 +16,7 @@ use std::test::Fail;
 use std::thread::Threads;
 
 /// A number, and the marks in the first contest.
-type Brief = (u64, u32);
+type Brief = (u64, u64);
 
 /// The ballots held before, the lists that are cast, the cells that are not empty then, and the final replies.
 struct Case {
