@@ -16,6 +16,7 @@ use Rattle.outside_io.specs.Told.{IfTold}
 use Rattle.ballot_record.proofs.BallotSets.{in_order, in_order-IsPermutation}
 use Rattle.ballot_record.proofs.LineFronts.{listing_builds}
 use Rattle.ballot_record.proofs.LineLaws.{short_lines}
+use Rattle.ballot_record.proofs.Versions.{few_bytes}
 use Rattle.store_spec.specs.Ballot.{Ballot, IsListing, IsWithinLimit}
 use Rattle.store_spec.specs.BallotLine.{Spells}
 use Rattle.store_spec.specs.Build.{Builds, IsFirstBad, IsRefused, Reason}
@@ -106,7 +107,7 @@ refused_whole e listing line why refused bytes is = subst (λ (l : List ℕ). Is
 
 -- a line that is too wide is none of the grammar
 pub refused_wide : (e : Election) (listing : List Ballot) (bytes : List ℕ) → taken_line bytes ≡ None → IsRefused e listing bytes Malformed
-refused_wide e listing bytes is line = omega (arith, short_lines e bytes line, wide_line bytes is)
+refused_wide e listing bytes is line = omega (arith, short_lines e bytes line, few_bytes e, wide_line bytes is)
 
 -- ---- how the reading ended
 
