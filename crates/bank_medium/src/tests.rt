@@ -1,5 +1,5 @@
 //! The calls on media in memory, by the record of what they asked of the disk.
-#![tactic(auto, unfolding(store_spec::specs::Election::cell_size, store_spec::specs::Election::header_size))]
+#![tactic(auto, unfolding(store_spec::specs::Election::cell_size, store_spec::specs::Election::header_size, store_spec::specs::Election::in_version))]
 
 ghost use Rattle.std.specs.Prelude.{◌≡◌, length, IfOk};
 ghost use Rattle.crash_disk.specs.Recorded.{recorded_sees, recorded_leaves, recorded_calls};

@@ -1,5 +1,5 @@
 //! Banks of the example election and of one with a single home.
-#![tactic(auto, unfolding(store_spec::specs::Election::cell_size, store_spec::specs::Election::header_size))]
+#![tactic(auto, unfolding(store_spec::specs::Election::cell_size, store_spec::specs::Election::header_size, store_spec::specs::Election::in_version))]
 
 ghost use Rattle.image_builder.specs.Reading.{IsRefusedBank};
 ghost use Rattle.std.specs.Prelude.{◌≡◌, ◌≢◌, ◌<◌, IfErr, IfOk, length};

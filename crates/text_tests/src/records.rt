@@ -1,4 +1,4 @@
-#![tactic(auto, unfolding(store_spec::specs::Election::cell_size))]
+#![tactic(auto, unfolding(store_spec::specs::Election::cell_size, store_spec::specs::Election::in_version))]
 
 use ballot_record::{CellRead, Election, LineFault, LineWhy, MAX_MARK_SETS, Record, take_cell};
 use std::test::Fail;

@@ -1,5 +1,5 @@
 //! Media that were stopped.
-#![tactic(auto, unfolding(store_spec::specs::Election::cell_size, store_spec::specs::Election::header_size))]
+#![tactic(auto, unfolding(store_spec::specs::Election::cell_size, store_spec::specs::Election::header_size, store_spec::specs::Election::in_version))]
 
 ghost use Rattle.std.specs.Prelude.{◌≡◌, ◌<◌, ◌≤◌};
 ghost use Rattle.crash_disk.specs.Recorded.{recorded_calls};
