@@ -132,7 +132,7 @@ def medium_of(path, election):
 
 def style():
     """The styles; a colour fills what is drawn as a shape, and is the line of what is drawn as a broken line."""
-    return STYLE + "".join(f".{kind}{{fill:{colour};stroke:{colour}}}" for kind, colour in COLOURS.items())
+    return STYLE + "".join(f"\n.{kind}{{fill:{colour};stroke:{colour}}}" for kind, colour in COLOURS.items())
 
 
 def text(x, y, words, kind=""):
@@ -171,7 +171,9 @@ def squares(plan, x, y, first, end, kind_of):
         paths.setdefault(kind, []).append(line)
     for kind, lines in paths.items():
         width = (2 if side > 10 else 1) if kind == "differs" else f'{side}" stroke-dasharray="{side} 1'
-        yield f'<path class="{kind}" stroke-width="{width}" d="{"".join(lines)}"/>'
+        yield f'<path class="{kind}" stroke-width="{width}" d="'
+        yield from ("".join(lines[at : at + 8]) for at in range(0, len(lines), 8))
+        yield '"/>'
 
 
 def block(plan, x, y, name, first, end, layers):
@@ -215,7 +217,7 @@ def comparison(media):
     pairs = [[it.banks[bank].cell(place) for it in media] for bank, place in cells]
     pairs += [[it.banks[bank].header for it in media] for bank in (0, 1)] + [[it.gates for it in media]]
     count = sum(a != b for pair in pairs for a, b in zip(*pair))
-    return f"{count:,} bytes differ, in {len(cells):,} cells of both banks." if count else "No byte differs."
+    return f"Bytes that differ: {count:,}. Cells in which any does: {len(cells):,}." if count else "No byte differs."
 
 
 def legend(plan, y, is_comparison):
@@ -246,7 +248,10 @@ def drawing(election, media):
     height = y + 13 + MARGIN + (LINE if plan.band > 1 else 0)
     names = " and ".join(it.name for it in media)
     yield (f'<svg xmlns="http://www.w3.org/2000/svg" width="{width}" height="{height}" viewBox="0 0 {width} {height}"'
-           f' role="img"><title>Cells of {html.escape(names)}</title><style>{style()}</style>')
+           ' role="img">')
+    yield f"<title>Cells of {html.escape(names)}</title>"
+    yield "<!-- Drawn by tools/draw_medium.py of the ballot store. -->"
+    yield f"<style>{style()}</style>"
     yield f'<rect width="{width}" height="{height}" fill="#fff"/>'
     yield from body
     yield "</svg>"
