@@ -19,17 +19,16 @@ SCHEMA = Path(__file__).resolve().parent / "schema.sql"
 def open_database(path, election, precincts):
     """The database, with the contests of the election, its checksum and the precincts that it had at its first load."""
     is_new = not Path(path).exists()
-    database = sqlite3.connect(path)
+    database = sqlite3.connect(path, isolation_level=None)  # transactions begin and end where this program says
     if is_new:
-        database.executescript(SCHEMA.read_text())
         data = Path(election).read_bytes()
-        contests = json.loads(data)["contests"]
-        with database:
-            database.execute("INSERT INTO county VALUES (?)", [hashlib.sha256(data).hexdigest()])
-            database.executemany("INSERT INTO contest VALUES (?, ?, ?)",
-                                 [(at, it["choices"], it["allowed"]) for at, it in enumerate(contests, 1)])
-            database.executemany("INSERT INTO precinct VALUES (?)",
-                                 [[name] for name in Path(precincts).read_text().split()])
+        contests = [(at, it["choices"], it["allowed"]) for at, it in enumerate(json.loads(data)["contests"], 1)]
+        names = [[name] for name in Path(precincts).read_text().split()]
+        database.executescript("BEGIN; " + SCHEMA.read_text())
+        database.execute("INSERT INTO county VALUES (?)", [hashlib.sha256(data).hexdigest()])
+        database.executemany("INSERT INTO contest VALUES (?, ?, ?)", contests)
+        database.executemany("INSERT INTO precinct VALUES (?)", names)
+        database.execute("COMMIT")
     return database
 
 
@@ -76,21 +75,25 @@ def load(database, path):
     at = len(lines) - int(held) - 1  # the export has a line for each ballot, and ends the return
     require(at > 2)
     fields(lines[at], "export", held)
-    with database:  # all of it, or nothing
-        database.execute("INSERT INTO handed VALUES (?, ?, ?, ?)", [file, precinct, election, int(held)])
-        take_tally(database, file, lines[3:at])
-        for line in lines[at + 1 :]:
-            take_ballot(database, file, line)
+    database.execute("INSERT INTO handed VALUES (?, ?, ?, ?)", [file, precinct, election, int(held)])
+    take_tally(database, file, lines[3:at])
+    for line in lines[at + 1 :]:
+        take_ballot(database, file, line)
 
 
 def main(path, election, precincts, *returns):
     database, status = open_database(path, election, precincts), 0
+    database.execute("BEGIN")
     for name in sorted(returns):
+        database.execute("SAVEPOINT one")
         try:
             load(database, name)
-        except (ValueError, sqlite3.IntegrityError) as error:
+        except (ValueError, sqlite3.IntegrityError) as error:  # then nothing of this return is loaded
+            database.execute("ROLLBACK TO one")
             print(f"{name}: {error}")
             status = 1
+        database.execute("RELEASE one")
+    database.execute("COMMIT")
     database.close()
     return status
 
