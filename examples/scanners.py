@@ -118,7 +118,7 @@ class Hub:
         self.is_open.set()
 
     async def checkpoint(self, is_last):
-        """Closes the phase, hands the replies back, makes a checkpoint, and opens the next phase or ends the session."""
+        """Closes the phase, hands the replies back, makes a checkpoint, and opens a phase or ends the session."""
         async with self.one_request:
             await self.is_open.wait()
             self.is_open.clear()

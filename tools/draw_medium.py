@@ -144,7 +144,7 @@ def rectangle(x, y, width, height, kind):
 
 
 def runs(plan, x, y, first, end, kind_of):
-    """Squares of one kind in a row of a block: the kind, where the first is, and how many. Those of no kind are left."""
+    """Squares of one kind in a row of a block: the kind, where the first is, and how many. Others are left."""
     last = None
     for at, cell in enumerate(range(first, end, plan.band)):
         kind = kind_of(cell, min(cell + plan.band, end))
@@ -213,7 +213,8 @@ def bank_drawing(plan, x, y, medium, at, other):
 def comparison(media):
     """What a picture of two media says of them."""
     places = range(media[0].banks[0].election.cell_count())
-    cells = [(bank, place) for bank in (0, 1) for place in places if not media[0].same(media[1], bank, place, place + 1)]
+    one, other = media
+    cells = [(bank, place) for bank in (0, 1) for place in places if not one.same(other, bank, place, place + 1)]
     pairs = [[it.banks[bank].cell(place) for it in media] for bank, place in cells]
     pairs += [[it.banks[bank].header for it in media] for bank in (0, 1)] + [[it.gates for it in media]]
     count = sum(a != b for pair in pairs for a, b in zip(*pair))
