@@ -27,8 +27,9 @@ BAD_LINES = ["", " ", "\r", "\0", "close ", " close", "close\r", "Close", "check
              "cast 1 1 1 1\xff", "cast 1 1 1  1", "x" * 8193, "cast 1 1 1 " + "-/" * 4092 + "-", "find 64 1", "dropped"]
 BAD_TEXTS = ['', ' ', 'null', '[]', '{}', '\xef\xbb\xbf{}', '{"limit":1}', '{', '"', '[' * 200, '\xff']
 BAD_VALUES = ['0', '-1', '-0', '1.0', '1e0', '"1"', 'null', 'true', '[]', '{}', '32769', '17', '65', '3', '01', '1 ',
-              '18446744073709551616', '1' * 400, '"0"', '"0000000000000000"', '"000000000000000G"', '"000000000000000A"',
-              '[1]', '[[1]]', '[[]]', '[[1,1]]', '[[2,1]]', '[[0]]', '[[99]]', '[{}]', '[{"choices":1}]', 'NaN',
+              '18446744073709551616', '1' * 400, '"0"', '"0000000000000000"', '"000000000000000G"',
+              '"000000000000000A"', '[1]', '[[1]]', '[[]]', '[[1,1]]', '[[2,1]]', '[[0]]', '[[99]]', '[{}]',
+              '[{"choices":1}]', 'NaN',
               '[{"choices":0,"allowed":0}]', '[{"choices":1,"allowed":2}]', '[{"choices":33,"allowed":1}]',
               '[{"choices":1,"allowed":1,"x":1}]', '"\\ud800"', "[" * 130 + "]" * 130]
 
@@ -144,7 +145,8 @@ class Maker:
             edits.append(rng.choice([["byte", rng.getrandbits(32), rng.randrange(256)], ["gate", rng.randrange(2), 0],
                                      ["byte", rng.randrange(32), rng.randrange(256)],
                                      ["cell", rng.getrandbits(16), rng.getrandbits(16)], ["empty", rng.getrandbits(16)],
-                                     ["swap", rng.getrandbits(16), rng.getrandbits(16)], ["torn", rng.randrange(2), *self.range()],
+                                     ["swap", rng.getrandbits(16), rng.getrandbits(16)],
+                                     ["torn", rng.randrange(2), *self.range()],
                                      ["size", rng.choice([-1, 1, -2, 10, -10**6, rng.randint(-400, 400)])]]))
         return {"ballots": ballots, "other": other, "edits": edits}
 
@@ -197,14 +199,16 @@ class Maker:
         if command == "session":
             script = self.script(rng.choice([0, 1, 2, 3, 5]), badness=rng.choice([0, 0.02, 0.1, 0.5]))
         elif command in ("sample", "compare"):
-            words += ["".join(rng.choices("0123456789", k=rng.choice([1, 2, 8, 64]))), str(rng.choice([1, 2, 3, 5, 32768]))]
+            words.append("".join(rng.choices("0123456789", k=rng.choice([1, 2, 8, 64]))))
+            words.append(str(rng.choice([1, 2, 3, 5, 32768])))
             if command == "compare":
                 records = [self.record(valid=rng.random() < 0.7) for _ in range(rng.randint(0, 12))]
                 script = [self.hostile(line) if rng.random() < 0.1 else line for line in records] + [""]
         elif command == "build":
             script = self.sheaf(min(self.told["limit"], 30)) + [""]
             if rng.random() < 0.3:
-                script.insert(rng.randrange(len(script)), self.hostile(self.record()) if rng.random() < 0.5 else self.record())
+                at = rng.randrange(len(script))
+                script.insert(at, self.hostile(self.record()) if rng.random() < 0.5 else self.record())
         elif command == "large":
             # of several tabulators only where no ballot can be refused as full
             words += ["--seed", str(rng.randint(1, 2**32 - 1)), "--count", str(rng.randint(1, 80)), "--tabs",
@@ -219,8 +223,9 @@ class Maker:
 
     def words(self):
         rng = self.rng
-        pool = ["MEDIUM", "ELECTION", "init", "session", "audit", "sample", "compare", "build", "large", "replay", "", "-",
-                "--help", "--seed", "1", "01", "--count", "--tabs", "65", "0", "32769", "4294967296", "1" * 65, "x", "--seed=1"]
+        pool = ["MEDIUM", "ELECTION", "init", "session", "audit", "sample", "compare", "build", "large", "replay", "",
+                "-", "--help", "--seed", "1", "01", "--count", "--tabs", "65", "0", "32769", "4294967296", "1" * 65,
+                "x", "--seed=1"]
         whole = rng.choice([["MEDIUM", "ELECTION", "large", "--seed", "1", "--count", "5", "--tabs", "1"],
                             ["MEDIUM", "ELECTION", "sample", "123", "2"], ["MEDIUM", "ELECTION", "audit"]])
         if rng.random() < 0.3:
@@ -295,7 +300,8 @@ def medium_of(case):
             bank, start, length, rest = given
             at = start % len(image)
             to = min(at + length, len(image))
-            data[bank * len(image) + at:bank * len(image) + to] = other[at:to] if rest % 3 else bytes([rest % 256]) * (to - at)
+            rubbish = bytes([rest % 256]) * (to - at)
+            data[bank * len(image) + at:bank * len(image) + to] = other[at:to] if rest % 3 else rubbish
         elif kind in ("cell", "empty", "swap"):
             first, second = cell(given[0]), cell(given[-1])
             data[first], data[second] = {"cell": (data[second], data[second]), "empty": (bytes(width), bytes(width)),

@@ -136,7 +136,8 @@ def cast(limit, held, lists, replies):
 
 def withdraw(held, lists, replies):
     """The set after a withdrawing phase with these replies; a Doubt where they are no outcome."""
-    done = [number for items, words in zip(lists, replies) for number, word in zip(items, words) if word == b"withdrawn"]
+    done = [number for items, words in zip(lists, replies)
+            for number, word in zip(items, words) if word == b"withdrawn"]
     if len(set(done)) != len(done) or not set(done) <= held.keys():
         raise Doubt("a number is withdrawn twice, or was not held")
     for i, (items, words) in enumerate(zip(lists, replies)):
@@ -198,7 +199,7 @@ class Session:
             return "malformed"
         if (line == b"close") == (self.phase == "closed"):
             return "wrong-phase " + self.phase
-        return {b"close": self.close, b"checkpoint": self.checkpoint, b"tally": self.tally, b"export": self.export}[line]()
+        return getattr(self, line.decode())()
 
     def open(self, phase, tabs):
         if self.phase != "closed":

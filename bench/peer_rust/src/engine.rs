@@ -354,7 +354,8 @@ pub fn run_cast(w: &Work, casts: &Casts, tables: &mut [Tables]) -> Vec<Vec<u8>> 
             for (t, s) in tables.iter_mut().zip(w.stores) {
                 t.open(&s.cells, s.held, 0);
             }
-            let shared: Vec<_> = tables.iter_mut().zip(w.stores).map(|(t, s)| Mutex::new((&mut t.cells, s.held))).collect();
+            let pairs = tables.iter_mut().zip(w.stores);
+            let shared: Vec<_> = pairs.map(|(t, s)| Mutex::new((&mut t.cells, s.held))).collect();
             fork(lists.len(), empty, |t| {
                 lists[t]
                     .iter()

@@ -254,7 +254,14 @@ impl<'a> Session<'a> {
     }
 
     /// The generated script, as lines through `line`, or straight into the lists.
-    pub fn large(&mut self, seed: u64, count: u64, tabs: usize, media: &mut dyn Media, out: &mut Out) -> Result<(), End> {
+    pub fn large(
+        &mut self,
+        seed: u64,
+        count: u64,
+        tabs: usize,
+        media: &mut dyn Media,
+        out: &mut Out,
+    ) -> Result<(), End> {
         let e = self.e;
         let n = count.min(e.limit as u64);
         let number = |i: u64| (seed + i).wrapping_mul(0xD134_2543_DE82_EF95);
