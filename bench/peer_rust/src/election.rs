@@ -66,7 +66,17 @@ impl Election {
         }
         let row = 9 + mark * choices.len();
         let cells = (1usize << order.bits) + limit;
-        Election { version, choices, allowed, styles, barred, barred_row, limit, order, mark, row, cells, bank: 32 + cells * row }
+        let bank = 32 + cells * row;
+        Election { version, choices, allowed, styles, barred, barred_row, limit, order, mark, row, cells, bank }
+    }
+
+    /// The same parts in version 1, where they are not already and where they fit.
+    pub fn as_version_one(&self) -> Option<Election> {
+        let (contests, choices) = most(1);
+        if self.version == 1 || self.contests() > contests || self.choices.iter().any(|c| *c as u64 > choices) {
+            return None;
+        }
+        Some(Election::new(1, self.choices.clone(), self.allowed.clone(), self.styles.clone(), self.limit, self.order))
     }
 
     pub fn contests(&self) -> usize {

@@ -6,6 +6,7 @@
 //!   everything and lays the table out anew.
 
 use crate::election::Order;
+use crate::store::Store;
 use std::collections::btree_map::Entry;
 use std::collections::BTreeMap;
 use std::sync::atomic::{AtomicU64, Ordering::SeqCst};
@@ -18,8 +19,7 @@ pub enum Engine {
     BTree,
 }
 
-/// How the program goes about its work; `best` turns on what the verified program's steps do
-/// not do.
+/// How this program goes about its work; `best` turns on what `ballot_store` does not do.
 #[derive(Clone, Copy)]
 pub struct Style {
     pub engine: Engine,
@@ -29,6 +29,10 @@ pub struct Style {
     pub direct: bool,
     /// whole runs of pages in one call
     pub runs: bool,
+    /// a medium is read and judged once, not for the look and again for the recovery
+    pub once: bool,
+    /// many tickets at once
+    pub lanes: bool,
 }
 
 pub const ACCEPTED: u8 = 0;
@@ -234,7 +238,18 @@ impl Words<'_> {
     }
 }
 
-/// The words of a phase, kept from phase to phase.
+/// The parts of a store by the top bits of the number: 2 to the given bits.
+#[derive(Clone, Copy)]
+pub struct Parts(pub u32);
+
+impl Parts {
+    #[inline(always)]
+    pub fn of(self, v: u64) -> usize {
+        ((v >> 1) >> (63 - self.0)) as usize
+    }
+}
+
+/// The words of a phase of one part, kept from phase to phase.
 pub struct Tables {
     pub cells: Vec<u64>,
     more: Vec<u64>,
@@ -261,97 +276,46 @@ impl Tables {
         }
         self.used = more;
     }
+
+    fn words(&mut self, order: Order, look: bool) -> Words<'_> {
+        Words { order, cells: words(&mut self.cells), more: words(&mut self.more[..self.used]), look }
+    }
 }
 
-pub struct CastWork<'a> {
+/// A phase over the parts of a store, whose worker I has one tabulator of each part and handles
+/// list I in order, each item in its own part.
+pub struct Work<'a> {
+    pub style: Style,
     pub order: Order,
     pub limit: usize,
-    pub base: &'a [u64],
-    pub held: usize,
+    pub parts: Parts,
+    /// the base of each part
+    pub stores: &'a [Store],
+}
+
+pub struct Casts<'a> {
     pub lists: &'a [Vec<Item>],
-    /// is the row the same as the one in this cell of the base?
-    pub same: &'a (dyn Fn(u32, usize) -> bool + Sync),
+    pub rows: &'a [u8],
+    /// bytes of a row
+    pub row: usize,
 }
 
-fn base_reply(w: &CastWork, item: &Item) -> Option<u8> {
-    if w.held == 0 {
-        return None;
+impl Casts<'_> {
+    #[inline]
+    fn base_reply(&self, base: &Store, order: Order, item: &Item) -> Option<u8> {
+        if base.held == 0 {
+            return None;
+        }
+        let p = place_of(order, &base.cells, item.number)?;
+        let (row, cell) = (item.row as usize, 32 + p * self.row);
+        let same = self.rows[row..row + self.row] == base.image[cell..cell + self.row];
+        Some(if same { DUPLICATE } else { CONFLICT })
     }
-    place_of(w.order, w.base, item.number).map(|p| if (w.same)(item.row, p) { DUPLICATE } else { CONFLICT })
 }
 
-/// Runs a casting phase. The new cells are left in `tables.cells`, TAKEN in the replies is open.
-pub fn run_cast(style: Style, w: &CastWork, tables: &mut Tables) -> Vec<Vec<u8>> {
-    let tabs = w.lists.len();
-    let empty = |t: usize| w.lists[t].is_empty();
-    match style.engine {
-        Engine::LockFree => {
-            tables.open(w.base, w.held, w.limit - w.held);
-            let used = tables.used;
-            let shared = Words {
-                order: w.order,
-                cells: words(&mut tables.cells),
-                more: words(&mut tables.more[..used]),
-                look: style.look,
-            };
-            fork(tabs, empty, |t| {
-                w.lists[t].iter().map(|item| base_reply(w, item).unwrap_or_else(|| shared.cast(item.number))).collect()
-            })
-        }
-        Engine::Mutex => {
-            tables.open(w.base, w.held, 0);
-            let table = Mutex::new((&mut tables.cells, w.held));
-            fork(tabs, empty, |t| {
-                w.lists[t]
-                    .iter()
-                    .map(|item| {
-                        if let Some(r) = base_reply(w, item) {
-                            return r;
-                        }
-                        let mut table = table.lock().unwrap();
-                        if place_of(w.order, table.0, item.number).is_some() {
-                            TAKEN
-                        } else if table.1 == w.limit {
-                            FULL
-                        } else {
-                            put_in(w.order, table.0, item.number);
-                            table.1 += 1;
-                            ACCEPTED
-                        }
-                    })
-                    .collect()
-            })
-        }
-        Engine::BTree => {
-            let collected = fork(tabs, empty, |t| {
-                w.lists[t].iter().map(|item| (item.number, base_reply(w, item))).collect::<Vec<_>>()
-            });
-            let mut map: BTreeMap<u64, ()> = w.base.iter().filter(|v| **v != 0).map(|v| (*v, ())).collect();
-            let replies = collected
-                .into_iter()
-                .map(|list| {
-                    list.into_iter()
-                        .map(|(number, reply)| {
-                            if let Some(r) = reply {
-                                return r;
-                            }
-                            let room = map.len() < w.limit;
-                            match map.entry(number) {
-                                Entry::Occupied(_) => TAKEN,
-                                Entry::Vacant(_) if !room => FULL,
-                                Entry::Vacant(e) => {
-                                    e.insert(());
-                                    ACCEPTED
-                                }
-                            }
-                        })
-                        .collect()
-                })
-                .collect();
-            lay_out(w.order, &map, w.base.len(), tables);
-            replies
-        }
-    }
+/// The numbers of a base, for the tree engine.
+fn tree(base: &Store) -> BTreeMap<u64, ()> {
+    base.cells.iter().filter(|v| **v != 0).map(|v| (*v, ())).collect()
 }
 
 fn lay_out(order: Order, map: &BTreeMap<u64, ()>, cells: usize, tables: &mut Tables) {
@@ -366,34 +330,125 @@ fn lay_out(order: Order, map: &BTreeMap<u64, ()>, cells: usize, tables: &mut Tab
     }
 }
 
-/// Runs a withdrawing phase. The new cells are left in `tables.cells`.
-pub fn run_withdraw(style: Style, order: Order, base: &[u64], lists: &[Vec<u64>], tables: &mut Tables) -> Vec<Vec<u8>> {
+/// Runs a casting phase. The new cells are left in the tables, TAKEN in the replies is open.
+pub fn run_cast(w: &Work, casts: &Casts, tables: &mut [Tables]) -> Vec<Vec<u8>> {
+    let (order, parts, lists) = (w.order, w.parts, casts.lists);
     let empty = |t: usize| lists[t].is_empty();
-    match style.engine {
+    match w.style.engine {
         Engine::LockFree => {
-            tables.open(base, base.len(), base.len());
-            let used = tables.used;
-            let shared = Words {
-                order,
-                cells: words(&mut tables.cells),
-                more: words(&mut tables.more[..used]),
-                look: style.look,
-            };
+            for (t, s) in tables.iter_mut().zip(w.stores) {
+                t.open(&s.cells, s.held, w.limit - s.held);
+            }
+            let shared: Vec<Words> = tables.iter_mut().map(|t| t.words(order, w.style.look)).collect();
             fork(lists.len(), empty, |t| {
-                lists[t].iter().map(|&x| place_of(order, base, x).map_or(ABSENT, |p| shared.withdraw(x, p))).collect()
+                lists[t]
+                    .iter()
+                    .map(|item| {
+                        let i = parts.of(item.number);
+                        casts.base_reply(&w.stores[i], order, item).unwrap_or_else(|| shared[i].cast(item.number))
+                    })
+                    .collect()
             })
         }
         Engine::Mutex => {
-            tables.open(base, base.len(), 0);
-            let table = Mutex::new(&mut tables.cells);
+            for (t, s) in tables.iter_mut().zip(w.stores) {
+                t.open(&s.cells, s.held, 0);
+            }
+            let pairs = tables.iter_mut().zip(w.stores);
+            let shared: Vec<_> = pairs.map(|(t, s)| Mutex::new((&mut t.cells, s.held))).collect();
+            fork(lists.len(), empty, |t| {
+                lists[t]
+                    .iter()
+                    .map(|item| {
+                        let i = parts.of(item.number);
+                        if let Some(r) = casts.base_reply(&w.stores[i], order, item) {
+                            return r;
+                        }
+                        let mut table = shared[i].lock().unwrap();
+                        if place_of(order, table.0, item.number).is_some() {
+                            TAKEN
+                        } else if table.1 == w.limit {
+                            FULL
+                        } else {
+                            put_in(order, table.0, item.number);
+                            table.1 += 1;
+                            ACCEPTED
+                        }
+                    })
+                    .collect()
+            })
+        }
+        Engine::BTree => {
+            let collected = fork(lists.len(), empty, |t| {
+                let reply = |item: &Item| casts.base_reply(&w.stores[parts.of(item.number)], order, item);
+                lists[t].iter().map(|item| (item.number, reply(item))).collect::<Vec<_>>()
+            });
+            let mut maps: Vec<_> = w.stores.iter().map(tree).collect();
+            let replies = collected
+                .into_iter()
+                .map(|list| {
+                    list.into_iter()
+                        .map(|(number, reply)| {
+                            if let Some(r) = reply {
+                                return r;
+                            }
+                            let map = &mut maps[parts.of(number)];
+                            let room = map.len() < w.limit;
+                            match map.entry(number) {
+                                Entry::Occupied(_) => TAKEN,
+                                Entry::Vacant(_) if !room => FULL,
+                                Entry::Vacant(e) => {
+                                    e.insert(());
+                                    ACCEPTED
+                                }
+                            }
+                        })
+                        .collect()
+                })
+                .collect();
+            for ((t, s), map) in tables.iter_mut().zip(w.stores).zip(&maps) {
+                lay_out(order, map, s.cells.len(), t);
+            }
+            replies
+        }
+    }
+}
+
+/// Runs a withdrawing phase. The new cells are left in the tables.
+pub fn run_withdraw(w: &Work, lists: &[Vec<u64>], tables: &mut [Tables]) -> Vec<Vec<u8>> {
+    let (order, parts) = (w.order, w.parts);
+    let empty = |t: usize| lists[t].is_empty();
+    let open = |tables: &mut [Tables], flags: bool| {
+        for (t, s) in tables.iter_mut().zip(w.stores) {
+            t.open(&s.cells, s.cells.len(), if flags { s.cells.len() } else { 0 });
+        }
+    };
+    match w.style.engine {
+        Engine::LockFree => {
+            open(tables, true);
+            let shared: Vec<Words> = tables.iter_mut().map(|t| t.words(order, w.style.look)).collect();
             fork(lists.len(), empty, |t| {
                 lists[t]
                     .iter()
                     .map(|&x| {
-                        if place_of(order, base, x).is_none() {
+                        let i = parts.of(x);
+                        place_of(order, &w.stores[i].cells, x).map_or(ABSENT, |p| shared[i].withdraw(x, p))
+                    })
+                    .collect()
+            })
+        }
+        Engine::Mutex => {
+            open(tables, false);
+            let shared: Vec<_> = tables.iter_mut().map(|t| Mutex::new(&mut t.cells)).collect();
+            fork(lists.len(), empty, |t| {
+                lists[t]
+                    .iter()
+                    .map(|&x| {
+                        let i = parts.of(x);
+                        if place_of(order, &w.stores[i].cells, x).is_none() {
                             return ABSENT;
                         }
-                        let mut table = table.lock().unwrap();
+                        let mut table = shared[i].lock().unwrap();
                         match place_of(order, &table, x) {
                             None => GONE,
                             Some(p) => {
@@ -407,14 +462,15 @@ pub fn run_withdraw(style: Style, order: Order, base: &[u64], lists: &[Vec<u64>]
         }
         Engine::BTree => {
             let collected = fork(lists.len(), empty, |t| {
-                lists[t].iter().map(|&x| (x, place_of(order, base, x).is_some())).collect::<Vec<_>>()
+                let held = |x: u64| place_of(order, &w.stores[parts.of(x)].cells, x).is_some();
+                lists[t].iter().map(|&x| (x, held(x))).collect::<Vec<_>>()
             });
-            let mut map: BTreeMap<u64, ()> = base.iter().filter(|v| **v != 0).map(|v| (*v, ())).collect();
+            let mut maps: Vec<_> = w.stores.iter().map(tree).collect();
             let replies = collected
                 .into_iter()
                 .map(|list| {
                     list.into_iter()
-                        .map(|(x, held)| match (held, map.remove(&x)) {
+                        .map(|(x, held)| match (held, maps[parts.of(x)].remove(&x)) {
                             (false, _) => ABSENT,
                             (true, Some(())) => WITHDRAWN,
                             (true, None) => GONE,
@@ -422,14 +478,18 @@ pub fn run_withdraw(style: Style, order: Order, base: &[u64], lists: &[Vec<u64>]
                         .collect()
                 })
                 .collect();
-            lay_out(order, &map, base.len(), tables);
+            for ((t, s), map) in tables.iter_mut().zip(w.stores).zip(&maps) {
+                lay_out(order, map, s.cells.len(), t);
+            }
             replies
         }
     }
 }
 
-pub fn run_find(order: Order, cells: &[u64], lists: &[Vec<u64>]) -> Vec<Vec<u8>> {
+pub fn run_find(w: &Work, lists: &[Vec<u64>]) -> Vec<Vec<u8>> {
+    let (order, parts, stores) = (w.order, w.parts, w.stores);
     fork(lists.len(), |t| lists[t].is_empty(), |t| {
-        lists[t].iter().map(|&x| place_of(order, cells, x).is_some() as u8).collect()
+        let (order, parts, stores) = (order, parts, stores);
+        lists[t].iter().map(|&x| place_of(order, &stores[parts.of(x)].cells, x).is_some() as u8).collect()
     })
 }

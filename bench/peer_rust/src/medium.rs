@@ -1,10 +1,10 @@
 //! The medium: a real file with pread, pwrite and fdatasync; init, recovery,
-//! checkpoint and audit (pages of 4,096 bytes).
+//! checkpoint and audit (pages of 4,096 bytes), fill and look, two disks as one.
 
 use crate::election::Election;
 use crate::store::{ImageFault, Store};
 use std::fs::{File, OpenOptions};
-use std::io::ErrorKind;
+use std::io::{ErrorKind, Result as Io};
 use std::os::unix::fs::FileExt;
 use std::path::Path;
 
@@ -26,84 +26,35 @@ impl From<std::io::Error> for Fault {
     }
 }
 
-pub struct Disk {
-    path: String,
-    file: Option<File>,
-    opened: bool,
-    /// the file's name in its folder is settled
-    named: bool,
-    /// pages handled in one call
-    run: usize,
+/// The store that a look found, and where.
+pub struct Found {
+    pub store: Store,
+    bank: usize,
+    gates: (bool, bool),
 }
 
-impl Disk {
-    pub fn new(path: &str, runs: bool) -> Disk {
-        Disk { path: path.to_string(), file: None, opened: false, named: false, run: if runs { 64 } else { 1 } }
-    }
+pub trait Disk {
+    fn size(&mut self) -> Io<u64>;
+    fn read(&mut self, at: u64, buf: &mut [u8]) -> Io<()>;
+    fn write(&mut self, at: u64, bytes: &[u8]) -> Io<()>;
+    fn sync(&mut self) -> Io<()>;
+    /// pages handled in one call
+    fn run(&self) -> usize;
 
-    fn file(&mut self) -> std::io::Result<Option<&File>> {
-        if !self.opened {
-            self.file = match OpenOptions::new().read(true).write(true).open(&self.path) {
-                Ok(f) => Some(f),
-                Err(e) if e.kind() == ErrorKind::NotFound => None,
-                Err(e) if e.kind() == ErrorKind::PermissionDenied => Some(File::open(&self.path)?),
-                Err(e) => return Err(e),
-            };
-            self.opened = true;
-        }
-        Ok(self.file.as_ref())
-    }
-
-    fn size(&mut self) -> std::io::Result<u64> {
-        Ok(match self.file()? {
-            Some(f) => f.metadata()?.len(),
-            None => 0,
-        })
-    }
-
-    fn read(&mut self, at: u64, buf: &mut [u8]) -> std::io::Result<()> {
-        match self.file()? {
-            Some(f) => f.read_exact_at(buf, at),
-            None => Err(ErrorKind::UnexpectedEof.into()),
-        }
-    }
-
-    fn write(&mut self, at: u64, bytes: &[u8]) -> std::io::Result<()> {
-        if self.file()?.is_none() {
-            self.file = Some(OpenOptions::new().read(true).write(true).create(true).truncate(false).open(&self.path)?);
-        }
-        self.file.as_ref().unwrap().write_all_at(bytes, at)
-    }
-
-    /// Settles the bytes and, the first time, the file's name. A run that was killed may have
-    /// made the file, so this does not ask who made it.
-    fn sync(&mut self) -> std::io::Result<()> {
-        match self.file()? {
-            Some(f) => f.sync_data()?,
-            None => return Ok(()),
-        }
-        if !self.named {
-            let folder = Path::new(&self.path).parent().filter(|p| !p.as_os_str().is_empty());
-            File::open(folder.unwrap_or(Path::new(".")))?.sync_all()?;
-            self.named = true;
-        }
-        Ok(())
-    }
-
-    fn gates(&mut self, e: &Election) -> std::io::Result<(bool, bool)> {
+    fn gates(&mut self, e: &Election) -> Io<(bool, bool)> {
         let mut two = [0; 2];
         self.read(2 * e.bank as u64, &mut two)?;
         Ok((two[0] == OPEN, two[1] == OPEN))
     }
 
-    fn gate(&mut self, e: &Election, bank: usize, byte: u8) -> std::io::Result<()> {
+    fn gate(&mut self, e: &Election, bank: usize, byte: u8) -> Io<()> {
         self.write((2 * e.bank + bank) as u64, &[byte])?;
         self.sync()
     }
 
     /// Reads a bank by pages and gives those that differ from the image.
-    fn differing(&mut self, e: &Election, bank: usize, image: &[u8]) -> std::io::Result<Vec<usize>> {
-        let mut found = vec![0; self.run * PAGE];
+    fn differing(&mut self, e: &Election, bank: usize, image: &[u8]) -> Io<Vec<usize>> {
+        let mut found = vec![0; self.run() * PAGE];
         let mut pages = Vec::new();
         let mut at = 0;
         while at < e.bank {
@@ -119,11 +70,11 @@ impl Disk {
         Ok(pages)
     }
 
-    fn put_pages(&mut self, e: &Election, bank: usize, image: &[u8], pages: &[usize]) -> std::io::Result<()> {
+    fn put_pages(&mut self, e: &Election, bank: usize, image: &[u8], pages: &[usize]) -> Io<()> {
         let mut i = 0;
         while i < pages.len() {
             let mut j = i + 1;
-            while j < pages.len() && j - i < self.run && pages[j] == pages[j - 1] + PAGE {
+            while j < pages.len() && j - i < self.run() && pages[j] == pages[j - 1] + PAGE {
                 j += 1;
             }
             let to = (pages[j - 1] + PAGE).min(e.bank);
@@ -133,7 +84,8 @@ impl Disk {
         Ok(())
     }
 
-    pub fn init(&mut self, e: &Election) -> Result<(), Fault> {
+    /// Makes the medium of this image, where none is yet.
+    fn fill(&mut self, e: &Election, image: &[u8]) -> Result<(), Fault> {
         self.sync()?;
         let size = self.size()?;
         if size > e.medium() {
@@ -145,17 +97,17 @@ impl Disk {
                 return Err(Fault::Exists);
             }
         }
-        let image = Store::empty(e).image;
         let all: Vec<usize> = (0..e.bank).step_by(PAGE).collect();
-        self.put_pages(e, 0, &image, &all)?;
-        self.put_pages(e, 1, &image, &all)?;
+        self.put_pages(e, 0, image, &all)?;
+        self.put_pages(e, 1, image, &all)?;
         self.sync()?;
         self.write(2 * e.bank as u64, &[OPEN, OPEN])?;
         self.sync()?;
         Ok(())
     }
 
-    fn chosen(&mut self, e: &Election) -> Result<(usize, (bool, bool), Store), Fault> {
+    /// The store that the bytes read now hold; neither writes nor syncs.
+    fn look(&mut self, e: &Election) -> Result<Found, Fault> {
         if self.size()? != e.medium() {
             return Err(Fault::NoStore);
         }
@@ -165,7 +117,7 @@ impl Disk {
         }
         let bank = !gates.0 as usize;
         let mut image = vec![0; e.bank];
-        let run = self.run * PAGE;
+        let run = self.run() * PAGE;
         for (i, part) in image.chunks_mut(run).enumerate() {
             self.read((bank * e.bank + i * run) as u64, part)?;
         }
@@ -173,30 +125,36 @@ impl Disk {
             ImageFault::OtherElection => Fault::OtherElection,
             ImageFault::Damaged(c) => Fault::Damaged(c),
         })?;
-        Ok((bank, gates, store))
+        Ok(Found { store, bank, gates })
     }
 
-    pub fn recover(&mut self, e: &Election) -> Result<Store, Fault> {
-        self.sync()?;
-        let (bank, gates, store) = self.chosen(e)?;
-        let pages = self.differing(e, 1 - bank, &store.image)?;
-        if bank == 0 && pages.is_empty() && gates.1 {
-            return Ok(store);
+    /// The rest of a recovery after its sync and its look.
+    fn settle(&mut self, e: &Election, found: &Found) -> Io<()> {
+        let (image, bank) = (&found.store.image, found.bank);
+        let pages = self.differing(e, 1 - bank, image)?;
+        if bank == 0 && pages.is_empty() && found.gates.1 {
+            return Ok(());
         }
-        if bank == 0 && gates.1 {
+        if bank == 0 && found.gates.1 {
             self.gate(e, 1, 0)?;
         }
-        self.put_pages(e, 1 - bank, &store.image, &pages)?;
+        self.put_pages(e, 1 - bank, image, &pages)?;
         self.sync()?;
-        self.gate(e, 1 - bank, OPEN)?;
-        Ok(store)
+        self.gate(e, 1 - bank, OPEN)
     }
 
-    pub fn checkpoint(&mut self, e: &Election, store: &Store) -> Result<(), Fault> {
+    fn recover(&mut self, e: &Election) -> Result<Store, Fault> {
+        self.sync()?;
+        let found = self.look(e)?;
+        self.settle(e, &found)?;
+        Ok(found.store)
+    }
+
+    fn checkpoint(&mut self, e: &Election, image: &[u8]) -> Io<()> {
         for bank in [1, 0] {
             self.gate(e, bank, 0)?;
-            let pages = self.differing(e, bank, &store.image)?;
-            self.put_pages(e, bank, &store.image, &pages)?;
+            let pages = self.differing(e, bank, image)?;
+            self.put_pages(e, bank, image, &pages)?;
             self.sync()?;
             self.gate(e, bank, OPEN)?;
         }
@@ -204,8 +162,8 @@ impl Disk {
     }
 
     /// How many are held, and the first place that differs from their medium.
-    pub fn audit(&mut self, e: &Election) -> Result<(usize, Option<u64>), Fault> {
-        let (bank, gates, store) = self.chosen(e)?;
+    fn audit(&mut self, e: &Election) -> Result<(usize, Option<u64>), Fault> {
+        let Found { store, bank, gates } = self.look(e)?;
         let pages = self.differing(e, 1 - bank, &store.image)?;
         if let Some(&at) = pages.first() {
             let mut page = vec![0; PAGE.min(e.bank - at)];
@@ -219,5 +177,156 @@ impl Disk {
             _ => None,
         };
         Ok((store.held, place))
+    }
+}
+
+pub struct FileDisk {
+    path: String,
+    file: Option<File>,
+    opened: bool,
+    /// the file's name in its folder is settled
+    named: bool,
+    run: usize,
+}
+
+impl FileDisk {
+    pub fn new(path: &str, runs: bool) -> FileDisk {
+        FileDisk { path: path.to_string(), file: None, opened: false, named: false, run: if runs { 64 } else { 1 } }
+    }
+
+    fn file(&mut self) -> Io<Option<&File>> {
+        if !self.opened {
+            self.file = match OpenOptions::new().read(true).write(true).open(&self.path) {
+                Ok(f) => Some(f),
+                Err(e) if e.kind() == ErrorKind::NotFound => None,
+                Err(e) if e.kind() == ErrorKind::PermissionDenied => Some(File::open(&self.path)?),
+                Err(e) => return Err(e),
+            };
+            self.opened = true;
+        }
+        Ok(self.file.as_ref())
+    }
+}
+
+impl Disk for FileDisk {
+    fn size(&mut self) -> Io<u64> {
+        Ok(match self.file()? {
+            Some(f) => f.metadata()?.len(),
+            None => 0,
+        })
+    }
+
+    fn read(&mut self, at: u64, buf: &mut [u8]) -> Io<()> {
+        match self.file()? {
+            Some(f) => f.read_exact_at(buf, at),
+            None => Err(ErrorKind::UnexpectedEof.into()),
+        }
+    }
+
+    fn write(&mut self, at: u64, bytes: &[u8]) -> Io<()> {
+        if self.file()?.is_none() {
+            self.file = Some(OpenOptions::new().read(true).write(true).create(true).truncate(false).open(&self.path)?);
+        }
+        self.file.as_ref().unwrap().write_all_at(bytes, at)
+    }
+
+    /// Settles the bytes and, the first time, the file's name. A run that was killed may have
+    /// made the file, so this does not ask who made it.
+    fn sync(&mut self) -> Io<()> {
+        match self.file()? {
+            Some(f) => f.sync_data()?,
+            None => return Ok(()),
+        }
+        if !self.named {
+            let folder = Path::new(&self.path).parent().filter(|p| !p.as_os_str().is_empty());
+            File::open(folder.unwrap_or(Path::new(".")))?.sync_all()?;
+            self.named = true;
+        }
+        Ok(())
+    }
+
+    fn run(&self) -> usize {
+        self.run
+    }
+}
+
+/// Two disks as one: each call goes to both, and a read gives the first's bytes.
+pub struct Twin<'a> {
+    first: &'a mut FileDisk,
+    second: &'a mut FileDisk,
+    /// the disk that failed first; from then on no call reaches a disk
+    pub failed: Option<u32>,
+}
+
+impl<'a> Twin<'a> {
+    pub fn new(first: &'a mut FileDisk, second: &'a mut FileDisk) -> Twin<'a> {
+        Twin { first, second, failed: None }
+    }
+
+    /// One call on the disk `early` and then on the other one.
+    fn both<R>(&mut self, early: u32, mut call: impl FnMut(&mut FileDisk) -> Io<R>) -> Io<R> {
+        if self.failed.is_some() {
+            return Err(ErrorKind::Other.into());
+        }
+        let mut last = None;
+        for which in [early, 1 - early] {
+            match call(if which == 0 { &mut *self.first } else { &mut *self.second }) {
+                Ok(r) => last = Some(r),
+                Err(e) => {
+                    self.failed = Some(which);
+                    return Err(e);
+                }
+            }
+        }
+        Ok(last.unwrap())
+    }
+}
+
+impl Disk for Twin<'_> {
+    fn size(&mut self) -> Io<u64> {
+        self.both(0, |d| d.size())
+    }
+
+    fn read(&mut self, at: u64, buf: &mut [u8]) -> Io<()> {
+        self.both(1, |d| d.read(at, buf))
+    }
+
+    fn write(&mut self, at: u64, bytes: &[u8]) -> Io<()> {
+        self.both(0, |d| d.write(at, bytes))
+    }
+
+    fn sync(&mut self) -> Io<()> {
+        self.both(0, |d| d.sync())
+    }
+
+    fn run(&self) -> usize {
+        self.first.run
+    }
+}
+
+/// What a session checkpoints to: one disk, two as one, or one for each part. A fault gives
+/// the number of the disk that failed.
+pub trait Media {
+    fn renew(&mut self, e: &Election, stores: &[Store]) -> Result<(), u32>;
+}
+
+impl Media for FileDisk {
+    fn renew(&mut self, e: &Election, stores: &[Store]) -> Result<(), u32> {
+        self.checkpoint(e, &stores[0].image).map_err(|_| 0)
+    }
+}
+
+impl Media for Twin<'_> {
+    fn renew(&mut self, e: &Election, stores: &[Store]) -> Result<(), u32> {
+        self.checkpoint(e, &stores[0].image).map_err(|_| self.failed.unwrap_or(0))
+    }
+}
+
+impl Media for Vec<FileDisk> {
+    fn renew(&mut self, e: &Election, stores: &[Store]) -> Result<(), u32> {
+        for (i, (disk, s)) in self.iter_mut().zip(stores).enumerate() {
+            disk.checkpoint(e, &s.image).map_err(|_| i as u32)?;
+        }
+        Ok(())
     }
 }

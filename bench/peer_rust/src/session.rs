@@ -2,173 +2,9 @@
 
 use crate::election::*;
 use crate::engine::*;
-use crate::medium::{Disk, Fault};
-use crate::store::Store;
-use std::fs::File;
-use std::io::{ErrorKind, Read, Write};
-use std::mem::ManuallyDrop;
-use std::os::fd::FromRawFd;
-
-const SCRIPT_LIMIT: usize = 67_108_864;
-const WIDTH: usize = 8192;
-const BUFFER: usize = 256 * 1024;
-
-#[inline]
-pub fn line_end(bytes: &[u8]) -> Option<usize> {
-    #[cfg(target_arch = "x86_64")]
-    {
-        use std::arch::x86_64::*;
-        let mut i = 0;
-        // SSE2 is part of x86_64, and each load lies within the slice
-        unsafe {
-            let end = _mm_set1_epi8(b'\n' as i8);
-            while i + 16 <= bytes.len() {
-                let w = _mm_loadu_si128(bytes.as_ptr().add(i) as *const __m128i);
-                let m = _mm_movemask_epi8(_mm_cmpeq_epi8(w, end));
-                if m != 0 {
-                    return Some(i + m.trailing_zeros() as usize);
-                }
-                i += 16;
-            }
-        }
-        bytes[i..].iter().position(|b| *b == b'\n').map(|p| i + p)
-    }
-    #[cfg(not(target_arch = "x86_64"))]
-    bytes.iter().position(|b| *b == b'\n')
-}
-
-pub struct Lines {
-    input: ManuallyDrop<File>,
-    buffer: Vec<u8>,
-    from: usize,
-    to: usize,
-    looked: usize,
-    total: usize,
-    wide: bool,
-}
-
-pub enum Next {
-    Whole(std::ops::Range<usize>),
-    TooWide,
-    End,
-    TooLong,
-    Fault,
-}
-
-impl Lines {
-    pub fn new() -> Lines {
-        Lines {
-            input: ManuallyDrop::new(unsafe { File::from_raw_fd(0) }),
-            buffer: vec![0; BUFFER],
-            from: 0,
-            to: 0,
-            looked: 0,
-            total: 0,
-            wide: false,
-        }
-    }
-
-    pub fn line(&self, r: std::ops::Range<usize>) -> &[u8] {
-        &self.buffer[r]
-    }
-
-    fn read(&mut self, room: usize) -> Result<usize, ()> {
-        loop {
-            match self.input.read(&mut self.buffer[self.to..self.to + room]) {
-                Ok(n) => return Ok(n),
-                Err(e) if e.kind() == ErrorKind::Interrupted => {}
-                Err(_) => return Err(()),
-            }
-        }
-    }
-
-    /// The next line; `before_read` runs before each read of the input.
-    #[inline]
-    pub fn next(&mut self, mut before_read: impl FnMut() -> bool) -> Next {
-        loop {
-            if let Some(n) = line_end(&self.buffer[self.looked..self.to]) {
-                let (from, to) = (self.from, self.looked + n);
-                self.from = to + 1;
-                self.looked = self.from;
-                if std::mem::take(&mut self.wide) || to - from > WIDTH {
-                    return Next::TooWide;
-                }
-                return Next::Whole(from..to);
-            }
-            if self.to - self.from > WIDTH {
-                self.wide = true;
-                self.from = self.to;
-            }
-            self.buffer.copy_within(self.from..self.to, 0);
-            self.to -= self.from;
-            self.from = 0;
-            self.looked = self.to;
-            if !before_read() {
-                return Next::Fault;
-            }
-            let room = (self.buffer.len() - self.to).min(SCRIPT_LIMIT - self.total);
-            let got = if room == 0 {
-                match self.read(1) {
-                    Ok(0) => 0,
-                    Ok(_) => return Next::TooLong,
-                    Err(()) => return Next::Fault,
-                }
-            } else {
-                match self.read(room) {
-                    Ok(n) => n,
-                    Err(()) => return Next::Fault,
-                }
-            };
-            if got == 0 {
-                let last = self.from..self.to;
-                self.from = self.to;
-                return if std::mem::take(&mut self.wide) {
-                    Next::TooWide
-                } else if last.is_empty() {
-                    Next::End
-                } else {
-                    self.looked = self.to;
-                    Next::Whole(last)
-                };
-            }
-            self.total += got;
-            self.to += got;
-        }
-    }
-}
-
-pub struct Out {
-    file: ManuallyDrop<File>,
-    pub text: Vec<u8>,
-}
-
-impl Out {
-    pub fn new() -> Out {
-        Out { file: ManuallyDrop::new(unsafe { File::from_raw_fd(1) }), text: Vec::with_capacity(BUFFER) }
-    }
-
-    /// Writes what waits; false for a fault of the output.
-    pub fn flush(&mut self) -> bool {
-        let ok = self.text.is_empty() || self.file.write_all(&self.text).is_ok();
-        self.text.clear();
-        ok
-    }
-
-    fn spill(&mut self) -> bool {
-        self.text.len() < BUFFER - 4096 || self.flush()
-    }
-}
-
-pub enum End {
-    Disk,
-    Write,
-}
-
-impl From<Fault> for End {
-    fn from(_: Fault) -> End {
-        End::Disk
-    }
-}
+use crate::lines::*;
+use crate::medium::Media;
+use crate::store::Stores;
 
 #[derive(Clone, Copy, PartialEq)]
 enum Phase {
@@ -202,14 +38,13 @@ enum Line {
 pub struct Session<'a> {
     e: &'a Election,
     style: Style,
-    store: Store,
+    stores: Stores,
     phase: Phase,
     items: Vec<Vec<Item>>,
     numbers: Vec<Vec<u64>>,
     rows: Vec<u8>,
-    /// the cell bytes of the line that is read
+    /// the record of the line at hand
     row: [u8; MAX_ROW],
-    tables: Tables,
     /// only `closed N`, `checkpoint N` and the tally are written
     quiet: bool,
     watch: Watch,
@@ -283,27 +118,19 @@ fn read_line(line: &[u8], e: &Election, row: &mut [u8; MAX_ROW]) -> Option<Line>
 }
 
 impl<'a> Session<'a> {
-    pub fn new(e: &'a Election, style: Style, store: Store, quiet: bool) -> Session<'a> {
+    pub fn new(e: &'a Election, style: Style, stores: Stores, quiet: bool) -> Session<'a> {
         Session {
             e,
             style,
-            store,
+            stores,
             phase: Phase::Closed,
             items: Vec::new(),
             numbers: Vec::new(),
             rows: Vec::new(),
             row: [0; MAX_ROW],
-            tables: Tables::new(),
             quiet,
             watch: Watch { on: std::env::var_os("PEER_TIMES").is_some(), last: std::time::Instant::now() },
         }
-    }
-
-    fn count(out: &mut Out, word: &[u8], n: usize) {
-        out.text.extend_from_slice(word);
-        out.text.push(b' ');
-        put_number(&mut out.text, n as u64);
-        out.text.push(b'\n');
     }
 
     fn refused(out: &mut Out, index: u64, why: &[u8], phase: &[u8]) {
@@ -316,7 +143,7 @@ impl<'a> Session<'a> {
     }
 
     #[inline]
-    pub fn line(&mut self, text: &[u8], index: u64, disk: &mut Disk, out: &mut Out) -> Result<(), End> {
+    pub fn line(&mut self, text: &[u8], index: u64, media: &mut dyn Media, out: &mut Out) -> Result<(), End> {
         let Some(line) = read_line(text, self.e, &mut self.row) else {
             Session::refused(out, index, b"malformed", b"");
             return if out.spill() { Ok(()) } else { Err(End::Write) };
@@ -340,9 +167,13 @@ impl<'a> Session<'a> {
             }
             Line::Open(phase, t) => self.open(phase, t, out),
             Line::Close => self.close(out)?,
-            Line::Checkpoint => self.checkpoint(disk, out)?,
-            Line::Tally => self.store.tally(self.e, &mut out.text),
-            Line::Export => self.store.export(self.e, &mut out.text),
+            Line::Checkpoint => self.checkpoint(media, out)?,
+            Line::Tally => self.stores.tally(self.e, &mut out.text),
+            Line::Export => {
+                if !self.stores.export(self.e, out) {
+                    return Err(End::Write);
+                }
+            }
         }
         if out.spill() { Ok(()) } else { Err(End::Write) }
     }
@@ -363,7 +194,7 @@ impl<'a> Session<'a> {
             self.numbers.resize_with(t, Vec::new);
         }
         if !self.quiet {
-            Session::count(out, phase.name(), t);
+            out.count(phase.name(), t);
         }
     }
 
@@ -373,13 +204,9 @@ impl<'a> Session<'a> {
         const WITHDRAW: [&[u8]; 3] = [b" withdrawn\n", b" gone\n", b" absent\n"];
         const FIND: [&[u8]; 2] = [b" absent\n", b" present\n"];
         let (replies, words): (Vec<Vec<u8>>, &[&[u8]]) = match self.phase {
-            Phase::Casting => {
-                (self.store.cast(self.style, self.e, &self.items, &self.rows, &mut self.tables), &CAST)
-            }
-            Phase::Withdrawing => {
-                (self.store.withdraw(self.style, self.e, &self.numbers, &mut self.tables), &WITHDRAW)
-            }
-            _ => (run_find(self.e.order, &self.store.cells, &self.numbers), &FIND),
+            Phase::Casting => (self.stores.cast(self.e, &self.items, &self.rows), &CAST),
+            Phase::Withdrawing => (self.stores.withdraw(self.e, &self.numbers), &WITHDRAW),
+            _ => (self.stores.find(self.e, &self.numbers), &FIND),
         };
         self.watch.tell("phase");
         self.items.clear();
@@ -399,19 +226,19 @@ impl<'a> Session<'a> {
                 }
             }
         }
-        Session::count(out, b"closed", self.store.held);
+        out.count(b"closed", self.stores.held());
         self.watch.tell("replies");
         Ok(())
     }
 
-    fn checkpoint(&mut self, disk: &mut Disk, out: &mut Out) -> Result<(), End> {
+    fn checkpoint(&mut self, media: &mut dyn Media, out: &mut Out) -> Result<(), End> {
         self.watch.tell("before checkpoint");
         if !out.flush() {
             return Err(End::Write);
         }
-        disk.checkpoint(self.e, &self.store)?;
+        media.renew(self.e, &self.stores.all).map_err(End::Disk)?;
         self.watch.tell("checkpoint");
-        Session::count(out, b"checkpoint", self.store.held);
+        out.count(b"checkpoint", self.stores.held());
         if out.flush() { Ok(()) } else { Err(End::Write) }
     }
 
@@ -427,7 +254,14 @@ impl<'a> Session<'a> {
     }
 
     /// The generated script, as lines through `line`, or straight into the lists.
-    pub fn large(&mut self, seed: u64, count: u64, tabs: usize, disk: &mut Disk, out: &mut Out) -> Result<(), End> {
+    pub fn large(
+        &mut self,
+        seed: u64,
+        count: u64,
+        tabs: usize,
+        media: &mut dyn Media,
+        out: &mut Out,
+    ) -> Result<(), End> {
         let e = self.e;
         let n = count.min(e.limit as u64);
         let number = |i: u64| (seed + i).wrapping_mul(0xD134_2543_DE82_EF95);
@@ -455,15 +289,15 @@ impl<'a> Session<'a> {
                 self.numbers[(i / 10 % t) as usize].push(number(i));
             }
             self.close(out)?;
-            self.checkpoint(disk, out)?;
-            self.store.tally(e, &mut out.text);
+            self.checkpoint(media, out)?;
+            self.stores.tally(e, &mut out.text);
             return if out.spill() { Ok(()) } else { Err(End::Write) };
         }
         let mut text = Vec::with_capacity(WIDTH);
         let mut index = 0;
         let mut say = |s: &mut Session, text: &[u8], out: &mut Out| {
             index += 1;
-            s.line(text, index, disk, out)
+            s.line(text, index, media, out)
         };
         let put = |text: &mut Vec<u8>, word: &[u8], v: u64| {
             text.extend_from_slice(word);
@@ -501,61 +335,4 @@ impl<'a> Session<'a> {
         say(self, b"checkpoint", out)?;
         say(self, b"tally", out)
     }
-}
-
-pub enum BuildEnd {
-    Done(Vec<u8>),
-    Bad(u64),
-    TooLong,
-    ReadFault,
-}
-
-/// The record lines of the input into an image.
-pub fn build(e: &Election) -> BuildEnd {
-    let mut lines = Lines::new();
-    let mut cells = vec![0u64; e.cells];
-    let mut at: Vec<u32> = vec![0; e.cells];
-    let mut rows: Vec<u8> = Vec::new();
-    let mut row = [0; MAX_ROW];
-    let (mut held, mut index) = (0, 0);
-    loop {
-        let range = match lines.next(|| true) {
-            Next::Whole(r) => r,
-            Next::TooWide => return BuildEnd::Bad(index + 1),
-            Next::End => break,
-            Next::TooLong => return BuildEnd::TooLong,
-            Next::Fault => return BuildEnd::ReadFault,
-        };
-        index += 1;
-        let Ok(number) = e.read_record(lines.line(range), &mut row) else { return BuildEnd::Bad(index) };
-        let mut p = e.order.home(number);
-        while cells[p] > number {
-            p += 1;
-        }
-        if cells[p] == number || held == e.limit {
-            return BuildEnd::Bad(index);
-        }
-        let (mut v, mut r) = (number, rows.len() as u32);
-        rows.extend_from_slice(&row[..e.row]);
-        held += 1;
-        loop {
-            if cells[p] < v {
-                std::mem::swap(&mut cells[p], &mut v);
-                std::mem::swap(&mut at[p], &mut r);
-                if v == 0 {
-                    break;
-                }
-            }
-            p += 1;
-        }
-    }
-    let mut image = vec![0; e.bank];
-    image[..32].copy_from_slice(&e.header());
-    for (p, v) in cells.iter().enumerate() {
-        if *v != 0 {
-            let row = at[p] as usize;
-            image[32 + p * e.row..32 + (p + 1) * e.row].copy_from_slice(&rows[row..row + e.row]);
-        }
-    }
-    BuildEnd::Done(image)
 }

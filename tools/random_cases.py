@@ -1,0 +1,312 @@
+"""Random elections, media, scripts and words, for the tools that doubt the program.
+
+A case is made of dictionaries, lists, numbers and strings alone, so that it can be kept as JSON, and be made smaller
+part by part. Its strings stand for bytes, as latin-1 has them. It has the keys
+
+    election   a dictionary as the election's JSON, with or without "version"
+    text       the election's text where it is not just that JSON, else None
+    medium     None where the file is missing, else the sets that it was made of and the damage
+    runs       a list of runs: words, in which MEDIUM and ELECTION stand for the two files, the lines of the script, and
+               where the output goes ("pipe" or "full")
+"""
+import json
+
+from store_model import Rules
+
+GOLDEN = 0x9E3779B97F4A7C15
+# The commands that a run is made of, and how often. Later ones (merge, migrate, twin, part) get a line here, a function
+# that makes their words and scripts, and their further media among the files of a case.
+COMMANDS = {"session": 50, "audit": 12, "sample": 7, "compare": 7, "build": 8, "large": 4, "replay": 8, "init": 6,
+            "words": 4, "odd": 3}
+BAD_LINES = ["", " ", "\r", "\0", "close ", " close", "close\r", "Close", "checkpoint 1", "export\t", "tally\0", "open",
+             "open cast", "open cast 0", "open cast 65", "open cast 01", "open  cast 1", "open cast 1 ", "open count 1",
+             "open cast 1\r", "cast", "cast 1", "cast 1 ", "cast 0 1 1 1", "cast 65 1 1 1", "cast 01 1 1 1", "find 1 0",
+             "withdraw 1 18446744073709551616", "find 1 18446744073709551615 ", "withdraw 1 -1", "find 1 1.0",
+             "find 1 +1", "cast 1 1 1 -,1", "cast 1 1 1 1,1", "cast 1 1 1 2,1", "cast 1 1 1 1,", "cast 1 1 1 /",
+             "cast 1 1 1 1/", "cast 1 1 0 1", "cast 1 1 256 1", "cast 1 01 1 1", "cast 1 1 1 65", "cast 1 1 1 0",
+             "cast 1 1 1 1\xff", "cast 1 1 1  1", "x" * 8193, "cast 1 1 1 " + "-/" * 4092 + "-", "find 64 1", "dropped"]
+BAD_TEXTS = ['', ' ', 'null', '[]', '{}', '\xef\xbb\xbf{}', '{"limit":1}', '{', '"', '[' * 200, '\xff']
+BAD_VALUES = ['0', '-1', '-0', '1.0', '1e0', '"1"', 'null', 'true', '[]', '{}', '32769', '17', '65', '3', '01', '1 ',
+              '18446744073709551616', '1' * 400, '"0"', '"0000000000000000"', '"000000000000000G"',
+              '"000000000000000A"', '[1]', '[[1]]', '[[]]', '[[1,1]]', '[[2,1]]', '[[0]]', '[[99]]', '[{}]',
+              '[{"choices":1}]', 'NaN',
+              '[{"choices":0,"allowed":0}]', '[{"choices":1,"allowed":2}]', '[{"choices":33,"allowed":1}]',
+              '[{"choices":1,"allowed":1,"x":1}]', '"\\ud800"', "[" * 130 + "]" * 130]
+
+
+def election(rng, small=False):
+    version = rng.choice([None, None, 1, 2, 2])
+    most_contests, most_choices = (24, 64) if version == 2 else (16, 32)
+    count = rng.choice([1, 1, 2, 2, 3, 4, most_contests] if not small else [1, 2, 3])
+    contests = []
+    for _ in range(count):
+        choices = rng.choice([1, 2, 3, 4, 8, most_choices, rng.randint(1, most_choices)])
+        contests.append({"choices": choices, "allowed": rng.choice([1, 1, choices, rng.randint(1, choices)])})
+    styles = [sorted(rng.sample(range(1, count + 1), rng.randint(1, count))) for _ in range(rng.choice([1, 1, 2, 3]))]
+    if not small and rng.random() < 0.01:
+        styles *= 255 // len(styles)
+    limit, bits = rng.choice([1, 2, 3, 5, 8, 8, 12, 20, rng.randint(1, 60)]), rng.choice([0, 0, 1, 2, 3, 3, 4, 5, 6])
+    if small and rng.random() < 0.3:
+        limit, bits = rng.randint(60, 200), rng.randint(5, 8)  # banks of several pages
+    elif not small and rng.random() < 0.002:
+        limit, bits = 32768, 16
+    told = {"contests": contests, "styles": styles, "limit": limit, "bits": bits, "salt": f"{rng.getrandbits(64):016x}"}
+    return told if version is None else told | {"version": version}
+
+
+def spelled(rng, told):
+    """A text of an election: mostly one that spells it, in an unusual way, or else a bad one."""
+    parts = [(json.dumps(key), json.dumps(value)) for key, value in told.items()]
+    rng.shuffle(parts)
+    if rng.random() < 0.3:
+        at = rng.randrange(len(parts))
+        parts[at] = parts[at][0], rng.choice(BAD_VALUES)
+    elif rng.random() < 0.1:
+        return rng.choice(BAD_TEXTS)
+    if rng.random() < 0.3:
+        parts.insert(rng.randrange(len(parts)), (rng.choice(parts)[0], rng.choice(BAD_VALUES)))
+    if rng.random() < 0.3:
+        parts = [("".join(f"\\u{ord(c):04x}" if rng.random() < 0.2 else c for c in key[1:-1]).join('""'), value)
+                 for key, value in parts]
+    if rng.random() < 0.1:
+        del parts[rng.randrange(len(parts))]
+    if rng.random() < 0.1:
+        parts.append((rng.choice(['"x"', '"version"', '""', '"bits "']), rng.choice(["1", "2", "3"])))
+    space = [rng.choice(["", " ", "\n", "\t", "\r\n", "  ", "\f" if rng.random() < 0.02 else ""]) for _ in range(4)]
+    text = space[0] + "{" + (space[1] + ",").join(key + ":" + space[2] + value for key, value in parts) + "}" + space[3]
+    if rng.random() < 0.05:
+        at = rng.randrange(len(text))
+        text = text[:at] + rng.choice(["", ",", "}", "\0", "\xff", '"']) + text[at + 1:]
+    return text
+
+
+class Maker:
+    """Makes the parts of one case, over one small pool of numbers."""
+
+    def __init__(self, rng, told, crowded=False):
+        self.rng, self.told = rng, told
+        self.most = 64 if told.get("version") == 2 else 32
+        numbers = [1, 2, 3, 2**64 - 1, 2**63, 2**32] + [rng.getrandbits(64) or 7 for _ in range(8)]
+        numbers += [rng.randint(1, 40) for _ in range(6)]
+        target, shift = rng.randrange(2 ** told["bits"]), 64 - told["bits"]
+        for _ in range(60):  # numbers that have one home
+            number = rng.getrandbits(64)
+            if number and ((number ^ int(told["salt"], 16)) * GOLDEN % 2**64) >> shift == target:
+                numbers.append(number)
+        if crowded:
+            numbers += [rng.getrandbits(64) or 9 for _ in range(2 * told["limit"])]
+        self.numbers = numbers
+        self.ballots = {}
+
+    def record(self, number=None, valid=False):
+        """A record line: mostly of a ballot that came before for its number, so that it may be a duplicate."""
+        rng = self.rng
+        number = number or rng.choice(self.numbers)
+        if number in self.ballots and rng.random() < 0.7:
+            return self.ballots[number]
+        style = rng.randint(1, len(self.told["styles"]))
+        groups = []
+        for k, contest in enumerate(self.told["contests"], 1):
+            drawn = rng.choice([0, 1, 1, contest["allowed"], rng.randint(0, contest["choices"]), contest["choices"]])
+            marks = sorted(rng.sample(range(1, contest["choices"] + 1), drawn))
+            if k not in self.told["styles"][style - 1]:
+                marks = []
+            if not valid and rng.random() < 0.02:
+                marks = sorted({*marks, rng.randint(1, self.most)})
+            groups.append(",".join(map(str, marks)) or "-")
+        if not valid and rng.random() < 0.01:
+            groups.append("-")
+        if not valid and rng.random() < 0.01:
+            style = rng.choice([0, 254, 255, 256, len(self.told["styles"]) + 1])
+        line = f"{number} {style} {'/'.join(groups)}"
+        if valid:
+            self.ballots.setdefault(number, line)
+        return line
+
+    def sheaf(self, most):
+        """Record lines of a set."""
+        count = self.rng.choice([0, 1, most, self.rng.randint(0, most)])
+        numbers = self.rng.sample(sorted(set(self.numbers)), min(count, len(set(self.numbers))))
+        return [self.record(number, valid=True) for number in numbers]
+
+    def medium(self, torn=0.3, damaged=0.25):
+        rng, limit = self.rng, self.told["limit"]
+        if rng.random() < 0.15:
+            return None
+        edits, other = [], self.sheaf(min(limit, 60))
+        ballots = self.sheaf(min(limit, 60) + (rng.random() < 0.04))  # one more than the limit fits the cells
+        if rng.random() < torn:
+            edits += rng.choice([[["gate", 1, 0]], [["gate", 1, rng.randrange(256)], ["torn", 1, *self.range()]],
+                                 [["other", 1], ["gate", 1, rng.randrange(256)]], [["other", 1]],
+                                 [["gate", 0, 0], ["other", 1], ["torn", 0, *self.range()]],
+                                 [["gate", 0, rng.randrange(256)], ["other", 1]],
+                                 [["gate", 0, rng.randrange(256)], ["gate", 1, rng.randrange(256)]]])
+        while rng.random() < damaged:
+            edits.append(rng.choice([["byte", rng.getrandbits(32), rng.randrange(256)], ["gate", rng.randrange(2), 0],
+                                     ["byte", rng.randrange(32), rng.randrange(256)],
+                                     ["cell", rng.getrandbits(16), rng.getrandbits(16)], ["empty", rng.getrandbits(16)],
+                                     ["swap", rng.getrandbits(16), rng.getrandbits(16)],
+                                     ["torn", rng.randrange(2), *self.range()],
+                                     ["size", rng.choice([-1, 1, -2, 10, -10**6, rng.randint(-400, 400)])]]))
+        return {"ballots": ballots, "other": other, "edits": edits}
+
+    def range(self):
+        return self.rng.getrandbits(20), self.rng.choice([1, 8, 64, 512, 4096]), self.rng.getrandbits(30)
+
+    def hostile(self, line):
+        rng = self.rng
+        if rng.random() < 0.5 or not line:
+            return rng.choice(BAD_LINES)
+        at = rng.randrange(len(line))
+        return line[:at] + rng.choice(["", " ", "0", "\r", ",", "/", "-", "9", line[at] * 2]) + line[at + 1:]
+
+    def script(self, phases, crowded=False, badness=0.03):
+        """The lines of a session's script; the last is empty, but where the last line has no end."""
+        rng, lines = self.rng, []
+        for _ in range(phases):
+            kind = rng.choice(["cast", "cast", "cast", "withdraw", "withdraw", "find"])
+            tabs = rng.choice([1, 1, 1, 2, 2, 3, 4, 8, 64]) if not crowded else rng.randint(2, 8)
+            lines.append(f"open {kind} {tabs}")
+            items = rng.choice([0, 1, 2, 5, 12, rng.randint(0, 40)]) if not crowded else rng.randint(60, 600)
+            for _ in range(items):
+                tab = rng.randint(1, tabs + (rng.random() < 0.02))
+                what = self.record(valid=rng.random() < 0.5) if kind == "cast" else rng.choice(self.numbers)
+                lines.append(f"{kind} {tab} {what}")
+            if rng.random() < 0.95:
+                lines.append("close")
+            lines += rng.choices(["checkpoint", "tally", "export"], k=rng.choice([0, 1, 1, 2]))
+        for at in range(len(lines)):
+            if rng.random() < badness:
+                lines.insert(at, self.hostile(rng.choice(lines)))
+        return lines + [""] if rng.random() < 0.9 else lines
+
+    def replay(self):
+        rng, kind, tabs = self.rng, self.rng.choice(["cast", "withdraw"]), self.rng.choice([1, 2, 2, 3, 4])
+        start = rng.sample(sorted(set(self.numbers)), rng.randint(0, min(self.told["limit"], 8)))
+        lines = [" ".join(["start", *map(str, start)]), f"{kind} {tabs}"]
+        for tab in range(1, tabs + 1):
+            drawn = rng.choices(self.numbers + 3 * start, k=rng.randint(0, 6))
+            lines.append(" ".join(map(str, ["list", tab, *drawn])))
+        for _ in range(rng.randint(0, 2)):
+            lines.append(" ".join(["steps", *(str(rng.randint(1, tabs)) for _ in range(rng.randint(0, 60)))]))
+        if rng.random() < 0.1:
+            lines.insert(rng.randint(0, len(lines)), self.hostile(rng.choice(lines)))
+        return lines + [""]
+
+    def run(self, command, first=False):
+        rng = self.rng
+        words, script = ["MEDIUM", "ELECTION", command], []
+        if command == "session":
+            script = self.script(rng.choice([0, 1, 2, 3, 5]), badness=rng.choice([0, 0.02, 0.1, 0.5]))
+        elif command in ("sample", "compare"):
+            words.append("".join(rng.choices("0123456789", k=rng.choice([1, 2, 8, 64]))))
+            words.append(str(rng.choice([1, 2, 3, 5, 32768])))
+            if command == "compare":
+                records = [self.record(valid=rng.random() < 0.7) for _ in range(rng.randint(0, 12))]
+                script = [self.hostile(line) if rng.random() < 0.1 else line for line in records] + [""]
+        elif command == "build":
+            script = self.sheaf(min(self.told["limit"], 30)) + [""]
+            if rng.random() < 0.3:
+                at = rng.randrange(len(script))
+                script.insert(at, self.hostile(self.record()) if rng.random() < 0.5 else self.record())
+        elif command == "large":
+            # of several tabulators only where no ballot can be refused as full
+            words += ["--seed", str(rng.randint(1, 2**32 - 1)), "--count", str(rng.randint(1, 80)), "--tabs",
+                      str(rng.choice([1, 2, 8, 64]) if first else 1)]
+        elif command == "replay":
+            script = self.replay()
+        elif command == "words":
+            words = self.words()
+        elif command == "odd":
+            return self.odd()
+        return {"words": words, "script": script, "output": "pipe"}
+
+    def words(self):
+        rng = self.rng
+        pool = ["MEDIUM", "ELECTION", "init", "session", "audit", "sample", "compare", "build", "large", "replay", "",
+                "-", "--help", "--seed", "1", "01", "--count", "--tabs", "65", "0", "32769", "4294967296", "1" * 65,
+                "x", "--seed=1"]
+        whole = rng.choice([["MEDIUM", "ELECTION", "large", "--seed", "1", "--count", "5", "--tabs", "1"],
+                            ["MEDIUM", "ELECTION", "sample", "123", "2"], ["MEDIUM", "ELECTION", "audit"]])
+        if rng.random() < 0.3:
+            return rng.choices(pool, k=rng.randint(0, 5))
+        at = rng.randrange(len(whole))
+        return whole[:at] + rng.choices(pool, k=rng.randint(0, 2)) + whole[at + 1:]
+
+    def odd(self):
+        """Files that are missing or are none, and an output that takes nothing."""
+        rng = self.rng
+        command = rng.choice(["init", "session", "audit", "build"])
+        script, output = [], "pipe"
+        words = rng.choice([["MEDIUM", "none.json", command], ["MEDIUM", ".", command], [".", "ELECTION", command],
+                            ["ELECTION/x", "ELECTION", command], ["none/x", "ELECTION", command],
+                            ["MEDIUM", "ELECTION", command]])
+        if words == ["MEDIUM", "ELECTION", command]:
+            output, script = "full", rng.choice([["export", ""], ["checkpoint", "export", ""], []])
+        return {"words": words, "script": script, "output": output}
+
+
+def case(rng):
+    crowded = rng.random() < 0.03
+    told = election(rng)
+    if crowded:
+        told |= {"limit": rng.randint(50, 400), "bits": rng.choice([0, 1, 3, 5, 8])}
+    text = spelled(rng, told) if rng.random() < 0.12 else None
+    maker = Maker(rng, told, crowded)
+    if text is not None:
+        runs = [maker.run(rng.choice(["init", "build", "audit", "replay"]))]
+        return {"election": told, "text": text, "medium": maker.medium(), "runs": runs}
+    medium, runs = maker.medium(), []
+    if medium is None and rng.random() < 0.8:
+        runs.append(maker.run("init"))
+        if rng.random() < 0.1:
+            runs.append(maker.run("large", first=True))
+    if crowded:
+        runs.append({"words": ["MEDIUM", "ELECTION", "session"], "script": maker.script(3, True, 0), "output": "pipe"})
+    for _ in range(rng.choice([1, 1, 2, 3])):
+        runs.append(maker.run(*rng.choices(list(COMMANDS), list(COMMANDS.values()))))
+    return {"election": told, "text": text, "medium": medium, "runs": runs}
+
+
+def text_of(case):
+    """The bytes of the election's file."""
+    return (json.dumps(case["election"]) if case["text"] is None else case["text"]).encode("latin-1")
+
+
+def medium_of(case):
+    """The bytes of the medium, or None."""
+    told = case["medium"]
+    if told is None:
+        return None
+    rules = Rules(json.dumps(case["election"]).encode())
+    image, other = (rules.image({b[0]: b for b in map(rules.ballot, map(str.encode, told[name])) if b})
+                    for name in ("ballots", "other"))
+    width, cells = rules.election.cell_format().size, rules.election.cell_count()
+    data = bytearray(image * 2 + b"\xa7\xa7")
+
+    def cell(which):  # of both banks
+        bank, at = divmod(which % (2 * cells), cells)
+        start = bank * len(image) + 32 + at * width
+        return slice(start, start + width)
+
+    for kind, *given in told["edits"]:
+        if kind == "byte":
+            data[given[0] % len(data)] = given[1]
+        elif kind == "gate":
+            data[2 * len(image) + given[0]:2 * len(image) + given[0] + 1] = bytes([given[1]])
+        elif kind == "other":
+            data[given[0] * len(image):(given[0] + 1) * len(image)] = other
+        elif kind == "torn":
+            bank, start, length, rest = given
+            at = start % len(image)
+            to = min(at + length, len(image))
+            rubbish = bytes([rest % 256]) * (to - at)
+            data[bank * len(image) + at:bank * len(image) + to] = other[at:to] if rest % 3 else rubbish
+        elif kind in ("cell", "empty", "swap"):
+            first, second = cell(given[0]), cell(given[-1])
+            data[first], data[second] = {"cell": (data[second], data[second]), "empty": (bytes(width), bytes(width)),
+                                         "swap": (data[second], data[first])}[kind]
+        elif kind == "size":
+            data = data[:max(0, len(data) + given[0])].ljust(len(data) + given[0], b"\xa7")
+            break
+    return bytes(data)
