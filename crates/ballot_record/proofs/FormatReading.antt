@@ -30,13 +30,13 @@ AreBytes-take n bytes fits i =
       | inr past ↦ rw (get_or_past (take n bytes) i 0 (omega (arith, length-take n bytes))) (omega arith)
     ]
 
-length-sets_at : (width n : ℕ) (bytes : List ℕ) → length (sets_at width n bytes) ≡ n
+pub length-sets_at : (width n : ℕ) (bytes : List ℕ) → length (sets_at width n bytes) ≡ n
 unfolding sets_at
 length-sets_at width zero bytes = refl
 length-sets_at width (suc n) bytes = ap suc (length-sets_at width n (drop width bytes))
 
 -- the mark set at a place is spelled by the bytes there
-set_read : (width n : ℕ) (bytes : List ℕ) (place : ℕ) → place < n → get_or (sets_at width n bytes) place 0 ≡ big_number width (drop (width * place) bytes)
+pub set_read : (width n : ℕ) (bytes : List ℕ) (place : ℕ) → place < n → get_or (sets_at width n bytes) place 0 ≡ big_number width (drop (width * place) bytes)
 unfolding sets_at
 set_read width zero bytes place within = absurd (omega arith)
 set_read width (suc n) bytes zero within = ap (λ k. big_number width (drop k bytes)) (let none : 0 ≡ width * 0 = omega arith in none)

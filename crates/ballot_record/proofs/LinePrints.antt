@@ -1,82 +1,42 @@
 -- How a line is put, choice by choice and group by group.
-use Rattle.std.proofs.Common.{◌≡◌, ℕ, zero, suc, ◌+◌, ◌*◌, ◌/◌, ◌%◌, ◌^◌, ◌<◌, ◌≤◌, Bool, true, false, cond, eqb, List, [], ◌∷◌, ◌++◌, map, refl, sym, ap, subst₂, ◌∙◌, arith, pow-suc, zero-mul, mul-one, add-one, append_assoc, drop, drop-cons, get_or, length}
-use Rattle.std.proofs.lemmas.Bool.{eq-eqb, ne_eqb}
+use Rattle.std.proofs.Common.{◌≡◌, ℕ, ◌+◌, ◌-◌, ◌*◌, ◌^◌, ◌<◌, ◌≤◌, Bool, true, false, cond, eqb, List, [], ◌∷◌, ◌++◌, map, refl, sym, ap, ◌∙◌, arith, zero-mul, mul-one, add-one, append_assoc, drop, drop-cons, get_or, length}
+use Rattle.std.proofs.lemmas.Bool.{ne_eqb}
 use Rattle.std.proofs.lemmas.List.{drop_all}
 use Rattle.std.specs.Fmt.{decimal}
+use Rattle.std.specs.Int.{bit_at}
 use Rattle.std.specs.List.{join_with_byte}
 use Rattle.store_spec.specs.BallotLine.{choices_in, comma, group_text, mark_set, slash, space}
 use Rattle.store_spec.specs.Election.{Election, most_choices}
 use Rattle.ballot_record.proofs.Joining.{joined_after, part_put, all_put}
 use Rattle.ballot_record.proofs.LineGroups.{choices_text, text_of_some}
-use Rattle.ballot_record.proofs.MarkSets.{choices_from, choices_of_word, choices_from-mark_set, choices_in-is, mark_set-choices_in}
+use Rattle.ballot_record.proofs.MarkSets.{choices_from, choices_of_word, choices_from-mark_set, choices_in-is, lowest_choice, mark_set-choices_in}
 
--- The choices of a set are put up to this one, and the rest has the bits of those above it. So many of them may follow.
-pub record ChoicesPut (first : Bool) (more choice rest : ℕ) (now whole : List ℕ) : Type 0 where
-  pub room : more + choice ≡ 64
-  pub few : rest < 2 ^ more
-  pub text : now ++ joined_after first comma (map decimal (choices_from more choice rest)) ≡ whole
-
-pub no_choice_put : (set : ℕ) (now : List ℕ) → set < 2 ^ 64
-    → ChoicesPut true 64 0 set now (now ++ choices_text (choices_from 64 0 set))
+pub no_choice_put : (set : ℕ) (now : List ℕ)
+    → now ++ joined_after true comma (map decimal (choices_from 64 0 set)) ≡ now ++ choices_text (choices_from 64 0 set)
 unfolding joined_after
-no_choice_put set now small = record { room = omega arith; few = small; text = refl }
+no_choice_put set now = refl
 
--- a choice of the set was put
-pub choice_put : (first : Bool) (more choice rest : ℕ) (before apart now whole : List ℕ)
-    → ChoicesPut first more choice rest before whole
-    → 0 < rest → rest % 2 ≡ 1 → apart ≡ before ++ cond first [] (comma ∷ []) → now ≡ apart ++ decimal (choice + 1)
-    → (m : ℕ) × ChoicesPut false m (choice + 1) (rest / 2) now whole
-unfolding choices_from
-choice_put first zero choice rest before apart now whole so_far some odd put_apart put =
-    let few = so_far.few in absurd (omega arith)
-choice_put first (suc m) choice rest before apart now whole so_far some odd put_apart put =
-    let left = choices_from m (choice + 1) (rest / 2) in
-    let text : before ++ joined_after first comma (decimal (choice + 1) ∷ map decimal left) ≡ whole =
-    ap (λ (b : Bool). before ++ joined_after first comma (map decimal (cond b ((choice + 1) ∷ left) left)))
-    (sym (eq-eqb (rest % 2) 1 odd)) ∙ so_far.text in (
-      m,
-      record {
-        room = omega (arith, so_far.room);
-        few = omega (arith, so_far.few, pow-suc 2 m);
-        text = part_put first comma (decimal (choice + 1)) (map decimal left) before apart now whole text put_apart put;
-      },
-    )
-
--- a choice that the set lacks was passed
-pub choice_passed : (first : Bool) (more choice rest : ℕ) (now whole : List ℕ)
-    → ChoicesPut first more choice rest now whole
-    → 0 < rest → (rest % 2 ≡ 1 → ⊥) → (m : ℕ) × ChoicesPut first m (choice + 1) (rest / 2) now whole
-unfolding choices_from
-choice_passed first zero choice rest now whole so_far some even = let few = so_far.few in absurd (omega arith)
-choice_passed first (suc m) choice rest now whole so_far some even =
-    let left = choices_from m (choice + 1) (rest / 2) in (
-      m,
-      record {
-        room = omega (arith, so_far.room);
-        few = omega (arith, so_far.few, pow-suc 2 m);
-        text = ap (λ (b : Bool). now ++ joined_after first comma (map decimal (cond b ((choice + 1) ∷ left) left)))
-            (sym (ne_eqb (rest % 2) 1 even)) ∙ so_far.text;
-      },
-    )
-
--- what is so of what a call made is so of what is kept of it
-pub kept : (first after : Bool) (m choice rest : ℕ) (now put whole : List ℕ) → after ≡ first → put ≡ now
-    → ChoicesPut first m choice rest now whole → ChoicesPut after m choice rest put whole
-kept first after m choice rest now put whole same_first same_text is =
-    subst₂ (λ (first : Bool) (now : List ℕ). ChoicesPut first m choice rest now whole) (sym same_first)
-    (sym same_text) is
+-- the lowest choice of what is left was put
+pub choice_put : (first : Bool) (place rest : ℕ) (before apart now whole : List ℕ)
+    → place < 64 → bit_at rest place ≡ 1 → ((i : ℕ) → i < place → bit_at rest i ≡ 0)
+    → before ++ joined_after first comma (map decimal (choices_from 64 0 rest)) ≡ whole
+    → apart ≡ before ++ cond first [] (comma ∷ []) → now ≡ apart ++ decimal (place + 1)
+    → now ++ joined_after false comma (map decimal (choices_from 64 0 (rest - 2 ^ place))) ≡ whole
+choice_put first place rest before apart now whole within marked lowest so_far put_apart put =
+    let left = choices_from 64 0 (rest - 2 ^ place) in
+    part_put first comma (decimal (place + 1)) (map decimal left) before apart now whole
+    (ap (λ choices. before ++ joined_after first comma (map decimal choices)) (sym (lowest_choice 64 0 rest place within marked lowest ∙ ap (λ choice. choice ∷ left) (let same : 0 + place + 1 ≡ place + 1 = omega arith in same))) ∙ so_far)
+    put_apart put
 
 -- all choices of a set are put
-pub choices_put : (e : Election) (set : ℕ) (first : Bool) (more choice rest : ℕ) (before now : List ℕ)
-    → set < 2 ^ most_choices e
-    → ChoicesPut first more choice rest now (before ++ choices_text (choices_from 64 0 set)) → rest ≡ 0
+pub choices_put : (e : Election) (set : ℕ) (first : Bool) (rest : ℕ) (before now : List ℕ) → set < 2 ^ most_choices e
+    → now ++ joined_after first comma (map decimal (choices_from 64 0 rest)) ≡ before ++ choices_text (choices_from 64 0 set) → rest ≡ 0
     → now ≡ before ++ choices_text (choices_in e set)
-choices_put e set first more choice rest before now small so_far none =
-    let left : choices_from more choice rest ≡ [] =
-    choices_from-mark_set 64 more choice rest [] (omega (arith, so_far.room)) tt
-    (sym (ap (λ n. n * 2 ^ choice) none ∙ zero-mul (2 ^ choice))) in
+choices_put e set first rest before now small so_far none =
+    let left : choices_from 64 0 rest ≡ [] =
+    choices_from-mark_set 64 64 0 rest [] (omega arith) tt (sym (ap (λ n. n * 2 ^ 0) none ∙ zero-mul (2 ^ 0))) in
     all_put first comma now (before ++ choices_text (choices_from 64 0 set))
-    (ap (λ choices. now ++ joined_after first comma (map decimal choices)) (sym left) ∙ so_far.text)
+    (ap (λ choices. now ++ joined_after first comma (map decimal choices)) (sym left) ∙ so_far)
     ∙ ap (λ choices. before ++ choices_text choices) (choices_of_word e set small)
 
 -- ---- groups

@@ -1,8 +1,9 @@
 -- A group and its mark set determine each other.
-use Rattle.std.proofs.Common.{◌≡◌, ℕ, zero, suc, ◌+◌, ◌-◌, ◌*◌, ◌/◌, ◌%◌, ◌^◌, ◌<◌, ◌≤◌, cond, eqb, inl, inr, List, [], ◌∷◌, refl, sym, ap, subst, ◌∙◌, arith, pow-suc, add-one, pow-add, pow_pos, zero-mul, mul-one, mul-div_cancel}
+use Rattle.std.proofs.Common.{◌≡◌, ℕ, zero, suc, ◌+◌, ◌-◌, ◌*◌, ◌/◌, ◌%◌, ◌^◌, ◌<◌, ◌≤◌, cond, eqb, inl, inr, List, [], ◌∷◌, refl, sym, ap, ap₂, subst, ◌∙◌, arith, pow-suc, add-one, pow-add, pow_pos, zero-mul, mul-one, mul-div_cancel}
 use Rattle.std.proofs.lemmas.Bool.{cases_lt, cases_eq, eq-eqb, ne_eqb}
 use Rattle.std.proofs.Math.Nat.{div-div-eq-div-mul, div-one}
 use Rattle.std.proofs.lemmas.List.Sums.{sum_by-cons}
+use Rattle.std.proofs.lemmas.Nat.Bits.{bit_at-suc, bit_at_above, bit_at_lowest}
 use Rattle.std.specs.Int.{bit_at}
 use Rattle.std.specs.List.{filter, range_with_len}
 use Rattle.std.specs.Prelude.{◌==◌}
@@ -102,6 +103,51 @@ choices_from-mark_set most (suc more) k set (choice ∷ choices) room rises is =
           let half : set / 2 ≡ high.0 = omega arith in
           rw (one, half) (ap (λ rest. (k + 1) ∷ rest) (choices_from-mark_set most more (k + 1) high.0 choices (omega arith) rises_on high.1) ∙ ap (λ c. c ∷ choices) (sym this))
     ]
+
+-- ---- choice by choice, from the lowest on
+
+taken : (more k set : ℕ) → set % 2 ≡ 1 → choices_from (suc more) k set ≡ (k + 1) ∷ choices_from more (k + 1) (set / 2)
+unfolding choices_from
+taken more k set odd =
+    let left = choices_from more (k + 1) (set / 2) in
+    ap (λ bit. cond bit ((k + 1) ∷ left) left) (eq-eqb (set % 2) 1 odd)
+
+passed : (more k set : ℕ) → (set % 2 ≡ 1 → ⊥) → choices_from (suc more) k set ≡ choices_from more (k + 1) (set / 2)
+unfolding choices_from
+passed more k set even =
+    let left = choices_from more (k + 1) (set / 2) in
+    ap (λ bit. cond bit ((k + 1) ∷ left) left) (ne_eqb (set % 2) 1 even)
+
+pub lowest_choice : (more k set place : ℕ) → place < more → bit_at set place ≡ 1 → ((i : ℕ) → i < place → bit_at set i ≡ 0)
+    → choices_from more k set ≡ (k + place + 1) ∷ choices_from more k (set - 2 ^ place)
+lowest_choice zero k set place within marked before = absurd (omega arith)
+lowest_choice (suc more) k set zero within marked before =
+    let odd : set % 2 ≡ 1 = sym (bit_at_lowest set) ∙ marked in
+    let even : (set - 1) % 2 ≡ 1 → ⊥ = λ odd_too. omega (arith, odd, odd_too) in
+    let half : (set - 1) / 2 ≡ set / 2 = omega (arith, odd) in
+    taken more k set odd
+    ∙ ap₂ (λ choice left. choice ∷ left) (let same : k + 1 ≡ k + 0 + 1 = omega arith in same)
+    (ap (choices_from more (k + 1)) (sym half) ∙ sym (passed more k (set - 1) even))
+lowest_choice (suc more) k set (suc place) within marked before =
+    let none : bit_at set 0 ≡ 0 = before 0 (omega arith) in
+    let even : set % 2 ≡ 0 = sym (bit_at_lowest set) ∙ none in
+    let left : ℕ = set - 2 ^ suc place in
+    let still : left % 2 ≡ 0 = omega (arith, even, pow-suc 2 place) in
+    let half : left / 2 ≡ set / 2 - 2 ^ place = omega (arith, even, pow-suc 2 place) in
+    passed more k set (λ odd. omega (arith, even, odd))
+    ∙ lowest_choice more (k + 1) (set / 2) place (omega arith) (sym (bit_at-suc set place) ∙ marked)
+    (λ i less. sym (bit_at-suc set i) ∙ before (suc i) (omega (arith, less)))
+    ∙ ap₂ (λ choice left. choice ∷ left) (let same : k + 1 + place + 1 ≡ k + suc place + 1 = omega arith in same)
+    (ap (choices_from more (k + 1)) (sym half) ∙ sym (passed more k left (λ odd. omega (arith, still, odd))))
+
+-- the lowest choice is no more than the set
+pub lowest_fits : (set place : ℕ) → bit_at set place ≡ 1 → 2 ^ place ≤ set
+lowest_fits set place marked = elim (cases_lt set (2 ^ place)) [
+  | inl less ↦
+      let none = bit_at_above set place place less (let same : place ≤ place = omega arith in same) in
+      absurd (omega (arith, none, marked))
+  | inr within ↦ within
+]
 
 -- ---- the choices in a set
 

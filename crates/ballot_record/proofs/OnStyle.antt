@@ -1,11 +1,12 @@
 -- Where a contest is on no style.
-use Rattle.std.proofs.Common.{◌≡◌, ◌≢◌, ℕ, ◌-◌, ◌<◌, ◌≤◌, Bool, true, false, cond, eqb, length, refl, sym, ap, ◌∙◌, arith}
-use Rattle.std.proofs.lemmas.Bool.{ne_eqb}
+use Rattle.std.proofs.Common.{◌≡◌, ◌≢◌, ℕ, ◌-◌, ◌<◌, ◌≤◌, Bool, true, false, cond, eqb, get_or, inl, inr, length, refl, sym, ap, ◌∙◌, arith}
+use Rattle.std.proofs.lemmas.Bool.{cases_lt, ne_eqb}
 use Rattle.std.proofs.lemmas.List.{get_or_past}
 use Rattle.std.proofs.lemmas.Nat.Bits.{bit_at-zero, bit_at_above}
 use Rattle.std.specs.Prelude.{slice_index}
 use Rattle.std.specs.Int.{bit_at}
 use Rattle.store_spec.specs.Election.{Election, IsElection, is_on_style}
+use Rattle.ballot_record.specs.OnStyle.{AreTheirs}
 
 never : (b c : Bool) → cond b false (cond c false false) ≡ false
 never true c = refl
@@ -40,3 +41,16 @@ told_by_word e s k word some first is =
     ap (λ none. cond none false (cond (eqb k 0) false (told style))) (ne_eqb s 0 some)
     ∙ ap (λ none. cond none false (told style)) (ne_eqb k 0 first)
     ∙ ap told (sym is)
+
+-- each bit of a style's word stands for a contest of the election
+pub contest_of_bit : (e : Election) (place word : ℕ) → IsElection e → place < length e.styles → word ≡ get_or e.styles place 0 → AreTheirs e word
+contest_of_bit e place word valid within is k marked = elim (cases_lt k (length e.contests)) [
+  | inl there ↦ there
+  | inr past ↦
+      let none : bit_at word k ≡ 0 = ap (λ word. bit_at word k) is
+      ∙ bit_at_above (get_or e.styles place 0) (length e.contests) k ((valid.each_style place 0 within).of_these) past in
+      absurd (omega (arith, none, marked))
+]
+
+pub no_contest_of_0 : (e : Election) → AreTheirs e 0
+no_contest_of_0 e k marked = let none = bit_at-zero k in absurd (omega (arith, none, marked))

@@ -1,9 +1,9 @@
 -- The widths that callers may count on, and how the bytes of a cell are read.
-use Rattle.std.specs.Prelude.{◌≡◌, ℕ, zero, suc, ◌+◌, ◌-◌, ◌*◌, ◌⊎◌, List, [], ◌∷◌, ◌++◌, length, take, drop, replicate, slice_index}
+use Rattle.std.specs.Prelude.{◌≡◌, ℕ, zero, suc, ◌+◌, ◌-◌, ◌*◌, ◌^◌, ◌<◌, ◌⊎◌, List, [], ◌∷◌, ◌++◌, length, take, drop, replicate, slice_index}
 use Rattle.std.specs.Int.{from_be_bytes, w64}
 use Rattle.byteorder.specs.Endian.{big_number}
 use Rattle.store_spec.specs.Ballot.{Ballot, MARK_SETS}
-use Rattle.store_spec.specs.Election.{Election, header_size, most_cells, set_width}
+use Rattle.store_spec.specs.Election.{Election, choices_on, header_size, most_cells, set_width}
 
 -- the bytes of the number that stands in front of a cell
 abbrev pub number_size : ℕ
@@ -32,3 +32,8 @@ ballot_at e bytes = record {
   style = slice_index bytes 8;
   marks = sets_at (set_width e) (length e.contests) (drop 9 bytes) ++ replicate (MARK_SETS - length e.contests) 0;
 }
+
+-- each of the mark sets that stand here, of so many bytes, has choices of its contest on a style
+abbrev pub HaveChoices : Election → ℕ → ℕ → List ℕ → Type 0
+HaveChoices e style width bytes =
+    (k : ℕ) → k < length e.contests → big_number width (drop (width * k) bytes) < 2 ^ choices_on e style (k + 1)

@@ -5,6 +5,7 @@ pub mod Contest
 pub mod Kept
 pub mod Line
 pub mod LineReading
+pub mod OnStyle
 pub mod Parts
 pub mod Print
 pub mod Record

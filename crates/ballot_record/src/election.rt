@@ -1,7 +1,7 @@
-ghost use Rattle.std.specs.Int.{bit_at};
-ghost use Rattle.std.specs.Prelude.{◌≡◌, ◌==◌, ℕ, ◌-◌, ◌^◌, ◌<◌, ◌≤◌, ◌++◌, ◌↔◌, length, replicate, All, Some, IsTrue, IsSome, IfSome, slice_get};
+ghost use Rattle.std.specs.Prelude.{◌≡◌, ℕ, ◌+◌, ◌-◌, ◌^◌, ◌<◌, ◌≤◌, ◌++◌, ◌↔◌, length, replicate, All, Some, IsTrue, IsSome, IfSome, slice_get};
 ghost use Rattle.store_spec.specs.Election.{IsContest, IsContestUpTo, IsStyle, HasVersionOne, IsElection, as_version_one, choices_of, choices_on, is_on_style, cell_count, most_cells, most_choices, example};
 ghost use Rattle.ballot_record.specs.Contest.{contest_of, contests_of, no_contest};
+ghost use Rattle.ballot_record.specs.OnStyle.{AreOnStyle, AreTheirs};
 ghost use Rattle.ballot_record.specs.Parts.{parts_of, AreContests, AreStyles};
 
 use crate::{Contest, MAX_CONTESTS, most_choices, most_contests};
@@ -223,13 +223,28 @@ impl Election {
 
     /// The contests on a style: bit k - 1 stands for contest k. It has no bit where the election lacks the style.
     pub fn contests_on(&self, style: u8) -> u32
-        ensures { (k : ℕ) → 1 ≤ k → is_on_style self.now style k ≡ (bit_at result (k - 1) == 1) }
+        ensures these { AreOnStyle self.now style result }
+        ensures known { AreTheirs self.now result }
     {
         let style = usize::from(style);
         if style == 0 || style > self.styles() {
             return 0;
         }
         self.styles[style - 1]
+    }
+
+    /// How many choices the contest at a place has, counted from 0: none where it is not among these.
+    pub(crate) fn choices_among(&self, contests: u32, place: usize) -> u8
+        requires within { place < MAX_CONTESTS }
+        requires known { AreTheirs self.now contests }
+        ensures { (style : ℕ) → AreOnStyle self.now style contests
+            → result ≡ choices_on self.now style (place + 1) }
+    {
+        if contests >> place & 1 == 1 {
+            self.contest(place + 1).choices
+        } else {
+            0
+        }
     }
 
     /// How many choices a ballot of a style has in contest `k`: none where the contest is not on the style.

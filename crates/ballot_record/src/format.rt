@@ -9,10 +9,12 @@ ghost use Rattle.store_spec.specs.Ballot.{Ballot, IsValid, MARK_SETS};
 ghost use Rattle.store_spec.specs.Damage.{number_at};
 ghost use Rattle.store_spec.specs.Election.{IsElection, bank_size, cell_size, medium_size, set_width};
 ghost use Rattle.store_spec.specs.Image.{IsEmptyCell, IsCellOf, ballot_bytes, header_of};
-ghost use Rattle.ballot_record.specs.Format.{IsSetWidth, ballot_at, largest_bank, largest_cell, number_size, sets_at};
+ghost use Rattle.ballot_record.specs.Format.{HaveChoices, IsSetWidth, ballot_at, largest_bank, largest_cell, number_size, sets_at};
+ghost use Rattle.ballot_record.specs.OnStyle.{AreOnStyle, AreTheirs};
 ghost use Rattle.ballot_record.specs.Record.{ballot};
 ghost use Rattle.ballot_record.specs.declared.record.Record as declared;
 
+use crate::record::has_choices;
 use crate::version::{MAX_SET_BYTES, SHORT_SET_BYTES, set_bytes};
 use crate::{Election, MAX_BITS, MAX_LIMIT, MAX_MARK_SETS, Record};
 use byteorder::{BigEndian, ByteOrder};
@@ -115,17 +117,6 @@ pub enum CellRead {
     Bad,
 }
 
-/// What a cell has, whose record is put elsewhere.
-#[derive(Clone, Copy, Debug, PartialEq, Eq)]
-pub enum CellKind {
-    /// Nothing: all bytes are 0.
-    Empty,
-    /// The bytes of a valid record.
-    Held,
-    /// Other bytes.
-    Bad,
-}
-
 /// The mark set that stands first, of so many bytes.
 fn first_set(bytes: &[u8], width: usize) -> u64
     requires known { IsSetWidth width }
@@ -195,30 +186,43 @@ fn are_zero(bytes: &[u8]) -> bool
     bytes == &ZEROS[..bytes.len()]
 }
 
-/// Puts the record of a cell under an election in place of what stands there, and says what the cell has: `Bad` is what
-/// no store writes. What stands there behind a cell that holds none is no record.
-#[tactic(auto, unfolding(store_spec::specs::Election::cell_size))]
-pub fn take_cell_into(bytes: &[u8], election: &Election, out: &mut Record) -> CellKind
-    requires { length bytes.now ≡ cell_size election.now }
-    ensures empty { (result ≡ CellKind.Empty) ↔ IsEmptyCell election.now bytes.now }
-    ensures held { (result ≡ CellKind.Held) → IsCellOf election.now bytes.now (ballot out.new) }
-    ensures bad { (result ≡ CellKind.Bad)
-        ↔ (¬ IsEmptyCell election.now bytes.now
-        × ((b : Ballot) → ¬ IsCellOf election.now bytes.now b)) }
-    ensures valid { IsElection election.now }
+/// Whether each of these mark sets, of so many bytes, has only choices that its contest offers where these are the
+/// contests on the style.
+fn have_choices(bytes: &[u8], width: usize, election: &Election, contests: u32) -> bool
+    requires width { IsSetWidth width }
+    requires long { length bytes.now ≡ width * length election.now.contests }
+    requires known { AreTheirs election.now contests }
+    ensures { (style : ℕ) → AreOnStyle election.now style contests
+        → IsTrue result ↔ HaveChoices election.now style width bytes.now }
 {
-    *out = Record::blank();
-    put_parts(bytes, election, out);
-    if out.valid_up_to(election, election.contests()) {
-        CellKind::Held
-    } else if are_zero(bytes) {
-        CellKind::Empty
-    } else {
-        CellKind::Bad
+    let mut rest = bytes;
+    for place in 0..election.contests() {
+        let (set, after) = take_set(rest, width);
+        if !has_choices(set, election, contests, place) {
+            return false;
+        }
+        rest = after;
     }
+    true
 }
 
-/// What stands in a cell under an election, judged as by `take_cell_into`.
+/// Whether a cell has the bytes of a valid record under an election. They are judged where they stand.
+#[tactic(auto, unfolding(store_spec::specs::Election::cell_size))]
+pub fn holds_ballot(bytes: &[u8], election: &Election) -> bool
+    requires { length bytes.now ≡ cell_size election.now }
+    ensures held { IsTrue result ↔ ((b : Ballot) × IsCellOf election.now bytes.now b) }
+    ensures valid { IsElection election.now }
+{
+    let style = bytes[8];
+    if usize::from(style) > election.styles() || style == 0 || number_of(bytes) == 0 {
+        return false;
+    }
+    let (_, sets) = bytes.split_at(FRONT_BYTES);
+    let contests = election.contests_on(style);
+    have_choices(sets, election.set_bytes(), election, contests)
+}
+
+/// What stands in a cell under an election: `Bad` is what no store writes.
 pub fn take_cell(bytes: &[u8], election: &Election) -> CellRead
     requires { length bytes.now ≡ cell_size election.now }
     ensures empty { (result ≡ CellRead.Empty) ↔ IsEmptyCell election.now bytes.now }
@@ -228,11 +232,12 @@ pub fn take_cell(bytes: &[u8], election: &Election) -> CellRead
         ↔ (¬ IsEmptyCell election.now bytes.now
         × ((b : Ballot) → ¬ IsCellOf election.now bytes.now b)) }
 {
-    let mut record = Record::blank();
-    match take_cell_into(bytes, election, &mut record) {
-        CellKind::Empty => CellRead::Empty,
-        CellKind::Held => CellRead::Held(record),
-        CellKind::Bad => CellRead::Bad,
+    if holds_ballot(bytes, election) {
+        CellRead::Held(Record::of_cell(bytes, election))
+    } else if are_zero(bytes) {
+        CellRead::Empty
+    } else {
+        CellRead::Bad
     }
 }
 

@@ -16,8 +16,8 @@ pub use contest::Contest;
 pub use election::{Election, MAX_BITS, MAX_LIMIT, MAX_STYLES};
 pub use fault::{LineFault, LineWhy};
 pub use format::{
-    CellKind, CellRead, HEADER_BYTES, Header, MAX_BANK_BYTES, MAX_CELL_BYTES, set_of, style_of,
-    take_cell, take_cell_into,
+    CellRead, HEADER_BYTES, Header, MAX_BANK_BYTES, MAX_CELL_BYTES, holds_ballot, number_of,
+    set_of, style_of, take_cell,
 };
 pub use line::{read_line, read_line_into, take_number};
 pub use list::BallotList;

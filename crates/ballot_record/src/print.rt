@@ -42,16 +42,13 @@ fn put_choices(set: u64, out: &mut Vec<u8>) -> Result<(), Memory>
     ensures front { IsFrontOf out.old.items out.new.items }
 {
     let mut rest = set;
-    let mut choice = 0;
     let mut first = true;
     'choices: while rest != 0 {
-        choice += 1;
-        if rest % 2 == 1 {
-            put_between(first, b',', out)?;
-            put_number(choice, out)?;
-            first = false;
-        }
-        rest /= 2;
+        let place = rest.trailing_zeros();
+        put_between(first, b',', out)?;
+        put_number(u64::from(place) + 1, out)?;
+        rest -= 1 << place;
+        first = false;
     }
     Ok(())
 }

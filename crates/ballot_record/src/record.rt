@@ -1,6 +1,7 @@
-ghost use Rattle.std.specs.Prelude.{◌≡◌, ℕ, ◌-◌, ◌^◌, ◌<◌, ◌≤◌, ◌↔◌, length, replicate, IsTrue, slice_index};
+ghost use Rattle.std.specs.Prelude.{◌≡◌, ℕ, ◌+◌, ◌-◌, ◌^◌, ◌<◌, ◌≤◌, ◌↔◌, length, replicate, IsTrue, slice_index};
 ghost use Rattle.store_spec.specs.Election.{choices_on};
 ghost use Rattle.store_spec.specs.Ballot.{IsValid, HasMarks};
+ghost use Rattle.ballot_record.specs.OnStyle.{AreOnStyle, AreTheirs};
 
 use crate::{Election, MAX_CONTESTS};
 
@@ -15,15 +16,21 @@ pub struct Record {
     pub marks: [u64; MAX_MARK_SETS],
 }
 
-/// Whether a mark set has only choices that this contest offers on this style.
-fn has_choices(set: u64, election: &Election, style: u8, contest: usize) -> bool
-    ensures { IsTrue result ↔ set < 2 ^ choices_on election.now style contest }
+/// Whether a mark set has only the first so many choices.
+fn is_within(set: u64, choices: u8) -> bool
+    ensures { IsTrue result ↔ set < 2 ^ choices }
 {
-    if set == 0 {
-        return true;
-    }
-    let choices = election.choices_on(style, contest);
     choices >= 64 || set >> choices == 0
+}
+
+/// Whether a mark set has only choices that the contest at a place offers, where these are the contests on the style.
+pub(crate) fn has_choices(set: u64, election: &Election, contests: u32, place: usize) -> bool
+    requires within { place < MAX_CONTESTS }
+    requires known { AreTheirs election.now contests }
+    ensures { (style : ℕ) → AreOnStyle election.now style contests
+        → IsTrue result ↔ set < 2 ^ choices_on election.now style (place + 1) }
+{
+    set == 0 || is_within(set, election.choices_among(contests, place))
 }
 
 impl Record {
@@ -67,8 +74,9 @@ impl Record {
         requires behind { (k : ℕ) → sets ≤ k → slice_index self.now.marks k ≡ 0 }
         ensures { IsTrue result ↔ HasMarks election.now self.now.style self.now.marks }
     {
+        let contests = election.contests_on(self.style);
         for place in 0..sets {
-            if !has_choices(self.marks[place], election, self.style, place + 1) {
+            if !has_choices(self.marks[place], election, contests, place) {
                 return false;
             }
         }

@@ -1,7 +1,7 @@
 -- Zeros at the front of bytes.
 use Rattle.std.proofs.Common.{◌≡◌, ℕ, ◌+◌, ◌-◌, ◌<◌, ◌≤◌, ⊎_elim, List, length, get_or, take, drop, replicate, sym, ap, ◌∙◌, arith}
 use Rattle.std.proofs.lemmas.Bool.{cases_lt}
-use Rattle.std.proofs.lemmas.List.{ext_get_or, get_or-drop, get_or-replicate, get_or-take, length-drop, length-replicate, length-take-le}
+use Rattle.std.proofs.lemmas.List.{ext_get_or, get_or-drop, get_or-replicate, get_or-take, length-drop, length-replicate, length-take, length-take-le}
 
 -- each of the first bytes is 0
 pub zeros_front : (bytes : List ℕ) (n : ℕ) → n ≤ length bytes → ((k : ℕ) → k < n → get_or bytes k 0 ≡ 0) → take n bytes ≡ replicate n 0
@@ -22,3 +22,13 @@ zeros_on bytes zeros start end begins within before part k lt = ⊎_elim
     let at : start + i ≡ k = omega arith in
     ap (λ k. get_or bytes k 0) (sym at) ∙ sym (get_or-drop start bytes i 0) ∙ sym (get_or-take (end - start) (drop start bytes) i 0 less) ∙ part i (omega (arith, long)))
     (cases_lt k zeros)
+
+-- a part of bytes that are all 0
+pub zeros_within : (bytes : List ℕ) (start end : ℕ) → end ≤ length bytes → bytes ≡ replicate (length bytes) 0
+    → (k : ℕ) → k < length (take (end - start) (drop start bytes)) → get_or (take (end - start) (drop start bytes)) k 0 ≡ 0
+zeros_within bytes start end within zeros k less =
+    let long : length (take (end - start) (drop start bytes)) ≤ end - start = omega (arith, length-take (end - start) (drop start bytes)) in
+    get_or-take (end - start) (drop start bytes) k 0 (omega (arith, long))
+    ∙ get_or-drop start bytes k 0
+    ∙ ap (λ bytes. get_or bytes (start + k) 0) zeros
+    ∙ get_or-replicate (length bytes) (start + k) 0 0 (omega (arith, long))

@@ -7,12 +7,12 @@ ghost use Rattle.image_builder.specs.Reaches.{AreReaches, IsReach};
 ghost use Rattle.std.specs.Prelude.{◌≡◌, ◌+◌, ◌-◌, ◌*◌, ◌<◌, ◌≤◌, ◌↔◌, ◌++◌, ◌∷◌, [], ℕ, List, false, drop, length, take, vec_capacity, vec_len, IfOk, IfErr, IfSome, IsSome, IsTrue, OnOk};
 ghost use Rattle.store_spec.specs.Election.{IsElection, bank_size, cell_count, cell_size, header_size};
 ghost use Rattle.store_spec.specs.Home.{home_in};
-ghost use Rattle.store_spec.specs.Image.{IsImageOf, header_of};
+ghost use Rattle.store_spec.specs.Image.{IsEmptyCell, IsImageOf, header_of};
 ghost use Rattle.store_spec.specs.Layout.{MayStand};
 
 use crate::read::{ImageFault, check_header};
 use crate::zeros::is_empty;
-use ballot_record::{CellKind, Election, HEADER_BYTES, MAX_CONTESTS, Record, take_cell_into};
+use ballot_record::{Election, HEADER_BYTES, MAX_CONTESTS, holds_ballot, number_of};
 use body_store::Closed;
 use outside_io::Memory;
 use probe_order::Order;
@@ -171,9 +171,10 @@ fn read_cell(
     }
 }
 
-/// Reads one cell more, which begins at this byte, where it is right, and answers whether it is.
+/// Reads one cell more, which begins at this byte and is not empty, where it is right, and answers whether it is.
 #[inline(never)]
 fn read_right_cell(cells: &mut CellsRead, bank: &[u8], at: usize, election: &Election) -> bool
+    requires some { ¬ IsEmptyCell election.now (take (cell_size election.now) (drop at bank.now)) }
     requires election { IsElection election.now }
     requires read { IsRead election.now cells.old bank.now }
     requires wide { HasSpace election.now cells.old }
@@ -188,27 +189,17 @@ fn read_right_cell(cells: &mut CellsRead, bank: &[u8], at: usize, election: &Ele
         (take (at + cell_size election.now) bank.now)
         (ImageFault.Damaged (length (numbers_read cells.old))) }
 {
-    let mut record = Record::blank();
     let bytes = &bank[at..at + election.cell_bytes()];
-    match take_cell_into(bytes, election, &mut record) {
-        CellKind::Empty => {
-            cells.numbers.push_reserved(0);
-            true
-        }
-        CellKind::Held => {
-            if cells.reaches.len() >= election.limit() as usize {
-                return false;
-            }
-            let number = record.number;
-            let Some(reach) = reach_of(election, &cells.numbers, &cells.reaches, number) else {
-                return false;
-            };
-            cells.numbers.push_reserved(number);
-            cells.reaches.push_reserved(reach);
-            true
-        }
-        CellKind::Bad => false,
+    if !holds_ballot(bytes, election) || cells.reaches.len() >= election.limit() as usize {
+        return false;
     }
+    let number = number_of(bytes);
+    let Some(reach) = reach_of(election, &cells.numbers, &cells.reaches, number) else {
+        return false;
+    };
+    cells.numbers.push_reserved(number);
+    cells.reaches.push_reserved(reach);
+    true
 }
 
 /// How far back these cells hold greater numbers than one that is to stand in the cell after them. `None` where it may

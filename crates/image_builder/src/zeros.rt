@@ -1,6 +1,6 @@
 //! Whether a cell is empty. Zeros are looked for in as many bytes at once as one comparison takes.
 
-ghost use Rattle.std.specs.Prelude.{◌≡◌, ℕ, ◌<◌, ◌≤◌, length, replicate, slice_index, IsTrue};
+ghost use Rattle.std.specs.Prelude.{◌≡◌, ℕ, ◌<◌, ◌≤◌, ◌↔◌, length, replicate, slice_index, IsTrue};
 
 /// How many bytes are compared at once. Every cell has more.
 const STEP: usize = 8;
@@ -9,7 +9,7 @@ const STEP: usize = 8;
 #[inline(always)]
 pub fn is_empty(cell: &[u8]) -> bool
     requires long { 8 ≤ length cell.now }
-    ensures { IsTrue result → cell.now ≡ replicate (length cell.now) 0 }
+    ensures { IsTrue result ↔ cell.now ≡ replicate (length cell.now) 0 }
 {
     let last = cell.len() - STEP;
     let mut from = 0;
@@ -25,7 +25,7 @@ pub fn is_empty(cell: &[u8]) -> bool
 /// Whether all these bytes are 0. It does not stop at the first that is not, so that many are compared at once.
 #[inline(always)]
 fn are_zero(bytes: &[u8]) -> bool
-    ensures { IsTrue result → (k : ℕ) → k < length bytes.now → slice_index bytes.now k ≡ 0 }
+    ensures { IsTrue result ↔ ((k : ℕ) → k < length bytes.now → slice_index bytes.now k ≡ 0) }
 {
     let mut zero = true;
     for byte in bytes {

@@ -1,55 +1,56 @@
-use Rattle.std.proofs.Common.{◌+◌, ◌/◌, ◌<◌, ◌++◌, [], ◌∷◌, cond, false, rules, arith, ap, ◌∙◌}
+use Rattle.std.proofs.Common.{◌≡◌, ◌+◌, ◌-◌, ◌*◌, ◌%◌, ◌^◌, ◌<◌, ◌≤◌, ◌++◌, [], ◌∷◌, false, cond, map, rules, sym, ap, subst, ◌∙◌, arith, pow_pos, ℕ}
+use Rattle.std.proofs.lemmas.Nat.Bits.{bit_at-trailing_zeros}
 use Rattle.std.specs.Fmt.{decimal}
+use Rattle.std.specs.Int.{trailing_zeros}
 use Rattle.ballot_record.proofs.Fronts.{IsFrontOf-more}
+use Rattle.ballot_record.proofs.Joining.{joined_after}
 use Rattle.ballot_record.proofs.LineGroups.{choices_text}
-use Rattle.ballot_record.proofs.LinePrints.{no_choice_put, choice_put, choice_passed, kept, choices_put}
-use Rattle.ballot_record.proofs.MarkSets.{choices_from}
+use Rattle.ballot_record.proofs.LinePrints.{no_choice_put, choice_put, choices_put}
+use Rattle.ballot_record.proofs.MarkSets.{choices_from, lowest_fits}
+use Rattle.ballot_record.specs.Record.{set_word}
 use Rattle.ballot_record.proofs.print.put_choices.Goals as goal
-use Rattle.ballot_record.proofs.print.put_choices.Goals.{then-rest-eq1+in_ok-put_between+in_ok-put_number, else-rest-eq1}
+
+-- a word has room for its lowest choice, which is no more than the set
+lowest : (set : ℕ) → 0 < set → set < 2 ^ 64
+    → (1 * 2 ^ trailing_zeros set_word set % 2 ^ 64 ≡ 2 ^ trailing_zeros set_word set) × (2 ^ trailing_zeros set_word set ≤ set)
+lowest set some small =
+    let fits = lowest_fits set (trailing_zeros set_word set) ((bit_at-trailing_zeros set_word set some small).1) in
+    (omega (arith, fits), fits)
 
 pub choices-init : goal.choices-init
 choices-init c = record {
-  put = (64, no_choice_put c.args.set c.args.out.now.items (omega arith));
+  put = no_choice_put c.args.set c.args.out.now.items;
   front = search rules;
 }
+
+pub overflow_sub-rest : goal.overflow_sub-rest
+overflow_sub-rest c =
+    let is = lowest c.choices.rest (omega arith) (omega (arith, c.choices.auto.rest-fits)) in
+    omega (arith, is.0, is.1)
 
 pub choices-preserved : goal.choices-preserved
 choices-preserved c =
     let l = c.choices in
-    let so_far = l.invariant.put in
-    let whole = c.args.out.now.items ++ choices_text (choices_from 64 0 c.args.set) in
-    let next = c.if-rest-eq1 in
+    let place = trailing_zeros set_word l.rest in
     let some : 0 < l.rest = omega arith in
-    elim c.if-rest-eq1.branch [
-      | then-rest-eq1+in_ok-put_between+in_ok-put_number w ↦
-          let apart = w.put_between.new.out.items in
-          let put = choice_put l.first so_far.0 l.choice l.rest l.out.items apart w.put_number.new.out.items whole
-          so_far.1 some w.if-rest-eq1.true w.in_ok-put_between.ensures.text w.in_ok-put_number.ensures.text in
-          record {
-            put = (
-              put.0,
-              kept false next.first put.0 (l.choice + 1)
-                  (l.rest / 2) w.put_number.new.out.items next.out.items whole w.first-is
-                  (ap (λ v. v.items) w.out-is) put.1,
-            );
-            front = IsFrontOf-more c.args.out.now.items apart next.out.items (decimal (l.choice + 1))
-                (IsFrontOf-more c.args.out.now.items l.out.items apart
-                (cond l.first [] (44 ∷ [])) l.invariant.front w.in_ok-put_between.ensures.text)
-                (ap (λ v. v.items) w.out-is ∙ w.in_ok-put_number.ensures.text);
-          }
-      | else-rest-eq1 w ↦
-          let passed = choice_passed l.first so_far.0 l.choice l.rest l.out.items whole so_far.1 some
-          w.if-rest-eq1.false in
-          record {
-            put = (
-              passed.0,
-              kept l.first next.first passed.0 (l.choice + 1)
-                  (l.rest / 2) l.out.items next.out.items whole w.first-is (ap (λ v. v.items) w.out-is) passed.1,
-            );
-            front = rw w.out-is l.invariant.front;
-          }
-    ]
+    let small : l.rest < 2 ^ 64 = omega (arith, l.auto.rest-fits) in
+    let first = bit_at-trailing_zeros set_word l.rest some small in
+    let apart = c.put_between.new.out.items in
+    let now = c.put_number.new.out.items in
+    let whole = c.args.out.now.items ++ choices_text (choices_from 64 0 c.args.set) in
+    let put : now ≡ apart ++ decimal (place + 1) = c.in_ok-put_number.ensures.text ∙ ap (λ n. apart ++ decimal (n + 1)) c.from.ensures in
+    record {
+      put = subst (λ bit. now ++ joined_after false 44 (map decimal (choices_from 64 0 (l.rest - bit))) ≡ whole) (sym (lowest l.rest some small).0)
+          (choice_put l.first place l.rest l.out.items apart now whole first.0 first.1 first.2 l.invariant.put c.in_ok-put_between.ensures.text put);
+      front = IsFrontOf-more c.args.out.now.items apart now (decimal (place + 1))
+          (IsFrontOf-more c.args.out.now.items l.out.items apart (cond l.first [] (44 ∷ [])) l.invariant.front c.in_ok-put_between.ensures.text) put;
+    }
+
+pub choices-smaller : goal.choices-smaller
+choices-smaller c =
+    let is = lowest c.choices.rest (omega arith) (omega (arith, c.choices.auto.rest-fits)) in
+    omega (arith, is.0, is.1, pow_pos (trailing_zeros set_word c.choices.rest))
 
 pub returns-clause-text : goal.returns-clause-text
-returns-clause-text c e small = choices_put e c.args.set c.choices.first c.choices.invariant.put.0 c.choices.choice
-    c.choices.rest c.args.out.now.items c.choices.out.items small c.choices.invariant.put.1 (omega arith)
+returns-clause-text c e small =
+    choices_put e c.args.set c.choices.first c.choices.rest c.args.out.now.items c.choices.out.items small c.choices.invariant.put c.choices-test.false

@@ -1,4 +1,5 @@
 use Rattle.std.proofs.Common.{◌≡◌, ℕ, ◌+◌, ◌-◌, List, ◌∷◌, [], ◌++◌, length, replicate, take, drop, sym, ap, subst, ◌∙◌, arith}
+use Rattle.std.proofs.lemmas.Bool.{false≢true}
 use Rattle.std.proofs.lemmas.List.{length_push}
 use Rattle.body_store.proofs.Keeping.{few_cells}
 use Rattle.image_builder.proofs.FirstCells.{empty_next}
@@ -17,7 +18,7 @@ returns-then-is_empty-clause-read c =
     let bytes = take (c.args.at + c.cell_bytes.result - c.args.at) (drop c.args.at bank) in
     let is = one_is e numbers reaches bank c.args.at c.cell_bytes.result c.requires.read c.requires.at c.requires.whole c.requires.within c.cell_bytes.ensures.size in
     let long : length bytes ≡ cell_size e = omega (arith, is.long) in
-    let next = empty_next e numbers reaches ballots bytes c.requires.election c.requires.read.cells long (c.is_empty.ensures c.if-is_empty.true ∙ ap (λ n. replicate n 0) long) in
+    let next = empty_next e numbers reaches ballots bytes c.requires.election c.requires.read.cells long (c.is_empty.ensures.0 c.if-is_empty.true ∙ ap (λ n. replicate n 0) long) in
     subst (λ (ns : List ℕ). AreFirst e ns reaches bank) (sym c.push_reserved.ensures.items)
     (first_next e numbers reaches bank bytes (numbers ++ 0 ∷ []) reaches ballots 1 c.requires.election c.requires.read is (omega (arith, c.requires.whole, c.requires.at)) (length_push numbers 0) next)
 
@@ -26,3 +27,14 @@ overflow_cast-result c =
     let e = c.args.election.now in
     let is = one_is e (numbers_read c.args.cells.now) c.args.cells.now.reaches.items c.args.bank.now c.args.at c.cell_bytes.result c.requires.read c.requires.at c.requires.whole c.requires.within c.cell_bytes.ensures.size in
     omega (arith, is.room, few_cells e c.requires.election, c.len-place.ensures)
+
+pub read_right_cell-requires-clause-some : goal.read_right_cell-requires-clause-some
+read_right_cell-requires-clause-some c zeros =
+    let e = c.args.election.now in
+    let bank = c.args.bank.now in
+    let at = c.args.at in
+    let bytes = take (at + c.cell_bytes.result - at) (drop at bank) in
+    let is = one_is e (numbers_read c.args.cells.now) c.args.cells.now.reaches.items bank at c.cell_bytes.result c.requires.read c.requires.at c.requires.whole c.requires.within c.cell_bytes.ensures.size in
+    let size : at + c.cell_bytes.result - at ≡ cell_size e = omega (arith, c.cell_bytes.ensures.size) in
+    let long : length bytes ≡ cell_size e = omega (arith, is.long) in
+    false≢true (sym c.if-is_empty.false ∙ c.is_empty.ensures.1 (ap (λ n. take n (drop at bank)) size ∙ zeros ∙ sym (ap (λ n. replicate n 0) long)))
