@@ -14,17 +14,16 @@ use script_lines::read_entry;
 
 impl Gate {
     /// Lets what a line brings wait for the close of the phase. `false` where it brings nothing that can wait in this
-    /// phase: then nothing was done.
-    pub fn queue(&mut self, line: &[u8]) -> Result<bool, Memory>
+    /// phase: then nothing was done. The ballot of a cast is read in place of the one that stands in `ballot`.
+    pub fn queue(&mut self, line: &[u8], ballot: &mut Record) -> Result<bool, Memory>
         ensures queued { (index : ℕ) → IfOk result (λ waits. IsQueued waits
             (Answers self.old.closed.election index (state_of self.old) (Some line.now))
             (state_of self.old) (state_of self.new)) }
         ensures closed { self.new.closed ≡ self.old.closed }
         ensures unchanged { OnErr result (state_of self.new ≡ state_of self.old) }
     {
-        let mut ballot = Record::blank();
-        match read_entry(line, self.closed.election(), &mut ballot) {
-            Some((tab, entry)) => self.queue_item(tab, entered(entry, &ballot)),
+        match read_entry(line, self.closed.election(), ballot) {
+            Some((tab, entry)) => self.queue_item(tab, entered(entry, ballot)),
             None => Ok(false),
         }
     }

@@ -17,6 +17,7 @@ use crate::report::Report;
 use crate::telling::Telling;
 use crate::work::Work;
 use crate::writing::{tell, tell_task};
+use ballot_record::Record;
 use body_store::Closed;
 use checkpoint::checkpoint;
 use crash_disk::Disk;
@@ -79,7 +80,8 @@ impl Session {
 
     /// Lets what a line of its script brings wait for the close of the phase. Nearly all lines bring something that
     /// waits, and nothing is told of them. `false` where this one does not: then nothing was done, and `line` handles it.
-    pub fn queue(&mut self, line: &[u8]) -> Result<bool, Memory>
+    /// The ballot of a cast is read in place of the one that stands in `ballot`, whatever that is.
+    pub fn queue(&mut self, line: &[u8], ballot: &mut Record) -> Result<bool, Memory>
         ensures queued { (index : ℕ) → IfOk result (λ waits. IsQueued waits
             (Answers self.old.election index self.old.state (Some line.now))
             self.old.state self.new.state) }
@@ -88,7 +90,7 @@ impl Session {
         ensures telling { self.new.telling ≡ self.old.telling }
         ensures unchanged { OnErr result (self.new ≡ self.old) }
     {
-        self.gate.queue(line)
+        self.gate.queue(line, ballot)
     }
 
     /// Handles a line of its script, which has this number, counted from 1. Whoever has read the reply to a checkpoint

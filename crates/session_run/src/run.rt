@@ -10,7 +10,7 @@ ghost use Rattle.store_spec.specs.Election.{IsElection};
 ghost use Rattle.store_spec.specs.Input.{script_limit};
 
 use crate::fault::RunFault;
-use ballot_record::Election;
+use ballot_record::{Election, Record};
 use crash_disk::Disk;
 use image_builder::Scratch;
 use outside_io::{Lines, NextLine, Sink, Source, Turns};
@@ -87,6 +87,7 @@ fn play<R: Threads + Sync, S: Source, K: Sink, D: Disk, T: Turns>(
         (around (output K.taken K.faults out.new) disk.new report.new) }
 {
     let mut index = 0;
+    let mut ballot = Record::blank();
     'lines: loop {
         let line: &[u8] = match lines.next_line(script)? {
             NextLine::Whole => lines.line(),
@@ -96,7 +97,7 @@ fn play<R: Threads + Sync, S: Source, K: Sink, D: Disk, T: Turns>(
         };
         index += 1;
         // Nearly all lines bring what waits for the close of a phase. A session is moved for the others alone.
-        if !session.queue(line)? {
+        if !session.queue(line, &mut ballot)? {
             session = session.line(rt, alloc, line, index, disk, out, turns, scratch, report)?;
         }
     }

@@ -13,6 +13,9 @@ use ballot_record::Election;
 use body_store::Closed;
 use std::thread::{Threads, join};
 
+/// The mark sets that are worth a thread: to count them takes some times as long as to start one, and to add its counts.
+const PART_SETS: usize = 1 << 16;
+
 /// How many homes there are from one cell on, up to another. The homes stand in front of all other cells, and nearly all
 /// ballots stand in homes.
 fn homes_between(election: &Election, from: usize, end: usize) -> usize
@@ -97,12 +100,13 @@ fn tally_both<R: Threads + Sync>(
     all
 }
 
-/// The tally of a store's ballots, counted in so many parts at once, or in as many as there are ballots or homes, where
-/// these are fewer. With one part no thread is started.
+/// The tally of a store's ballots, counted in so many parts at once, or in fewer, where the ballots have not so many
+/// mark sets that each part gets its thread's worth. With one part no thread is started.
 pub fn tally_threads<R: Threads + Sync>(rt: &R, closed: &Closed, parts: usize) -> Tally
     requires { 1 ≤ parts }
     ensures { IsTallyOf closed.now.election closed.now.ballots result }
 {
-    let parts = parts.min(closed.len());
+    let sets = closed.len() * closed.election().contests();
+    let parts = parts.min(sets / PART_SETS);
     tally_parts(rt, closed, 0, closed.cells().len(), parts)
 }
