@@ -11,8 +11,8 @@ these lines, and ends with the status in front of it (and needs Python 3.10 or l
     10  damaged cell C      no image begins with the cells 0 to C, and C is the least such
      2  usage   3  bad election   4  election too long   5  disk fault   6  election read fault
 """
-
 import bisect
+import itertools
 import json
 import re
 import struct
@@ -20,7 +20,6 @@ import sys
 from typing import NamedTuple
 
 LONGEST_ELECTION = 1_048_576
-DEEPEST = 127
 OPEN_GATE = 0xA7
 VERSIONS = {1: (16, 32, "I"), 2: (24, 64, "Q")}  # most contests, most choices, a mark set of 4 or of 8 bytes
 
@@ -58,18 +57,23 @@ def require(condition, what):
         raise ValueError(what)
 
 
-# Of a key that stands twice the last value counts, so that a number which no election has is wrong only where it
-# counts: with a sign or too many digits it becomes None. NaN and Infinity are no JSON, and int refuses them.
-JSON = json.JSONDecoder(parse_int=lambda s: int(s) if re.fullmatch("[0-9]{1,9}", s) else None, parse_constant=int)
+def number(text):  # no election has one with a sign, a point, an exponent or ten digits: it becomes None
+    require(abs(float(text)) < float("inf"), "beyond a 64-bit float")  # nor is NaN or Infinity JSON
+    return int(text) if re.fullmatch("[0-9]{1,9}", text) else None
+
+
+def last_of_each(pairs):  # of a key that stands twice the last value counts, and each has to be JSON
+    json.dumps(pairs, ensure_ascii=False).encode("utf-8")  # ValueError at half a surrogate pair
+    return dict(pairs)
+
+
+JSON = json.JSONDecoder(object_pairs_hook=last_of_each, parse_int=number, parse_float=number, parse_constant=number)
 
 
 def depth(text):
     """How deep the arrays and objects of a JSON text are nested."""
-    deepest = level = 0
-    for mark in re.sub(r'"(?:[^"\\]|\\.)*"', "", text, flags=re.DOTALL):
-        level += (mark in "[{") - (mark in "]}")
-        deepest = max(deepest, level)
-    return deepest
+    marks = re.sub(r'"(?:[^"\\]|\\.)*"|[^][{}"]', "", text, flags=re.DOTALL)
+    return max(itertools.accumulate(1 if mark in "[{" else -1 for mark in marks), default=0)
 
 
 def members(value, *keys):
@@ -90,7 +94,7 @@ def whole(value, least, most):  # type() and not isinstance(), because True is a
 def parse_election(text):
     """The election that these bytes describe; ValueError where they describe none."""
     text = text.decode("utf-8")
-    require(depth(text) <= DEEPEST, "nested too deep")
+    require(depth(text) <= 127, "nested too deep")
     document = JSON.decode(text)
     require(type(document) is dict, "no object")
     version = whole(document.pop("version", 1), 1, 2)
@@ -102,9 +106,8 @@ def parse_election(text):
         choices.append(whole(choice_count, 1, most_choices))
         whole(allowed, 1, choice_count)
     for style in array(styles, 255):
-        previous = 0
-        for contest in array(style, len(choices)):
-            previous = whole(contest, previous + 1, len(choices))
+        numbers = [whole(contest, 1, len(choices)) for contest in array(style, len(choices))]
+        require(numbers == sorted(set(numbers)), "not strictly ascending")
     require(type(salt) is str and re.fullmatch("[0-9a-f]{16}", salt), "no salt")
     return Election(version, choices, styles, whole(limit, 1, 32768), whole(bits, 0, 16), int(salt, 16))
 
@@ -121,8 +124,7 @@ def is_valid(election, ballot):
 def place(election, ballots):
     """The cells of the image of these ballots: the greatest number is placed first."""
     cells = [(0, 0) + (0,) * len(election.choices)] * election.cell_count()
-    # Where to look next for an empty cell: an empty cell names itself, a full one a later
-    # cell, with no empty one between. (To try cell by cell takes minutes in a big store.)
+    # Where to look for an empty cell: here, or further on, with no empty one between. (Cell by cell takes minutes.)
     look_at = list(range(len(cells)))
     for ballot in sorted(ballots, reverse=True):
         cell = election.home(ballot[0])
@@ -156,8 +158,7 @@ def judge(election, medium):
     if not begin_an_image(election, cells):  # then from some cell on no beginning does
         wrong = bisect.bisect_left(range(len(cells)), True, key=lambda c: not begin_an_image(election, cells[:c + 1]))
         raise Finding(10, f"damaged cell {wrong}")
-    canonical = bank + bank + bytes([OPEN_GATE, OPEN_GATE])  # the bank being the image of its ballots
-    for position, (found, expected) in enumerate(zip(medium, canonical)):
+    for position, (found, expected) in enumerate(zip(medium, bank + bank + bytes([OPEN_GATE] * 2))):
         if found != expected:
             raise Finding(14, f"differs {position}")
     return sum(map(any, cells))
@@ -175,12 +176,11 @@ def check(words):
     medium_path, election_path = words
     try:
         text = read(election_path, LONGEST_ELECTION)
+        if len(text) > LONGEST_ELECTION:
+            raise Finding(4, "election too long")
+        election = parse_election(text)
     except OSError:
         raise Finding(6, "election read fault")
-    if len(text) > LONGEST_ELECTION:
-        raise Finding(4, "election too long")
-    try:
-        election = parse_election(text)
     except ValueError:
         raise Finding(3, "bad election")
     try:
