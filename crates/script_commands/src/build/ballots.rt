@@ -59,19 +59,14 @@ impl Ballots {
         })
     }
 
-    /// Judges the next line, and takes its ballot where there is no reason to refuse it. It is read in place of the one
-    /// that stands in `read`.
-    pub fn judge(
-        &mut self,
-        line: &[u8],
-        election: &Election,
-        read: &mut Record,
-    ) -> Result<(), Refusal>
+    /// Judges the next line, and takes its ballot where there is no reason to refuse it.
+    pub fn judge(&mut self, line: &[u8], election: &Election) -> Result<(), Refusal>
         requires { IsSound election.now self.old }
         ensures { Judges result election.now line.now self.old self.new }
     {
-        match read_line_into(line, election, read) {
-            Ok(()) => self.add(read, election),
+        let mut read = Record::blank();
+        match read_line_into(line, election, &mut read) {
+            Ok(()) => self.add(&read, election),
             Err(LineFault::Malformed) => Err(Refusal::Bad(LineWhy::Malformed)),
             Err(LineFault::Invalid) => Err(Refusal::Bad(LineWhy::Invalid)),
         }

@@ -5,7 +5,7 @@ ghost use Rattle.store_spec.specs.Fault.{CountsFaultIf};
 ghost use Rattle.script_commands.specs.Script.{Reads};
 
 use crate::build::ballots::{Ballots, Refusal};
-use ballot_record::{BallotList, Election, LineWhy, Record};
+use ballot_record::{BallotList, Election, LineWhy};
 use outside_io::{LineEndFault, Lines, Memory, NextLine, Source};
 use std::alloc::Global;
 
@@ -47,11 +47,10 @@ pub fn read_ballots<S: Source>(
 {
     let mut lines = Lines::new(alloc)?;
     let mut ballots = Ballots::new(alloc, election)?;
-    let mut read = Record::blank();
     let mut count = 0;
     'lines: loop {
         match lines.next_line(script) {
-            Ok(NextLine::Whole) => match ballots.judge(lines.line(), election, &mut read) {
+            Ok(NextLine::Whole) => match ballots.judge(lines.line(), election) {
                 Ok(()) => count += 1,
                 Err(Refusal::Bad(why)) => {
                     return Err(ScriptFault::BadLine {
