@@ -55,7 +55,7 @@ class Hub:
             if self.asked and not self.asked.done():
                 self.asked.set_exception(Ended())
             await asyncio.wait([opening])
-            if status >= 0:  # it was not killed: all is done, or a person has to mend the cause
+            if status >= 0:  # it was not killed: all is done, or a person has to remove the cause
                 return status
             lost = sum(map(len, self.cast.values()))
             print(f"the session was killed, with {lost} lines of the open phase", flush=True)
@@ -211,7 +211,7 @@ class Scanner:
                 for one in sorted(again):
                     await self.send(one)
             elif not word:
-                print("the hub is gone: scan again what was scanned since the last checkpoint", flush=True)
+                print("the hub is gone: see which checkpoint the medium holds, and scan what came after it", flush=True)
                 os._exit(1)  # (a thread still waits for a sheet)
             else:
                 self.waiting.discard(line)
