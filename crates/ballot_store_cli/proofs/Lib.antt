@@ -1,3 +1,4 @@
+mod Media
 mod OneElection
 mod Rows
 mod Runs

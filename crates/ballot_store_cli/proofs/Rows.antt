@@ -1,14 +1,16 @@
 -- The rows of all commands: their laws, and that their words tell them apart.
-use Rattle.std.proofs.Common.{◌≡◌, ℕ, ◌+◌, ◌*◌, List, [], ◌∷◌, Option, Some, None, Result, Ok, Err, ap, arith, refl, sym, ◌∙◌}
-use Rattle.std.specs.Prelude.{IfErr, IfNone, codes, length}
-use Rattle.ballot_store_cli.specs.Command.{row}
+use Rattle.std.proofs.Common.{◌≡◌, ℕ, ◌+◌, ◌*◌, ◌≤◌, List, [], ◌∷◌, Option, Some, None, Result, Ok, Err, ap, arith, refl, sym, ◌∙◌}
+use Rattle.std.specs.Prelude.{IfErr, IfNone, IfOk, IfSome, codes, length}
+use Rattle.ballot_store_cli.specs.Command.{Forms, row}
 use Rattle.ballot_store_cli.specs.declared.command.Command.{Command}
-use Rattle.ballot_store_cli.specs.declared.command.Command.TheVariants.{Build, Init, Session, Audit, Replay, Large, Sample, Compare}
+use Rattle.ballot_store_cli.specs.declared.command.Command.TheVariants.{Build, Init, Session, Audit, Replay, Large, Sample, Compare, Merge}
 use Rattle.large_options.proofs.Orders.{one_reading, ordered}
 use Rattle.large_options.specs.Options.{AreOptions, IsOptions}
 use Rattle.large_options.specs.declared.options.Options.{Options}
 use Rattle.medium_commands.proofs.AuditLaws.{audit_laws}
 use Rattle.medium_commands.proofs.InitLaws.{init_laws}
+use Rattle.merge_commands.proofs.MergeLaws.{merge_laws}
+use Rattle.merge_commands.specs.Merge.{AreFew, merge_row}
 use Rattle.run_outcome.proofs.Laws.{Laws}
 use Rattle.run_outcome.specs.Row.{IsNamed}
 use Rattle.sample_commands.proofs.Asking.{none_asked, one_asked}
@@ -31,6 +33,7 @@ laws Replay = replay_laws
 laws (Large o) = large_laws o
 laws (Sample asked) = sample_laws asked
 laws (Compare asked) = compare_laws asked
+laws Merge = merge_laws
 
 -- ---- commands are told apart by their words
 
@@ -55,6 +58,7 @@ one_row Replay Replay words same x y = refl
 one_row (Large o) (Large p) words same x y = one_large words o p x y
 one_row (Sample a) (Sample b) words same x y = ap Sample (one_asked words a b x y)
 one_row (Compare a) (Compare b) words same x y = ap Compare (one_asked words a b x y)
+one_row Merge Merge words same x y = refl
 one_row a b words same x y = absurd (omega (arith, ap number_of same))
 
 -- ---- a word alone
@@ -66,6 +70,9 @@ none_given words none o =
     let few : length words ≡ 0 = ap length none in
     let many : length words ≡ 6 = ap length order.spelled in
     omega (arith, few, many)
+
+no_media : AreFew [] → ⊥
+no_media few = absurd (omega (arith, few.some))
 
 -- it is the word of no command that takes no further words
 pub record IsOther (word : List ℕ) : Type 0 where
@@ -84,30 +91,78 @@ names_none word other Replay medium is = other.replay is.word
 names_none word other (Large o) medium is = none_given [] refl (o.seed, o.count, o.tabs, is.further)
 names_none word other (Sample asked) medium is = none_asked asked is.further
 names_none word other (Compare asked) medium is = none_asked asked is.further
+names_none word other Merge medium is = no_media is.further
 
 -- ---- a word with others behind it
+
+-- what names a command behind each word for the medium names it behind this one
+pub found_behind : (medium word : List ℕ) (words : List (List ℕ)) (found : Option Command)
+    → IfSome found (λ c. (medium : List ℕ) → IsNamed (row c) medium word words) → IfSome found (λ c. IsNamed (row c) medium word words)
+found_behind medium word words (Some c) is = is medium
+found_behind medium word words None is = tt
+
+pub named_behind : {E : Type 0} (medium word : List ℕ) (words : List (List ℕ)) (r : Result (Option Command) E)
+    → IfOk r (λ o. IfSome o (λ c. (medium : List ℕ) → IsNamed (row c) medium word words)) → IfOk r (λ o. IfSome o (λ c. IsNamed (row c) medium word words))
+named_behind medium word words (Ok found) is = found_behind medium word words found is
+named_behind medium word words (Err fault) is = tt
 
 -- what holds of no command holds where none was found
 none_found : {P Q : Type 0} (found : Option Command) → (P → Q) → IfNone found P → IfNone found Q
 none_found None step none = step none
 none_found (Some c) step none = tt
 
-names_no_sample : (word : List ℕ) (words : List (List ℕ)) → word ≡ codes "sample" → ((asked : Asked) → IsAsked words asked → ⊥) → (c : Command) (medium : List ℕ) → IsNamed (row c) medium word words → ⊥
-names_no_sample word words same none (Sample asked) medium is = none asked is.further
-names_no_sample word words same none other medium is = omega (arith, ap number_of (sym is.word ∙ same))
+module _ (medium word : List ℕ) (words : List (List ℕ)) where
+  abbrev NamesNone : Type 0
+  NamesNone = (c : Command) → IsNamed (row c) medium word words → ⊥
 
-names_no_compare : (word : List ℕ) (words : List (List ℕ)) → word ≡ codes "compare" → ((asked : Asked) → IsAsked words asked → ⊥) → (c : Command) (medium : List ℕ) → IsNamed (row c) medium word words → ⊥
-names_no_compare word words same none (Compare asked) medium is = none asked is.further
-names_no_compare word words same none other medium is = omega (arith, ap number_of (sym is.word ∙ same))
+  names_no_large : word ≡ codes "large" → (AreOptions words → ⊥) → NamesNone
+  names_no_large same none (Large o) is = none (o.seed, o.count, o.tabs, is.further)
+  names_no_large same none other is = omega (arith, ap number_of (sym is.word ∙ same))
 
--- words that ask for no sample name none
-pub no_sample : (word : List ℕ) (words : List (List ℕ)) (found : Option Command) → word ≡ codes "sample" → IfNone found ((asked : Asked) → IsAsked words asked → ⊥) → IfNone found ((c : Command) (medium : List ℕ) → IsNamed (row c) medium word words → ⊥)
-no_sample word words found same none = none_found found (names_no_sample word words same) none
+  names_no_sample : word ≡ codes "sample" → ((asked : Asked) → IsAsked words asked → ⊥) → NamesNone
+  names_no_sample same none (Sample asked) is = none asked is.further
+  names_no_sample same none other is = omega (arith, ap number_of (sym is.word ∙ same))
 
-pub no_compare : (word : List ℕ) (words : List (List ℕ)) (found : Option Command) → word ≡ codes "compare" → IfNone found ((asked : Asked) → IsAsked words asked → ⊥) → IfNone found ((c : Command) (medium : List ℕ) → IsNamed (row c) medium word words → ⊥)
-no_compare word words found same none = none_found found (names_no_compare word words same) none
+  names_no_compare : word ≡ codes "compare" → ((asked : Asked) → IsAsked words asked → ⊥) → NamesNone
+  names_no_compare same none (Compare asked) is = none asked is.further
+  names_no_compare same none other is = omega (arith, ap number_of (sym is.word ∙ same))
 
--- where there was no memory for options, they name a large run
-pub names_large : {T E : Type 0} (word : List ℕ) (words : List (List ℕ)) (r : Result T E) → word ≡ codes "large" → IfErr r (λ x. AreOptions words) → IfErr r (λ x. (c : Command) × ((medium : List ℕ) → IsNamed (row c) medium word words))
-names_large word words (Ok value) is o = tt
-names_large word words (Err fault) is o = (Large (record { seed = o.0; count = o.1; tabs = o.2 }), λ medium. record { word = is; further = o.3; media = tt })
+  names_no_merge : word ≡ codes "merge" → (IsNamed merge_row medium (codes "merge") words → ⊥) → NamesNone
+  names_no_merge same none Merge is = none (record { word = refl; further = is.further; media = is.media })
+  names_no_merge same none other is = omega (arith, ap number_of (sym is.word ∙ same))
+
+  -- words that ask for no sample name none
+  pub no_sample : (found : Option Command) → word ≡ codes "sample" → IfNone found ((asked : Asked) → IsAsked words asked → ⊥) → IfNone found NamesNone
+  no_sample found same none = none_found found (names_no_sample same) none
+
+  pub no_compare : (found : Option Command) → word ≡ codes "compare" → IfNone found ((asked : Asked) → IsAsked words asked → ⊥) → IfNone found NamesNone
+  no_compare found same none = none_found found (names_no_compare same) none
+
+  pub no_merge : (found : Option Command) → word ≡ codes "merge" → IfNone found (IsNamed merge_row medium (codes "merge") words → ⊥) → IfNone found NamesNone
+  no_merge found same none = none_found found (names_no_merge same) none
+
+  pub no_large : {E : Type 0} (r : Result (Option Command) E) → word ≡ codes "large" → IfOk r (λ o. IfNone o (AreOptions words → ⊥)) → IfOk r (λ o. IfNone o NamesNone)
+  no_large (Ok found) same none = none_found found (names_no_large same) none
+  no_large (Err fault) same none = tt
+
+  -- where there was no memory for options, they name a large run
+  pub names_large : {T E : Type 0} (r : Result T E) → word ≡ codes "large" → IfErr r (λ x. AreOptions words) → IfErr r (λ x. (c : Command) × IsNamed (row c) medium word words)
+  names_large (Ok value) is o = tt
+  names_large (Err fault) is o = (Large (record { seed = o.0; count = o.1; tabs = o.2 }), record { word = is; further = o.3; media = tt })
+
+-- ---- how many further media there are
+
+few_more : (c : Command) (words : List (List ℕ)) → (row c).further words → c ≡ Merge → length words ≤ 8
+few_more Merge words further is = further.few
+few_more Build words further is = absurd cc
+few_more Init words further is = absurd cc
+few_more Session words further is = absurd cc
+few_more Audit words further is = absurd cc
+few_more Replay words further is = absurd cc
+few_more (Large o) words further is = absurd cc
+few_more (Sample asked) words further is = absurd cc
+few_more (Compare asked) words further is = absurd cc
+
+pub few_media : (words : List (List ℕ)) (c : Command) → Forms words c → c ≡ Merge → length words ≤ 11
+few_media (medium ∷ election ∷ word ∷ words) c forms is = let few = few_more c words forms.2.further is in omega arith
+few_media words c forms is = absurd forms

@@ -1,9 +1,10 @@
 -- The commands of the program, and the words that it is called with: a medium, an election, and a command.
-use Rattle.std.specs.Prelude.{ℕ, List, ◌∷◌}
+use Rattle.std.specs.Prelude.{◌≢◌, ℕ, List, ◌∷◌, Contains}
 use Rattle.ballot_store_cli.specs.declared.command.Command.{Command}
-use Rattle.ballot_store_cli.specs.declared.command.Command.TheVariants.{Build, Init, Session, Audit, Replay, Large, Sample, Compare}
+use Rattle.ballot_store_cli.specs.declared.command.Command.TheVariants.{Build, Init, Session, Audit, Replay, Large, Sample, Compare, Merge}
 use Rattle.medium_commands.specs.Audit.{audit_row}
 use Rattle.medium_commands.specs.Init.{init_row}
+use Rattle.merge_commands.specs.Merge.{merge_row}
 use Rattle.run_outcome.specs.Row.{IsNamed, IsPlain, Row}
 use Rattle.sample_commands.specs.Compare.{compare_row}
 use Rattle.sample_commands.specs.Sample.{sample_row}
@@ -22,6 +23,13 @@ row Replay = replay_row
 row (Large o) = large_row o
 row (Sample asked) = sample_row asked
 row (Compare asked) = compare_row asked
+row Merge = merge_row
+
+-- behind this word for the medium and those of some further media, a word may be that of one more
+pub record MayFollow (medium : List ℕ) (earlier : List (List ℕ)) (word : List ℕ) : Type 0 where
+  pub plain : IsPlain word
+  pub not_medium : word ≢ medium
+  pub not_earlier : ¬ Contains earlier word
 
 -- the words form a command: a medium and an election, read by their place, and the words of the command's row
 abbrev pub Forms : List (List ℕ) → Command → Type 0

@@ -1,7 +1,9 @@
-ghost use Rattle.std.specs.Prelude.{◌≡◌, ◌↔◌, ◌∷◌, [], IsTrue, ◌≤◌, IfErr, IfNone, IfOk, IfSome, codes, length, map, string_bytes, ℕ, List};
-ghost use Rattle.ballot_store_cli.specs.Command.{Forms, FormNone, row};
+ghost use Rattle.std.specs.List.{list_any};
+ghost use Rattle.std.specs.Prelude.{◌≡◌, ◌↔◌, ◌∷◌, [], IsTrue, ◌≤◌, IfErr, IfNone, IfOk, IfSome, bytes_eq, codes, length, map, string_bytes, true, ℕ, List};
+ghost use Rattle.ballot_store_cli.specs.Command.{Forms, FormNone, MayFollow, row};
 ghost use Rattle.large_options.specs.Options.{AreOptions};
-ghost use Rattle.run_outcome.specs.Row.{IsNamed, IsPlain};
+ghost use Rattle.merge_commands.specs.Merge.{merge_row};
+ghost use Rattle.run_outcome.specs.Row.{AreMediaIf, IsNamed, IsPlain};
 ghost use Rattle.sample_commands.specs.Asked.{IsAsked};
 ghost use Rattle.sample_commands.specs.declared.asked.Asked.{Asked};
 
@@ -27,6 +29,8 @@ pub enum Command {
     Sample(Asked),
     /// Compare the lines of a script with that sample.
     Compare(Asked),
+    /// Make a medium that of the union of its own set and those of further media.
+    Merge,
     /// Handle a script that these options generate as a session does, and write the summary of its replies.
     Large(Options),
 }
@@ -92,20 +96,70 @@ fn compare_named(words: &[String]) -> Option<Command>
     }
 }
 
-/// The command that this word names, with these further words behind it.
-fn named_with(alloc: Global, word: &str, words: &[String]) -> Result<Option<Command>, Memory>
+/// Whether a word stands among these.
+fn is_among(word: &str, words: &[String]) -> bool
+    ensures { result ≡ list_any (λ other. bytes_eq (string_bytes other) word.now) words.now }
+{
+    words.iter().any(|other| other.as_str() == word)
+}
+
+/// Whether a word may be that of one medium more: it is plain, and neither the medium's word nor one of these.
+fn may_follow(medium: &str, earlier: &[String], word: &str) -> bool
+    ensures { IsTrue result ↔ MayFollow medium.now (map string_bytes earlier.now) word.now }
+{
+    is_plain(word) && word != medium && !is_among(word, earlier)
+}
+
+/// Whether these are the words of further media: each is plain, and none is the medium's or another's.
+fn are_media(medium: &str, words: &[String]) -> bool
+    ensures { IsTrue result ↔ AreMediaIf true medium.now (map string_bytes words.now) }
+{
+    'words: for at in 0..words.len() {
+        if !may_follow(medium, &words[..at], &words[at]) {
+            return false;
+        }
+    }
+    true
+}
+
+/// The most further media that are merged.
+const MAX_MORE: usize = 8;
+
+/// The merge of these media, if their words are those of one to eight.
+fn merge_named(medium: &str, words: &[String]) -> Option<Command>
+    requires { 1 ≤ length words.now }
+    ensures named { IfSome result
+        (λ c. IsNamed (row c) medium.now (codes "merge") (map string_bytes words.now)) }
+    ensures none { IfNone result
+        (¬ IsNamed merge_row medium.now (codes "merge") (map string_bytes words.now)) }
+{
+    if words.len() <= MAX_MORE && are_media(medium, words) {
+        Some(Command::Merge)
+    } else {
+        None
+    }
+}
+
+/// The command that this word names, with these further words behind it and this word for the medium.
+fn named_with(
+    alloc: Global,
+    medium: &str,
+    word: &str,
+    words: &[String],
+) -> Result<Option<Command>, Memory>
     requires { 1 ≤ length words.now }
     ensures named { IfOk result (λ o. IfSome o
-        (λ c. (medium : List ℕ) → IsNamed (row c) medium word.now (map string_bytes words.now))) }
+        (λ c. IsNamed (row c) medium.now word.now (map string_bytes words.now))) }
     ensures none { IfOk result (λ o. IfNone o
-        ((c : Command) (medium : List ℕ) → ¬ IsNamed (row c) medium word.now (map string_bytes words.now))) }
+        ((c : Command) → ¬ IsNamed (row c) medium.now word.now (map string_bytes words.now))) }
     ensures memory { IfErr result
-        (λ _. (c : Command) × ((medium : List ℕ) → IsNamed (row c) medium word.now (map string_bytes words.now))) }
+        (λ _. (c : Command) × IsNamed (row c) medium.now word.now (map string_bytes words.now)) }
 {
     match word {
         "large" => large_named(alloc, words),
         "sample" => Ok(sample_named(words)),
         "compare" => Ok(compare_named(words)),
+        "merge" => Ok(merge_named(medium, words)),
         _ => Ok(None),
     }
 }
@@ -122,7 +176,7 @@ pub fn command_of(alloc: Global, words: &[String]) -> Result<Option<Command>, Me
             if words.is_empty() {
                 Ok(command_named(word))
             } else {
-                named_with(alloc, word, words)
+                named_with(alloc, medium, word, words)
             }
         }
         _ => Ok(None),

@@ -11,6 +11,7 @@ const FORMS: &[&str] = &[
     "large --seed S --count C --tabs T",
     "sample DICE K",
     "compare DICE K <lines",
+    "merge MORE ..",
     "replay <schedule",
 ];
 

@@ -1,4 +1,4 @@
-ghost use Rattle.std.specs.Prelude.{◌≡◌, ◌-◌, length, map, string_bytes};
+ghost use Rattle.std.specs.Prelude.{◌≡◌, ◌-◌, ◌≤◌, length, map, string_bytes};
 ghost use Rattle.ballot_store_cli.specs.Command.{row};
 ghost use Rattle.ballot_store_cli.specs.Outcome.{Ends};
 ghost use Rattle.large_options.specs.declared.options.Options.{Options};
@@ -17,6 +17,7 @@ use ballot_record::Election;
 use crash_disk::Disk;
 use medium_commands::audit::audit;
 use medium_commands::init::init;
+use merge_commands::merge::merge;
 use outside_io::{Sink, Source, Turns};
 use phase_gate::Report;
 use run_outcome::Status;
@@ -39,7 +40,9 @@ use std::thread::Threads;
 /// - `MEDIUM ELECTION large --seed S --count C --tabs T` handles the script that these options generate as a session does,
 ///   and writes the summary of its replies;
 /// - `MEDIUM ELECTION sample DICE K` writes the K ballots of the medium whose tickets under the dice are the least;
-/// - `MEDIUM ELECTION compare DICE K` compares the script's record lines with that sample.
+/// - `MEDIUM ELECTION compare DICE K` compares the script's record lines with that sample;
+/// - `MEDIUM ELECTION merge MORE ..` makes the medium that of the union of its own set and those of further media, one to
+///   eight.
 ///
 /// The report has how many calls the disk had seen at each checkpoint that a session acknowledged, and how many ballots
 /// its last closed store held. `more` has a disk for each word after the third.
@@ -104,6 +107,7 @@ fn carry_out<R: Threads + Sync, S: Source, K: Sink, D: Disk, T: Turns>(
 ) -> Result<(), Status>
     requires options { (o : Options) → command ≡ Command.Large o → IsTab o.tabs }
     requires election { IsElection election.now }
+    requires more { command ≡ Command.Merge → length more.old ≤ 8 }
     requires report { reported report.old ≡ nothing_reported }
     ensures { CommandEnds (disk_model D.seen D.calls D.may_leave D.faults)
         (row command) election.now (ended result) (reported report.new)
@@ -118,6 +122,7 @@ fn carry_out<R: Threads + Sync, S: Source, K: Sink, D: Disk, T: Turns>(
         Command::Replay => replay(alloc, election, script, out),
         Command::Sample(asked) => sample(alloc, election, &asked, out, disk),
         Command::Compare(asked) => compare(alloc, election, &asked, script, out, disk),
+        Command::Merge => merge(alloc, election, out, disk, more),
         Command::Large(options) => large(rt, alloc, options, election, out, disk, turns, report),
     }
 }

@@ -15,6 +15,7 @@ use std::thread::Threads;
 
 mod faults;
 mod memory;
+mod merging;
 mod rows;
 mod turns;
 

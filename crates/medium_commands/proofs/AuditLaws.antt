@@ -80,6 +80,7 @@ audit_settled : {S K D : Type 0} (model : DiskModel D) (e : Election) (a : Statu
 audit_settled model e status.DiskFault before after none ends = absurd (not_risen (model.faults before.disk) (model.faults after.disk) none.disk ends.tells.0)
 audit_settled model e status.WriteFault before after none ends = absurd (not_risen before.streams.sink.faults after.streams.sink.faults none.sink ends.tells.3)
 audit_settled model e (status.ReadFault which) before after none ends = absurd ends.tells
+audit_settled model e (status.OtherDiskFault index) before after none ends = absurd ends.tells
 audit_settled model e status.Memory before after none ends = inr refl
 audit_settled model e other before after none ends = inl tt
 

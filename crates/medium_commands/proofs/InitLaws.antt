@@ -60,6 +60,7 @@ init_settled : {S K D : Type 0} (model : DiskModel D) (e : Election) (a : Status
 init_settled model e status.DiskFault before after none ends = absurd (not_risen (model.faults before.disk) (model.faults after.disk) none.disk ends.leaves.0)
 init_settled model e status.WriteFault before after none ends = absurd (not_risen before.streams.sink.faults after.streams.sink.faults none.sink ends.leaves.2)
 init_settled model e (status.ReadFault which) before after none ends = absurd ends.leaves
+init_settled model e (status.OtherDiskFault index) before after none ends = absurd ends.leaves
 init_settled model e status.Memory before after none ends = inr refl
 init_settled model e other before after none ends = inl tt
 

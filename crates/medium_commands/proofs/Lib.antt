@@ -1,2 +1,3 @@
 pub mod AuditLaws
 pub mod InitLaws
+pub mod Refusing

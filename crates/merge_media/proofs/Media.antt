@@ -5,8 +5,13 @@ use Rattle.std.proofs.lemmas.Option.{get_or_from_slice_get, slice_get-get_or, sl
 use Rattle.std.specs.List.{AllZip, slice_get}
 use Rattle.std.specs.Prelude.{IfErr, IsErrAnd}
 use Rattle.merge_media.proofs.Standing.{joined_same, none_stands, stands_behind, stands_cases, stands_either, stands_first, stands_left, stands_right}
+use Rattle.merge_media.specs.Merging.{NoneRose, RefusesFurther, RefusesMedium, RefusesOne}
 use Rattle.merge_media.specs.Union.{IsJoinedOf}
+use Rattle.merge_media.specs.declared.fault.MergeFault.{MergeFault}
+use Rattle.merge_media.specs.declared.fault.MergeFault.TheVariants.{Target, OtherFault, Other, Dispute, TooMany, DiskFault, Memory}
 use Rattle.store_spec.specs.Ballot.{Ballot}
+use Rattle.store_spec.specs.Disk.{DiskModel}
+use Rattle.store_spec.specs.Election.{Election}
 
 -- what holds of a fault that is handed on
 pub handed_on : {T E : Type 0} (r : Result T E) (P : E → Type 0) (fault : E) → IsErrAnd r (λ f. f ≡ fault) → P fault → IfErr r P
@@ -39,6 +44,13 @@ zip_more R xs ys i x y there zip holds =
     ap (λ z. take i xs ++ z ∷ []) (sym (get_or_from_slice_get xs i x x there)) ∙ sym (take_more xs i x (slice_get_within xs i x there)) in
     subst (λ zs. AllZip R zs (ys ++ y ∷ [])) is (zip_push R (take i xs) ys x y zip holds)
 
+pub zip_take : {X Y : Type 0} (R : X → Y → Type 0) (xs : List X) (ys : List Y) (i : ℕ) → AllZip R xs ys → AllZip R (take i xs) (take i ys)
+zip_take R xs ys zero zip = tt
+zip_take R [] [] (suc i) zip = tt
+zip_take R [] (b ∷ ys) (suc i) zip = absurd zip
+zip_take R (a ∷ xs) [] (suc i) zip = absurd zip
+zip_take R (a ∷ xs) (b ∷ ys) (suc i) zip = (zip.0, zip_take R xs ys i zip.1)
+
 -- ---- the item that is taken next stands where it stood at first
 
 pub stood_there : {X : Type 0} (first now : List X) (i : ℕ) (x : X) → length now ≡ length first → drop i now ≡ drop i first → i < length now → x ≡ get_or now i x → slice_get first i ≡ Some x
@@ -54,6 +66,23 @@ stands_now now i y lt = slice_get-get_or (set now i y) i y (omega (arith, length
 pub rest_still : {X : Type 0} (first now : List X) (i : ℕ) (y : X) → drop i now ≡ drop i first → drop (i + 1) (set now i y) ≡ drop (i + 1) first
 rest_still first now i y same =
     drop-set-lt (i + 1) now i y (omega arith) ∙ sym (drop-drop 1 i now) ∙ ap (λ xs. drop 1 xs) same ∙ drop-drop 1 i first
+
+-- ---- why they are not joined
+
+pub refuses_further : {D : Type 0} (model : DiskModel D) (e : Election) (more now : List D) (fault : MergeFault) → RefusesOne model e more now fault
+    → (fault ≡ Memory → NoneRose model more now) → RefusesFurther model e more now fault
+refuses_further model e more now Memory one none = none refl
+refuses_further model e more now (Target why) one none = one
+refuses_further model e more now (OtherFault index) one none = one
+refuses_further model e more now (Other index why) one none = one
+refuses_further model e more now (Dispute number) one none = one
+refuses_further model e more now (TooMany count) one none = one
+refuses_further model e more now DiskFault one none = one
+
+-- without memory no disk failed
+pub none_failed : {D : Type 0} (model : DiskModel D) (e : Election) (index : ℕ) (before after : D) (fault : MergeFault) → RefusesMedium model e index before after fault → fault ≡ Memory
+    → model.faults after ≡ model.faults before
+none_failed model e index before after fault refused is = subst (RefusesMedium model e index before after) is refused
 
 -- ---- a set more is joined
 

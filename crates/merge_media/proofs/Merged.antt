@@ -1,5 +1,5 @@
 -- The runs of calls that merge media, and what they leave of the target at each moment.
-use Rattle.std.proofs.Common.{◌≡◌, ℕ, ◌<◌, ◌≤◌, ◌⊎◌, inl, inr, ⊎_elim, List, ◌∷◌, Option, Some, sym, subst, ◌∙◌, arith}
+use Rattle.std.proofs.Common.{◌≡◌, ℕ, ◌<◌, ◌≤◌, ◌⊎◌, inl, inr, ⊎_elim, List, ◌∷◌, Option, Some, refl, sym, subst, ◌∙◌, arith}
 use Rattle.std.proofs.lemmas.Bool.{cases_lt}
 use Rattle.std.specs.Option.{ForSome}
 use Rattle.std.specs.Prelude.{IfSome}
@@ -7,7 +7,8 @@ use Rattle.checkpoint.proofs.Pages.{told_back}
 use Rattle.body_store.specs.Contents.{Contents}
 use Rattle.crash_disk.proofs.Moments.{weaker}
 use Rattle.image_builder.proofs.Held.{one_held}
-use Rattle.merge_media.specs.Merging.{EachHolds, HoldsAll, HoldsOldOrUnion, IsRecovered, MergeRefuses, RefusesUnion}
+use Rattle.merge_media.proofs.Media.{zip_same}
+use Rattle.merge_media.specs.Merging.{EachHolds, HoldsAll, HoldsOldOrUnion, IsRecovered, MergeRefuses, RefusesBegin, RefusesFurther, RefusesUnion}
 use Rattle.merge_media.specs.Union.{IsUnion}
 use Rattle.merge_media.specs.declared.fault.MergeFault.{MergeFault}
 use Rattle.merge_media.specs.declared.fault.MergeFault.TheVariants.{Target, OtherFault, Other, Dispute, TooMany, DiskFault, Memory}
@@ -80,16 +81,38 @@ same_set e bytes seen set read valid sees holds found =
 
 -- ---- the whole run
 
--- why the union is no store, as why media are not merged
-pub refuses_all : {A B : Type 0} (target : DiskModel A) (further : DiskModel B) (e : Election) (before after : A) (more now : List B) (set : List Ballot) (sets : List (List Ballot)) (fault : MergeFault)
-    → HoldsAll target further e before after more set sets → RefusesUnion e (set ∷ sets) fault → MergeRefuses target further e before after more now fault
-refuses_all target further e before after more now set sets (Target why) all refused = absurd refused
-refuses_all target further e before after more now set sets (OtherFault index) all refused = absurd refused
-refuses_all target further e before after more now set sets (Other index why) all refused = absurd refused
-refuses_all target further e before after more now set sets (Dispute number) all refused = (set, sets, all, refused)
-refuses_all target further e before after more now set sets (TooMany count) all refused = (set, sets, all, refused)
-refuses_all target further e before after more now set sets DiskFault all refused = absurd refused
-refuses_all target further e before after more now set sets Memory all refused = tt
+module _ {A B : Type 0} (target : DiskModel A) (further : DiskModel B) (e : Election) (before after : A) (more : List B) where
+  -- why the target gave no union to begin with, as why media are not merged
+  pub refuses_begun : (fault : MergeFault) → RefusesBegin target e before after fault → MergeRefuses target further e before after more more fault
+  refuses_begun (Target why) refused = (refused, refl)
+  refuses_begun (OtherFault index) refused = absurd refused
+  refuses_begun (Other index why) refused = absurd refused
+  refuses_begun (Dispute number) refused = absurd refused
+  refuses_begun (TooMany count) refused = absurd refused
+  refuses_begun DiskFault refused = absurd refused
+  refuses_begun Memory refused = (refused, zip_same (λ old new. further.faults new ≡ further.faults old) (λ disk. refl) more)
+
+  module _ (now : List B) (set : List Ballot) where
+    -- why the further media are not joined
+    pub refuses_joining : (fault : MergeFault) → IsRecovered target e set before after → RefusesFurther further e more now fault → MergeRefuses target further e before after more now fault
+    refuses_joining (Target why) recovered refused = absurd refused.refused
+    refuses_joining (OtherFault index) recovered refused = ((set, recovered), refused)
+    refuses_joining (Other index why) recovered refused = ((set, recovered), refused)
+    refuses_joining (Dispute number) recovered refused = absurd refused.refused
+    refuses_joining (TooMany count) recovered refused = absurd refused.refused
+    refuses_joining DiskFault recovered refused = absurd refused.refused
+    refuses_joining Memory recovered refused = (recovered.no_fault, refused)
+
+    -- and why the union is no store
+    pub refuses_all : (sets : List (List Ballot)) (fault : MergeFault) → HoldsAll target further e before after more now set sets → RefusesUnion e (set ∷ sets) fault
+        → MergeRefuses target further e before after more now fault
+    refuses_all sets (Target why) all refused = absurd refused
+    refuses_all sets (OtherFault index) all refused = absurd refused
+    refuses_all sets (Other index why) all refused = absurd refused
+    refuses_all sets (Dispute number) all refused = (set, sets, all, refused)
+    refuses_all sets (TooMany count) all refused = (set, sets, all, refused)
+    refuses_all sets DiskFault all refused = absurd refused
+    refuses_all sets Memory all refused = (all.recovered.no_fault, all.none_rose)
 
 module _ {A B : Type 0} (target : DiskModel A) (further : DiskModel B) (e : Election) (more : List B) (old mid new : A) (bytes : List ℕ) (set : List Ballot)
     (sees : target.seen old ≡ Some bytes) (holds : HoldsSet e bytes set) where

@@ -1,6 +1,6 @@
 -- What the merging of media makes of a target and of further media. `before` and `after` are the target's disk, `more`
 -- and `now` those of the further media.
-use Rattle.std.specs.Prelude.{◌≡◌, ◌≢◌, ◌⊎◌, ℕ, ◌+◌, ◌<◌, List, ◌∷◌, length, take, Some, IfSome, slice_get}
+use Rattle.std.specs.Prelude.{◌≡◌, ◌≢◌, ◌⊎◌, ℕ, ◌+◌, ◌<◌, List, ◌∷◌, drop, length, take, Some, IfSome, slice_get}
 use Rattle.std.specs.List.{AllZip}
 use Rattle.merge_media.specs.Union.{IsLeastDisputed, IsUnion}
 use Rattle.merge_media.specs.declared.fault.MergeFault.{MergeFault}
@@ -14,7 +14,7 @@ use Rattle.recovery.specs.declared.fault.RecoverFault.TheVariants as recover
 use Rattle.store_spec.specs.Ballot.{Ballot}
 use Rattle.store_spec.specs.Disk.{DiskModel, IsSettled}
 use Rattle.store_spec.specs.Election.{Election}
-use Rattle.store_spec.specs.Fault.{Rose}
+use Rattle.store_spec.specs.Fault.{CountsFaultIf, Rose}
 use Rattle.store_spec.specs.Medium.{HoldsSet, IsMediumOf}
 
 -- ---- the further media
@@ -27,11 +27,16 @@ HoldsIfTold model e disk set = IfSome (model.seen disk) (λ bytes. HoldsSet e by
 abbrev pub EachHolds : {D : Type 0} → DiskModel D → Election → List D → List (List Ballot) → Type 0
 EachHolds model e disks sets = AllZip (HoldsIfTold model e) disks sets
 
+-- no count of faults rose
+abbrev pub NoneRose : {D : Type 0} → DiskModel D → List D → List D → Type 0
+NoneRose model before after = AllZip (λ old new. model.faults new ≡ model.faults old) before after
+
 -- why the medium with this index is not joined
 abbrev pub RefusesMedium : {D : Type 0} → DiskModel D → Election → ℕ → D → D → MergeFault → Type 0
 RefusesMedium model e index before after (OtherFault i) = (i ≡ index) × Rose (model.faults before) (model.faults after)
-RefusesMedium model e index before after (Other i why) = (i ≡ index) × IfSome (model.seen before) (λ bytes. IsRefusedMedium e bytes (medium_fault why))
-RefusesMedium model e index before after Memory = Unit {0}
+RefusesMedium model e index before after (Other i why) =
+    (i ≡ index) × IfSome (model.seen before) (λ bytes. IsRefusedMedium e bytes (medium_fault why)) × (model.faults after ≡ model.faults before)
+RefusesMedium model e index before after Memory = model.faults after ≡ model.faults before
 RefusesMedium model e index before after fault = ⊥
 
 -- the fault of a look at it
@@ -42,16 +47,23 @@ further_fault index (recover.Damaged cell) = Other index (media.Damaged cell)
 further_fault index recover.DiskFault = OtherFault index
 further_fault index recover.Memory = Memory
 
--- the first of them that is not joined: those before it hold sets
+-- the first of them that is not joined: those before it hold sets, and nothing is asked of those after it
 pub record RefusesOne {D : Type 0} (model : DiskModel D) (e : Election) (more now : List D) (fault : MergeFault) : Type 0 where
   pub place : ℕ
   pub sets : List (List Ballot)
   pub earlier : EachHolds model e (take place more) sets
+  pub none_rose : NoneRose model (take place more) (take place now)
+  pub later : drop (place + 1) now ≡ drop (place + 1) more
   pub old : D
   pub there : slice_get more place ≡ Some old
   pub new : D
   pub there_now : slice_get now place ≡ Some new
   pub refused : RefusesMedium model e (place + 1) old new fault
+
+-- why the further media are not joined
+abbrev pub RefusesFurther : {D : Type 0} → DiskModel D → Election → List D → List D → MergeFault → Type 0
+RefusesFurther model e more now Memory = NoneRose model more now
+RefusesFurther model e more now fault = RefusesOne model e more now fault
 
 -- ---- the target
 
@@ -60,20 +72,22 @@ pub record IsRecovered {D : Type 0} (model : DiskModel D) (e : Election) (set : 
   pub held : HoldsIfTold model e before set
   pub medium : AsTold model.seen before after (λ _ bytes. IsMediumOf e bytes set)
   pub settled : IsSettled model.seen model.calls model.may_leave after
+  pub no_fault : model.faults after ≡ model.faults before
 
 -- it gave no store
 pub record RefusesTarget {D : Type 0} (model : DiskModel D) (e : Election) (why : RecoverFault) (before after : D) : Type 0 where
   pub refused : IfSome (model.seen before) (λ bytes. IsRefusedMedium e bytes why)
   pub unchanged : IsUnchangedAt why (model.seen before) (model.seen after)
   pub no_memory : why ≢ recover.Memory
-  pub rose : why ≡ recover.DiskFault → Rose (model.faults before) (model.faults after)
+  pub fault : CountsFaultIf (why ≡ recover.DiskFault) (model.faults before) (model.faults after)
 
 -- ---- all media
 
 -- the sets that all of them hold
-pub record HoldsAll {A B : Type 0} (target : DiskModel A) (further : DiskModel B) (e : Election) (before after : A) (more : List B) (set : List Ballot) (sets : List (List Ballot)) : Type 0 where
+pub record HoldsAll {A B : Type 0} (target : DiskModel A) (further : DiskModel B) (e : Election) (before after : A) (more now : List B) (set : List Ballot) (sets : List (List Ballot)) : Type 0 where
   pub recovered : IsRecovered target e set before after
   pub each : EachHolds further e more sets
+  pub none_rose : NoneRose further more now
 
 -- the union has more ballots than the election's store may hold, so many
 pub record IsTooLarge (e : Election) (sets : List (List Ballot)) (count : ℕ) : Type 0 where
@@ -84,20 +98,20 @@ pub record IsTooLarge (e : Election) (sets : List (List Ballot)) (count : ℕ) :
 
 -- why media are not merged
 abbrev pub MergeRefuses : {A B : Type 0} → DiskModel A → DiskModel B → Election → A → A → List B → List B → MergeFault → Type 0
-MergeRefuses target further e before after more now (Target why) = RefusesTarget target e why before after
+MergeRefuses target further e before after more now (Target why) = RefusesTarget target e why before after × (now ≡ more)
 MergeRefuses target further e before after more now (OtherFault index) =
     ((set : List Ballot) × IsRecovered target e set before after) × RefusesOne further e more now (OtherFault index)
 MergeRefuses target further e before after more now (Other index why) =
     ((set : List Ballot) × IsRecovered target e set before after) × RefusesOne further e more now (Other index why)
 MergeRefuses target further e before after more now (Dispute number) =
-    (set : List Ballot) × (sets : List (List Ballot)) × HoldsAll target further e before after more set sets × IsLeastDisputed (set ∷ sets) number
+    (set : List Ballot) × (sets : List (List Ballot)) × HoldsAll target further e before after more now set sets × IsLeastDisputed (set ∷ sets) number
 MergeRefuses target further e before after more now (TooMany count) =
-    (set : List Ballot) × (sets : List (List Ballot)) × HoldsAll target further e before after more set sets × IsTooLarge e (set ∷ sets) count
-MergeRefuses target further e before after more now DiskFault = Rose (target.faults before) (target.faults after)
-MergeRefuses target further e before after more now Memory = Unit {0}
+    (set : List Ballot) × (sets : List (List Ballot)) × HoldsAll target further e before after more now set sets × IsTooLarge e (set ∷ sets) count
+MergeRefuses target further e before after more now DiskFault = Rose (target.faults before) (target.faults after) × NoneRose further more now
+MergeRefuses target further e before after more now Memory = (target.faults after ≡ target.faults before) × NoneRose further more now
 
 -- the target is the medium of the union of all media
-pub record Merges {A B : Type 0} (target : DiskModel A) (further : DiskModel B) (e : Election) (before after : A) (more : List B) (count : ℕ) : Type 0 where
+pub record Merges {A B : Type 0} (target : DiskModel A) (further : DiskModel B) (e : Election) (before after : A) (more now : List B) (count : ℕ) : Type 0 where
   pub set : List Ballot
   pub sets : List (List Ballot)
   pub held : HoldsIfTold target e before set
@@ -107,6 +121,8 @@ pub record Merges {A B : Type 0} (target : DiskModel A) (further : DiskModel B) 
   pub count_is : length union ≡ count
   pub medium : AsTold target.seen before after (λ _ bytes. IsMediumOf e bytes union)
   pub settled : IsSettled target.seen target.calls target.may_leave after
+  pub no_fault : target.faults after ≡ target.faults before
+  pub none_rose : NoneRose further more now
 
 -- the bytes hold the target's old set, or the union of all media
 abbrev pub HoldsOldOrUnion : {B : Type 0} → DiskModel B → Election → List Ballot → List B → List ℕ → Type 0
@@ -117,7 +133,7 @@ HoldsOldOrUnion further e set more image =
 -- why the target gave no union to begin with
 abbrev pub RefusesBegin : {D : Type 0} → DiskModel D → Election → D → D → MergeFault → Type 0
 RefusesBegin target e before after (Target why) = RefusesTarget target e why before after
-RefusesBegin target e before after Memory = Unit {0}
+RefusesBegin target e before after Memory = target.faults after ≡ target.faults before
 RefusesBegin target e before after fault = ⊥
 
 -- why the union of these sets is no store

@@ -2,7 +2,7 @@
 
 ghost use Rattle.std.specs.Prelude.{◌≡◌, ◌≢◌, ◌+◌, ◌*◌, ◌^◌, ◌<◌, ◌≤◌, ◌∷◌, [], ℕ, List, None, IfErr, IfOk, OnOk, Some, is_some, length};
 ghost use Rattle.std.specs.List.{AllZip};
-ghost use Rattle.merge_media.specs.Merging.{EachHolds, HoldsIfTold, HoldsOldOrUnion, IsRecovered, MergeRefuses, Merges, RefusesBegin, RefusesMedium, RefusesOne, RefusesUnion, further_fault};
+ghost use Rattle.merge_media.specs.Merging.{EachHolds, HoldsIfTold, HoldsOldOrUnion, IsRecovered, MergeRefuses, Merges, NoneRose, RefusesBegin, RefusesFurther, RefusesMedium, RefusesUnion, further_fault};
 ghost use Rattle.merge_media.specs.Union.{IsUnion, Joins};
 ghost use Rattle.merge_media.specs.declared.fault.MergeFault.TheVariants as faults;
 ghost use Rattle.recovery.specs.ReadsOnly.{WritesNothing};
@@ -52,6 +52,7 @@ fn join<B: Disk>(
         × ((sets : List (List Ballot)) → Joins sets union.old → Joins (set ∷ sets) union.new)) }
     ensures refused { IfErr result (RefusesMedium
         (disk_model B.seen B.calls B.may_leave B.faults) election.now index disk.old disk.new) }
+    ensures steady { OnOk result (B.faults disk.new ≡ B.faults disk.old) }
     ensures reads { WritesNothing B.seen B.calls B.may_leave disk.old disk.new }
     ensures count { length union.new.ballots ≤ length union.old.ballots + most_ballots }
     ensures election { union.new.election ≡ union.old.election }
@@ -77,8 +78,10 @@ fn join_each<B: Disk>(
     ensures joined { OnOk result ((sets : List (List Ballot))
         × EachHolds (disk_model B.seen B.calls B.may_leave B.faults) election.now more.old sets
         × ((set : List Ballot) → Joins (set ∷ []) union.old → Joins (set ∷ sets) union.new)) }
-    ensures refused { IfErr result (RefusesOne
+    ensures refused { IfErr result (RefusesFurther
         (disk_model B.seen B.calls B.may_leave B.faults) election.now more.old more.new) }
+    ensures steady { OnOk result (NoneRose
+        (disk_model B.seen B.calls B.may_leave B.faults) more.old more.new) }
     ensures reads { AllZip (WritesNothing B.seen B.calls B.may_leave) more.old more.new }
     ensures election { union.new.election ≡ union.old.election }
 {
@@ -168,7 +171,7 @@ pub fn merge<A: Disk, B: Disk>(
 ) -> Result<u32, MergeFault>
     requires { length more.old ≤ 8 }
     ensures merged { IfOk result (Merges (disk_model A.seen A.calls A.may_leave A.faults)
-        (disk_model B.seen B.calls B.may_leave B.faults) election.now disk.old disk.new more.old) }
+        (disk_model B.seen B.calls B.may_leave B.faults) election.now disk.old disk.new more.old more.new) }
     ensures refused { IfErr result (MergeRefuses (disk_model A.seen A.calls A.may_leave A.faults)
         (disk_model B.seen B.calls B.may_leave B.faults) election.now disk.old disk.new more.old more.new) }
     ensures any_moment { (bytes : List ℕ) (set : List Ballot) → A.seen disk.old ≡ Some bytes

@@ -1,8 +1,9 @@
 -- How the program ends: its exit status, and the text on standard error where that is not 0.
 use Rattle.std.specs.Prelude.{ℕ, List, ◌++◌, codes, Result, Ok as Fine, Err}
 use Rattle.std.specs.Fmt.{decimal}
+use Rattle.recovery.specs.declared.fault.MediumWhy.TheVariants as media
 use Rattle.run_outcome.specs.declared.status.Status.{Status}
-use Rattle.run_outcome.specs.declared.status.Status.TheVariants.{Ok, Usage, BadElection, TooLong, DiskFault, ReadFault, WriteFault, Memory, NoStore, Damaged, OtherElection, Exists, WrongSize, NotCanonical, BadLine}
+use Rattle.run_outcome.specs.declared.status.Status.TheVariants.{Ok, Usage, BadElection, TooLong, DiskFault, ReadFault, WriteFault, Memory, NoStore, Damaged, OtherElection, Exists, WrongSize, NotCanonical, BadLine, OtherDiskFault, BadMedium, MergeConflict, MergeFull}
 use Rattle.run_outcome.specs.declared.status.Which.TheVariants.{Election, Script}
 
 abbrev pub exit_status : Status → ℕ
@@ -21,6 +22,10 @@ exit_status Exists = 12
 exit_status (WrongSize size) = 13
 exit_status (NotCanonical place) = 14
 exit_status (BadLine line why) = 15
+exit_status (OtherDiskFault index) = 17
+exit_status (BadMedium index why) = 20
+exit_status (MergeConflict number) = 21
+exit_status (MergeFull count) = 22
 
 abbrev pub status_text : Status → List ℕ
 status_text Ok = codes "ok"
@@ -40,6 +45,12 @@ status_text Exists = codes "store exists"
 status_text (WrongSize size) = codes "wrong size " ++ decimal size
 status_text (NotCanonical place) = codes "not canonical at " ++ decimal place
 status_text (BadLine line why) = codes "bad line " ++ decimal line
+status_text (OtherDiskFault index) = codes "disk fault at medium " ++ decimal index
+status_text (BadMedium index media.NoStore) = codes "medium " ++ decimal index ++ codes " no store"
+status_text (BadMedium index (media.OtherElection header)) = codes "medium " ++ decimal index ++ codes " other election"
+status_text (BadMedium index (media.Damaged cell)) = codes "medium " ++ decimal index ++ codes " damaged cell " ++ decimal cell
+status_text (MergeConflict number) = codes "conflict " ++ decimal number
+status_text (MergeFull count) = codes "merge of " ++ decimal count
 
 -- the status is neither a fault of the outside nor want of memory
 abbrev pub IsDecided : Status → Type 0
@@ -47,6 +58,7 @@ IsDecided DiskFault = ⊥
 IsDecided (ReadFault which) = ⊥
 IsDecided WriteFault = ⊥
 IsDecided Memory = ⊥
+IsDecided (OtherDiskFault index) = ⊥
 IsDecided status = Unit {0}
 
 -- the status of what a command answered

@@ -2,6 +2,7 @@ ghost use Rattle.std.specs.Prelude.{◌≡◌};
 
 use ballot_record::{HEADER_BYTES, LineWhy};
 use outside_io::Memory;
+use recovery::MediumWhy;
 use std::fmt;
 
 /// Which of the two inputs of a run.
@@ -44,6 +45,14 @@ pub enum Status {
     NotCanonical { place: u64 },
     /// A line of a script was refused; lines count from 1.
     BadLine { line: u64, why: LineWhy },
+    /// The disk of this further medium failed. Further media count from 1.
+    OtherDiskFault { index: u32 },
+    /// This further medium, the first such one, is no store of the election.
+    BadMedium { index: u32, why: MediumWhy },
+    /// This is the least number of which two media hold different ballots.
+    MergeConflict { number: u64 },
+    /// The union of the media has so many ballots, more than a store of the election may hold.
+    MergeFull { count: u32 },
 }
 
 impl Status {
@@ -69,6 +78,10 @@ impl Status {
             Status::WrongSize { .. } => 13,
             Status::NotCanonical { .. } => 14,
             Status::BadLine { .. } => 15,
+            Status::OtherDiskFault { .. } => 17,
+            Status::BadMedium { .. } => 20,
+            Status::MergeConflict { .. } => 21,
+            Status::MergeFull { .. } => 22,
         }
     }
 }
@@ -117,6 +130,14 @@ impl fmt::Display for Status {
             Status::WrongSize { size } => write!(f, "wrong size {size}"),
             Status::NotCanonical { place } => write!(f, "not canonical at {place}"),
             Status::BadLine { line, .. } => write!(f, "bad line {line}"),
+            Status::OtherDiskFault { index } => write!(f, "disk fault at medium {index}"),
+            Status::BadMedium { index, why } => match why {
+                MediumWhy::NoStore => write!(f, "medium {index} no store"),
+                MediumWhy::OtherElection { .. } => write!(f, "medium {index} other election"),
+                MediumWhy::Damaged { cell } => write!(f, "medium {index} damaged cell {cell}"),
+            },
+            Status::MergeConflict { number } => write!(f, "conflict {number}"),
+            Status::MergeFull { count } => write!(f, "merge of {count}"),
         }
     }
 }

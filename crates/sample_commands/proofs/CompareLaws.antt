@@ -1,5 +1,6 @@
 -- The laws of `compare`: a script and the bytes of a disk decide how it ends, but for faults and want of memory.
 use Rattle.std.proofs.Common.{◌≡◌, ◌⊎◌, ℕ, ◌<◌, ◌≤◌, List, length, Some, inl, inr, ⊎_elim, refl, arith, sym, ◌∙◌}
+use Rattle.medium_commands.proofs.Refusing.{Refuses, not_both, one_refused}
 use Rattle.outside_io.proofs.Told.{told_at}
 use Rattle.outside_io.specs.Outside.{Outside}
 use Rattle.run_outcome.proofs.Laws.{Laws, at_told, not_risen}
@@ -9,7 +10,7 @@ use Rattle.run_outcome.specs.World.{World}
 use Rattle.run_outcome.specs.declared.status.Status.{Status}
 use Rattle.run_outcome.specs.declared.status.Status.TheVariants as status
 use Rattle.run_outcome.specs.declared.status.Which.TheVariants as which
-use Rattle.sample_commands.proofs.Deciding.{Refuses, none_decides, not_both, one_refused}
+use Rattle.sample_commands.proofs.Deciding.{none_decides}
 use Rattle.sample_commands.specs.Compare.{Compares, ComparesNone, LinesEnd, compare_row}
 use Rattle.sample_commands.specs.Sample.{HoldsSome}
 use Rattle.sample_commands.specs.declared.asked.Asked.{Asked}
@@ -56,6 +57,7 @@ none_settled : {S K D : Type 0} (model : DiskModel D) (e : Election) (asked : As
 none_settled model e asked status.DiskFault before after none ends = absurd (not_risen (model.faults before.disk) (model.faults after.disk) none.disk ends.shows)
 none_settled model e asked status.WriteFault before after none ends = absurd ends.shows
 none_settled model e asked (status.ReadFault which) before after none ends = absurd ends.shows
+none_settled model e asked (status.OtherDiskFault index) before after none ends = absurd ends.shows
 none_settled model e asked status.Memory before after none ends = inr refl
 none_settled model e asked other before after none ends = inl tt
 
@@ -65,6 +67,7 @@ some_settled model e asked status.DiskFault before after none ends = absurd ends
 some_settled model e asked status.WriteFault before after none ends = absurd (not_risen before.streams.sink.faults after.streams.sink.faults none.sink ends.ends.1)
 some_settled model e asked (status.ReadFault which.Script) before after none ends = absurd (not_risen before.streams.script.faults after.streams.script.faults none.script ends.ends.1)
 some_settled model e asked (status.ReadFault which.Election) before after none ends = absurd ends.ends
+some_settled model e asked (status.OtherDiskFault index) before after none ends = absurd ends.ends
 some_settled model e asked status.Memory before after none ends = inr refl
 some_settled model e asked other before after none ends = inl tt
 

@@ -1,5 +1,6 @@
 -- The laws of `sample`: the bytes of a disk decide how it ends, but for faults and want of memory.
 use Rattle.std.proofs.Common.{◌≡◌, ◌⊎◌, ℕ, List, Some, inl, inr, ⊎_elim, refl, sym, ◌∙◌}
+use Rattle.medium_commands.proofs.Refusing.{Refuses, not_both, one_refused}
 use Rattle.outside_io.specs.Outside.{Output}
 use Rattle.run_outcome.proofs.Laws.{Laws, at_told, not_risen}
 use Rattle.run_outcome.specs.Row.{NothingFailed}
@@ -7,7 +8,7 @@ use Rattle.run_outcome.specs.Status.{IsDecided}
 use Rattle.run_outcome.specs.World.{World}
 use Rattle.run_outcome.specs.declared.status.Status.{Status}
 use Rattle.run_outcome.specs.declared.status.Status.TheVariants as status
-use Rattle.sample_commands.proofs.Deciding.{Refuses, none_decides, not_both, one_refused}
+use Rattle.sample_commands.proofs.Deciding.{none_decides}
 use Rattle.sample_commands.specs.Sample.{HoldsSome, SampleTells, sample_row}
 use Rattle.sample_commands.specs.declared.asked.Asked.{Asked}
 use Rattle.store_spec.specs.Disk.{DiskModel}
@@ -37,6 +38,7 @@ sample_settled : {S K D : Type 0} (model : DiskModel D) (e : Election) (asked : 
 sample_settled model e asked status.DiskFault before after none tells = absurd (not_risen (model.faults before.disk) (model.faults after.disk) none.disk tells.0)
 sample_settled model e asked status.WriteFault before after none tells = absurd (not_risen before.streams.sink.faults after.streams.sink.faults none.sink tells.1)
 sample_settled model e asked (status.ReadFault which) before after none tells = absurd tells.0
+sample_settled model e asked (status.OtherDiskFault index) before after none tells = absurd tells.0
 sample_settled model e asked status.Memory before after none tells = inr refl
 sample_settled model e asked other before after none tells = inl tt
 

@@ -83,6 +83,7 @@ build_settled model e (status.ReadFault which.Script) before after none ends = a
 build_settled model e (status.ReadFault which.Election) before after none ends = absurd ends
 build_settled model e status.WriteFault before after none ends = absurd (not_risen before.streams.sink.faults after.streams.sink.faults none.sink ends.1)
 build_settled model e status.DiskFault before after none ends = absurd ends
+build_settled model e (status.OtherDiskFault index) before after none ends = absurd ends
 build_settled model e status.Memory before after none ends = inr refl
 build_settled model e other before after none ends = inl tt
 

@@ -1,10 +1,12 @@
-use Rattle.std.proofs.Common.{◌++◌, ◌∷◌, [], Some, get_or, refl, ap, set, ◌∙◌, arith}
-use Rattle.merge_media.proofs.Media.{handed_on, joined_behind, rest_still, stands_now, stood_there, zip_more, zip_same, zip_set}
+use Rattle.std.proofs.Common.{◌≡◌, ◌+◌, ◌≤◌, ◌++◌, ◌∷◌, [], Some, get_or, refl, sym, ap, subst, set, take, ◌∙◌, arith}
+use Rattle.merge_media.proofs.Media.{handed_on, joined_behind, none_failed, refuses_further, rest_still, stands_now, stood_there, zip_more, zip_same, zip_set, zip_take}
 use Rattle.merge_media.proofs.merging.join_each.Goals as goal
-use Rattle.merge_media.specs.Merging.{HoldsIfTold, RefusesOne}
+use Rattle.merge_media.specs.Merging.{HoldsIfTold, RefusesFurther}
 use Rattle.recovery.proofs.OnlyReading.{nothing_called}
 use Rattle.recovery.specs.ReadsOnly.{WritesNothing}
+use Rattle.std.proofs.lemmas.List.{take-set}
 use Rattle.std.proofs.lemmas.Option.{get_or_from_slice_get}
+use Rattle.std.specs.List.{AllZip}
 use Rattle.store_spec.specs.Disk.{disk_model}
 
 pub loop-place-init : goal.loop-place-init
@@ -12,6 +14,7 @@ loop-place-init g c = record {
   joined = ([], tt, λ set j. j);
   election = refl;
   few = omega (arith, c.requires.one);
+  steady = zip_same (λ old new. g.B.Disk.faults new ≡ g.B.Disk.faults old) (λ disk. refl) c.args.more.now;
   reads = zip_same (WritesNothing g.B.Disk.seen g.B.Disk.calls g.B.Disk.may_leave) (nothing_called g.B.Disk.seen g.B.Disk.calls g.B.Disk.may_leave) c.args.more.now;
   rest = refl;
 }
@@ -23,17 +26,27 @@ returns-in_err-join-clause-refused g c =
     let first = c.args.more.now in
     let now = c.loop-place.more in
     let place = c.loop-place.place in
-    handed_on c.from_residual.result (RefusesOne model e first (set now place c.join.new.disk)) c.in_err-join.field-0.0 c.from_residual.ensures.1
+    let fault = c.in_err-join.field-0.0 in
+    let old = get_or now place c.index-more-place.result in
+    let last = set now place c.join.new.disk in
+    let there = stood_there first now place c.index-more-place.result c.loop-place.auto.more c.loop-place.invariant.rest (omega (arith, c.loop-place.auto.more)) c.index-more-place.is ∙ ap Some c.index-more-place.is in
+    handed_on c.from_residual.result (RefusesFurther model e first last) fault c.from_residual.ensures.1
+    (refuses_further model e first last fault
     (record {
       place = place;
       sets = c.loop-place.invariant.joined.0;
       earlier = c.loop-place.invariant.joined.1;
-      old = get_or now place c.index-more-place.result;
-      there = stood_there first now place c.index-more-place.result c.loop-place.auto.more c.loop-place.invariant.rest (omega (arith, c.loop-place.auto.more)) c.index-more-place.is ∙ ap Some c.index-more-place.is;
+      none_rose = subst (λ now. AllZip (λ old new. g.B.Disk.faults new ≡ g.B.Disk.faults old) (take place first) now) (sym (take-set now place c.join.new.disk))
+          (zip_take (λ old new. g.B.Disk.faults new ≡ g.B.Disk.faults old) first now place c.loop-place.invariant.steady);
+      later = rest_still first now place c.join.new.disk c.loop-place.invariant.rest;
+      old = old;
+      there = there;
       new = c.join.new.disk;
       there_now = stands_now now place c.join.new.disk (omega (arith, c.loop-place.auto.more));
       refused = c.in_err-join.ensures.refused;
     })
+    (λ is. zip_set (λ old new. g.B.Disk.faults new ≡ g.B.Disk.faults old) first now place old c.join.new.disk c.loop-place.invariant.steady (get_or_from_slice_get first place old old there)
+    (none_failed model e (place + 1) old c.join.new.disk fault c.in_err-join.ensures.refused is)))
 
 pub returns-in_err-join-clause-reads : goal.returns-in_err-join-clause-reads
 returns-in_err-join-clause-reads g c =
@@ -64,6 +77,8 @@ loop-place-preserved g c =
       );
       election = c.join.ensures.election ∙ c.loop-place.invariant.election;
       few = omega (arith, c.join.ensures.count, c.loop-place.invariant.few);
+      steady = zip_set (λ old new. g.B.Disk.faults new ≡ g.B.Disk.faults old) first now place old c.join.new.disk c.loop-place.invariant.steady
+          (get_or_from_slice_get first place old old there) c.in_ok-join.ensures.steady;
       reads = zip_set (WritesNothing g.B.Disk.seen g.B.Disk.calls g.B.Disk.may_leave) first now place old c.join.new.disk c.loop-place.invariant.reads
           (get_or_from_slice_get first place old old there) c.join.ensures.reads;
       rest = rest_still first now place c.join.new.disk c.loop-place.invariant.rest;

@@ -1,7 +1,7 @@
 use Rattle.std.proofs.Common.{◌≡◌, ◌+◌, ◌*◌, ◌≤◌, List, [], ◌∷◌, length, take, drop}
 use Rattle.std.specs.List.{AllZip}
 use Rattle.merge_media.proofs.merging.join_each.Given as goal
-use Rattle.merge_media.specs.Merging.{EachHolds}
+use Rattle.merge_media.specs.Merging.{EachHolds, NoneRose}
 use Rattle.merge_media.specs.Union.{Joins}
 use Rattle.recovery.specs.ReadsOnly.{WritesNothing}
 use Rattle.store_spec.specs.Ballot.{Ballot}
@@ -16,6 +16,7 @@ invariant-loop-place g l = record {
       × ((set : List Ballot) → Joins (set ∷ []) l.initial.union → Joins (set ∷ sets) l.union);
   election : l.union.election ≡ l.initial.union.election;
   few : length l.union.ballots ≤ (l.place + 1) * most_ballots;
+  steady : NoneRose (disk_model g.B.Disk.seen g.B.Disk.calls g.B.Disk.may_leave g.B.Disk.faults) l.initial.more l.more;
   reads : AllZip (WritesNothing g.B.Disk.seen g.B.Disk.calls g.B.Disk.may_leave) l.initial.more l.more;
   rest : drop l.place l.more ≡ drop l.place l.initial.more;
 }

@@ -1,0 +1,183 @@
+//! A merge of three media: each call on each of them fails in turn, and the target stops at each call.
+
+use super::rows::{FOUR_BALLOTS, Set, THREE_BALLOTS, assert_recovers};
+use super::{Failing, NOTHING, ROOM, medium_of, run_on};
+use crate::Status;
+use crash_disk::{Disk, MemoryDisk, Torn};
+use outside_io::NoTurns;
+use std::alloc::Global;
+use std::process::Abort;
+use std::test::Fail;
+use std::thread::Threads;
+
+const MERGE: &[&str] = &["medium", "election.json", "merge", "second", "third"];
+
+// The ballots 22 and 9.
+const TWO_BALLOTS: &str = "0000000000000016010000000000000000\
+    0000000000000009010000000100000000";
+
+const BEFORE_OR_AFTER: &[Set] = &[Set::ThreeBallots, Set::FourBallots];
+
+#[derive(Drop)]
+struct Media {
+    target: MemoryDisk,
+    more: Vec<MemoryDisk>,
+}
+
+// A disk whose call of this number fails. None fails where it is 0.
+fn disk_of(
+    rt: &impl Abort,
+    alloc: Global,
+    bytes: Vec<u8>,
+    failing: u64,
+) -> Result<MemoryDisk, Fail> {
+    assert!(rt; bytes.len() <= 610);
+    let calls = vec![in alloc; failing]?;
+    Ok(MemoryDisk::new(alloc, bytes, calls, ROOM)?)
+}
+
+// The call that fails on the medium at a place, where it is this one.
+fn call_at(at: u32, place: u32, call: u64) -> u64 {
+    if at == place { call } else { 0 }
+}
+
+// A target with these bytes, and the media of two ballots and of none. On one of them, counted from 0, a call fails.
+fn three_media(
+    rt: &impl Abort,
+    alloc: Global,
+    target: Vec<u8>,
+    place: u32,
+    call: u64,
+) -> Result<Media, Fail> {
+    let target = disk_of(rt, alloc, target, call_at(0, place, call))?;
+    let second = medium_of(alloc, TWO_BALLOTS)?;
+    let third = medium_of(alloc, "")?;
+    let mut more = Vec::new(alloc);
+    more.push(disk_of(rt, alloc, second, call_at(1, place, call))?)?;
+    more.push(disk_of(rt, alloc, third, call_at(2, place, call))?)?;
+    Ok(Media { target, more })
+}
+
+// How a merge of them ends whose call of this number on the sink fails, and what it wrote.
+fn merge<R>(rt: &R, media: &mut Media, sink: u64) -> Result<(Status, Vec<u8>), Fail>
+where
+    R: Threads + Sync + AllocGlobal + Abort,
+{
+    let failing = Failing { sink, ..NOTHING };
+    let (status, _, written) = run_on(
+        rt,
+        MERGE,
+        "",
+        failing,
+        &mut media.target,
+        &mut media.more,
+        &NoTurns,
+    )?;
+    Ok((status, written))
+}
+
+// The further media have the bytes that they had.
+fn assert_only_read(rt: &impl Abort, alloc: Global, media: &Media) -> Result<(), Fail> {
+    assert_eq!(rt; media.more.len(), 2);
+    assert!(rt; media.more[0].bytes() == medium_of(alloc, TWO_BALLOTS)?.as_slice());
+    assert!(rt; media.more[1].bytes() == medium_of(alloc, "")?.as_slice());
+    Ok(())
+}
+
+// The target is the medium of all four ballots.
+fn assert_united(rt: &impl Abort, alloc: Global, media: &Media) -> Result<(), Fail> {
+    assert!(rt; media.target.bytes() == medium_of(alloc, FOUR_BALLOTS)?.as_slice());
+    assert_only_read(rt, alloc, media)
+}
+
+// The target is made that of all four ballots.
+fn assert_merges<R>(rt: &R, bytes: &[u8]) -> Result<(), Fail>
+where
+    R: Threads + Sync + AllocGlobal + Abort,
+{
+    let alloc = rt.alloc();
+    let mut media = three_media(rt, alloc, bytes.to_vec(alloc)?, 0, 0)?;
+    let (status, written) = merge(rt, &mut media, 0)?;
+    assert_eq!(rt; status, Status::Ok);
+    assert_eq!(rt; written.as_slice(), b"merged 4\n".as_slice());
+    assert_united(rt, alloc, &media)
+}
+
+fn fault_at(place: u32) -> Status {
+    if place == 0 {
+        Status::DiskFault
+    } else {
+        Status::OtherDiskFault { index: place }
+    }
+}
+
+// Each call on one of the media fails in turn, until a merge makes no such call. The same merge again comes to its end.
+fn assert_each_fails<R>(rt: &R, place: u32) -> Result<(), Fail>
+where
+    R: Threads + Sync + AllocGlobal + Abort,
+{
+    let alloc = rt.alloc();
+    for call in 1..100 {
+        let three = medium_of(alloc, THREE_BALLOTS)?;
+        let mut media = three_media(rt, alloc, three, place, call)?;
+        let (status, written) = merge(rt, &mut media, 0)?;
+        if status == Status::Ok {
+            assert!(rt; call > 3, "{place}");
+            return assert_united(rt, alloc, &media);
+        }
+        assert_eq!(rt; status, fault_at(place), "{call}");
+        assert_eq!(rt; written.len(), 0, "{call}");
+        assert_only_read(rt, alloc, &media)?;
+        assert_recovers(rt, media.target.bytes(), BEFORE_OR_AFTER)?;
+        assert_merges(rt, media.target.bytes())?;
+    }
+    assert!(rt; false, "a call fails each time");
+    Ok(())
+}
+
+#[test]
+fn each_call_of_a_merge_fails_in_turn(rt: HostRuntime) -> Result<(), Fail> {
+    for place in 0..3 {
+        assert_each_fails(&rt, place)?;
+    }
+    Ok(())
+}
+
+#[test]
+fn a_merge_whose_sink_fails(rt: HostRuntime) -> Result<(), Fail> {
+    let alloc = rt.alloc();
+    let three = medium_of(alloc, THREE_BALLOTS)?;
+    let mut media = three_media(&rt, alloc, three, 0, 0)?;
+    let (status, written) = merge(&rt, &mut media, 1)?;
+    assert_eq!(rt; status, Status::WriteFault);
+    assert_eq!(rt; written.len(), 0);
+    assert_united(&rt, alloc, &media)
+}
+
+// The target of a merge that was stopped, by what a torn write leaves.
+fn assert_stops<R>(rt: &R, target: &MemoryDisk, inside: bool, torn: Torn) -> Result<(), Fail>
+where
+    R: Threads + Sync + AllocGlobal + Abort,
+{
+    let alloc = rt.alloc();
+    for call in 0..target.calls() {
+        let stopped = target.after_stop(alloc, call, inside, torn)?;
+        assert_recovers(rt, stopped.bytes(), BEFORE_OR_AFTER)?;
+        assert_merges(rt, stopped.bytes())?;
+    }
+    Ok(())
+}
+
+#[test]
+fn a_merge_is_stopped_at_each_call(rt: HostRuntime) -> Result<(), Fail> {
+    let alloc = rt.alloc();
+    let three = medium_of(alloc, THREE_BALLOTS)?;
+    let mut media = three_media(&rt, alloc, three, 0, 0)?;
+    let (status, _) = merge(&rt, &mut media, 0)?;
+    assert_eq!(rt; status, Status::Ok);
+    for torn in [Torn::Old, Torn::New, Torn::Fill(0x3c), Torn::Fill(0xa7)] {
+        assert_stops(&rt, &media.target, false, torn)?;
+        assert_stops(&rt, &media.target, true, torn)?;
+    }
+    Ok(())
+}

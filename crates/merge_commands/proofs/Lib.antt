@@ -1,0 +1,2 @@
+mod Merged
+pub mod MergeLaws

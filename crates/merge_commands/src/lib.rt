@@ -1,0 +1,4 @@
+//! The command that joins media: `merge`.
+#![tactic(auto)]
+
+pub mod merge;
