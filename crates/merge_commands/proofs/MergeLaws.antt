@@ -1,5 +1,5 @@
 -- The laws of `merge`: the bytes of all media decide how it ends, but for faults and want of memory.
-use Rattle.std.proofs.Common.{◌≡◌, ◌≢◌, ◌⊎◌, ℕ, zero, suc, ◌+◌, ◌<◌, ◌≤◌, List, [], ◌∷◌, length, take, get_or, Some, inl, inr, ⊎_elim, refl, sym, ◌∙◌, ap, subst, arith}
+use Rattle.std.proofs.Common.{◌≡◌, ◌≢◌, ◌⊎◌, ℕ, zero, suc, ◌+◌, List, [], ◌∷◌, length, take, get_or, Some, inl, inr, ⊎_elim, refl, sym, ◌∙◌, ap, subst, arith}
 use Rattle.std.proofs.lemmas.List.Elements.{AllZip-get_or}
 use Rattle.std.proofs.lemmas.Option.{get_or_from_slice_get, slice_get_within}
 use Rattle.std.specs.List.{AllZip, slice_get}
@@ -214,7 +214,7 @@ none_decides model e (status.BadMedium index why) before after more now content 
       index = index;
       why = why;
       is = refl;
-      first = first_told model e more content.more one.sets one.place 1 index one.old why tell one.earlier one.there one.refused.0 one.refused.1.0;
+      first = first_told model e more content.more one.sets one.place 1 index one.old why tell one.earlier one.there one.refused.0 one.refused.1;
     }))
 none_decides model e (status.MergeConflict number) before after more now content is tell decided none =
     let set = none.0 in

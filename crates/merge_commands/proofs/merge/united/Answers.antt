@@ -1,8 +1,11 @@
 use Rattle.std.proofs.Common.{◌≡◌, refl}
 use Rattle.merge_commands.proofs.merge.united.Goals as goal
-use Rattle.merge_media.proofs.Media.{zip_same}
+use Rattle.merge_commands.specs.Merge.{MergesNone}
+use Rattle.merge_media.proofs.Media.{handed_on, zip_same}
 use Rattle.recovery.proofs.OnlyReading.{nothing_called}
 use Rattle.recovery.specs.ReadsOnly.{WritesNothing}
+use Rattle.run_outcome.specs.declared.status.Status.TheVariants as status
+use Rattle.store_spec.specs.Disk.{disk_model}
 
 pub returns-in_err-scratch-clause-reads : goal.returns-in_err-scratch-clause-reads
 returns-in_err-scratch-clause-reads g c =
@@ -10,4 +13,9 @@ returns-in_err-scratch-clause-reads g c =
 
 pub returns-in_err-scratch-clause-refused : goal.returns-in_err-scratch-clause-refused
 returns-in_err-scratch-clause-refused g c =
-    (refl, zip_same (λ old new. g.D.Disk.faults new ≡ g.D.Disk.faults old) (λ disk. refl) c.args.more.now)
+    let disk = c.args.disk.now in
+    let more = c.args.more.now in
+    handed_on c.from_residual.result
+    (λ ended. MergesNone (disk_model g.D.Disk.seen g.D.Disk.calls g.D.Disk.may_leave g.D.Disk.faults) c.args.election.now ended disk disk more more)
+    status.Memory c.from_residual.ensures.1
+    (refl, zip_same (λ old new. g.D.Disk.faults new ≡ g.D.Disk.faults old) (λ disk. refl) more)

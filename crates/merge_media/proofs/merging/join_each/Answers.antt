@@ -1,4 +1,4 @@
-use Rattle.std.proofs.Common.{◌≡◌, ◌+◌, ◌≤◌, ◌++◌, ◌∷◌, [], Some, get_or, refl, sym, ap, subst, set, take, ◌∙◌, arith}
+use Rattle.std.proofs.Common.{◌≡◌, ◌+◌, ◌++◌, ◌∷◌, [], Some, get_or, refl, sym, ap, subst, set, take, ◌∙◌, arith}
 use Rattle.merge_media.proofs.Media.{handed_on, joined_behind, none_failed, refuses_further, rest_still, stands_now, stood_there, zip_more, zip_same, zip_set, zip_take}
 use Rattle.merge_media.proofs.merging.join_each.Goals as goal
 use Rattle.merge_media.specs.Merging.{HoldsIfTold, RefusesFurther}
