@@ -6,18 +6,23 @@ part by part. Its strings stand for bytes, as latin-1 has them. It has the keys
     election   a dictionary as the election's JSON, with or without "version"
     text       the election's text where it is not just that JSON, else None
     medium     None where the file is missing, else the sets that it was made of and the damage
-    runs       a list of runs: words, in which MEDIUM and ELECTION stand for the two files, the lines of the script, and
-               where the output goes ("pipe" or "full")
+    more       a list of further media, each as the medium, with its name (MORE1 to MORE8; one that is missing does not
+               stand here) and, under "under", what its election has otherwise
+    runs       a list of runs: words, in which MEDIUM, ELECTION and MORE1 to MORE8 stand for the files, the lines of the
+               script, and where the output goes ("pipe" or "full")
 """
 import json
 
 from store_model import Rules
 
 GOLDEN = 0x9E3779B97F4A7C15
-# The commands that a run is made of, and how often. Later ones (merge, migrate, twin, part) get a line here, a function
-# that makes their words and scripts, and their further media among the files of a case.
+MORE = [f"MORE{k}" for k in range(1, 9)]
+NAMES = {"MEDIUM": "medium", "ELECTION": "election.json"} | {name: name.lower() for name in MORE}  # of the files
+# The commands that a run is made of, and how often. Later ones (migrate, twin, part) get a line here and, where it says
+# how many further media they have, in FURTHER; and a function that makes their scripts.
 COMMANDS = {"session": 50, "audit": 12, "sample": 7, "compare": 7, "build": 8, "large": 4, "replay": 8, "init": 6,
-            "words": 4, "odd": 3}
+            "merge": 16, "words": 4, "odd": 3}
+FURTHER = {"merge": [1, 1, 2, 2, 3, 4, 8]}
 BAD_LINES = ["", " ", "\r", "\0", "close ", " close", "close\r", "Close", "checkpoint 1", "export\t", "tally\0", "open",
              "open cast", "open cast 0", "open cast 65", "open cast 01", "open  cast 1", "open cast 1 ", "open count 1",
              "open cast 1\r", "cast", "cast 1", "cast 1 ", "cast 0 1 1 1", "cast 65 1 1 1", "cast 01 1 1 1", "find 1 0",
@@ -97,12 +102,21 @@ class Maker:
             numbers += [rng.getrandbits(64) or 9 for _ in range(2 * told["limit"])]
         self.numbers = numbers
         self.ballots = {}
+        self.agree, self.share = 0.7, numbers  # how often a number keeps its ballot; the numbers of a medium's sets
+
+    def overlap(self):
+        """Lets the sets of all media mostly agree, and mostly fit into one store."""
+        rng, numbers = self.rng, sorted(set(self.numbers))
+        self.agree = rng.choice([1, 1, 0.98, 0.9, 0.7])
+        if rng.random() < 0.75:
+            fitting = min(self.told["limit"], len(numbers))
+            self.share = rng.sample(numbers, rng.choice([fitting, min(fitting + 1, len(numbers)), (fitting + 1) // 2]))
 
     def record(self, number=None, valid=False):
         """A record line: mostly of a ballot that came before for its number, so that it may be a duplicate."""
         rng = self.rng
         number = number or rng.choice(self.numbers)
-        if number in self.ballots and rng.random() < 0.7:
+        if number in self.ballots and rng.random() < self.agree:
             return self.ballots[number]
         style = rng.randint(1, len(self.told["styles"]))
         groups = []
@@ -125,13 +139,13 @@ class Maker:
 
     def sheaf(self, most):
         """Record lines of a set."""
-        count = self.rng.choice([0, 1, most, self.rng.randint(0, most)])
-        numbers = self.rng.sample(sorted(set(self.numbers)), min(count, len(set(self.numbers))))
+        count, share = self.rng.choice([0, 1, most, self.rng.randint(0, most)]), sorted(set(self.share))
+        numbers = self.rng.sample(share, min(count, len(share)))
         return [self.record(number, valid=True) for number in numbers]
 
-    def medium(self, torn=0.3, damaged=0.25):
+    def medium(self, torn=0.3, damaged=0.25, missing=0.15):
         rng, limit = self.rng, self.told["limit"]
-        if rng.random() < 0.15:
+        if rng.random() < missing:
             return None
         edits, other = [], self.sheaf(min(limit, 60))
         ballots = self.sheaf(min(limit, 60) + (rng.random() < 0.04))  # one more than the limit fits the cells
@@ -149,6 +163,26 @@ class Maker:
                                      ["torn", rng.randrange(2), *self.range()],
                                      ["size", rng.choice([-1, 1, -2, 10, -10**6, rng.randint(-400, 400)])]]))
         return {"ballots": ballots, "other": other, "edits": edits}
+
+    def further(self, torn=0.2, strange=0.03):
+        """Further media for all names; the strange ones are damaged, empty, or of another election or version."""
+        rng, media = self.rng, []
+        for name in MORE if self.told["limit"] < 1000 else MORE[:1]:  # the largest have 40 million bytes
+            told = self.medium(torn, strange, strange)
+            if told:
+                under = self.other_election() if rng.random() < strange else {}
+                told["edits"] += [["size", -10**9]] if rng.random() < strange else []  # an empty file
+                media.append({"name": name, "under": under} | told)
+        return media
+
+    def other_election(self):
+        """What another election has otherwise, of the same contests."""
+        rng, told = self.rng, self.told
+        limit, most = told["limit"], max(contest["choices"] for contest in told["contests"])
+        if rng.random() < 0.5 and len(told["contests"]) <= 16 and most <= 32:
+            return {"version": 3 - told.get("version", 1)}
+        return rng.choice([{"salt": f"{rng.getrandbits(64):016x}"}, {"limit": limit + 1 if limit < 32768 else 1},
+                           {"bits": told["bits"] - 1 if told["bits"] else 1}])
 
     def range(self):
         return self.rng.getrandbits(20), self.rng.choice([1, 8, 64, 512, 4096]), self.rng.getrandbits(30)
@@ -215,19 +249,40 @@ class Maker:
                       str(rng.choice([1, 2, 8, 64]) if first else 1)]
         elif command == "replay":
             script = self.replay()
+        elif command in FURTHER:
+            return self.join(command)
         elif command == "words":
             words = self.words()
         elif command == "odd":
             return self.odd()
         return {"words": words, "script": script, "output": "pipe"}
 
+    def join(self, command):
+        """A run over several media, mostly under words that have its form."""
+        rng = self.rng
+        more = rng.sample(MORE, rng.choice(FURTHER[command]))
+        words = ["MEDIUM", "ELECTION", command, *more]
+        if rng.random() < 0.1:  # a further medium and the target change places
+            words[0], words[3] = words[3], words[0]
+        if rng.random() < 0.1 and len(more) < 8:  # one medium under two names
+            words.append("./" + rng.choice(words[3:]))
+        if rng.random() < 0.15:
+            odd = rng.choice(["", "-", "-MORE1", "--help", words[0], *words[3:5], ".", "none", "none/x", "ELECTION",
+                              "ELECTION/x", "election.json", "MORE1/x"])
+            words.insert(rng.randint(3, len(words)), odd)
+        elif rng.random() < 0.03:
+            words[3:] = rng.choice([[], MORE, MORE + ["MORE9"]])
+        output = "full" if rng.random() < 0.05 else "pipe"
+        return {"words": words, "script": ["nobody reads this", ""], "output": output}
+
     def words(self):
         rng = self.rng
-        pool = ["MEDIUM", "ELECTION", "init", "session", "audit", "sample", "compare", "build", "large", "replay", "",
-                "-", "--help", "--seed", "1", "01", "--count", "--tabs", "65", "0", "32769", "4294967296", "1" * 65,
-                "x", "--seed=1"]
+        pool = ["MEDIUM", "ELECTION", "init", "session", "audit", "sample", "compare", "build", "large", "replay",
+                "merge", "", "-", "--help", "--seed", "1", "01", "--count", "--tabs", "65", "0", "32769", "4294967296",
+                "1" * 65, "x", "--seed=1"]
         whole = rng.choice([["MEDIUM", "ELECTION", "large", "--seed", "1", "--count", "5", "--tabs", "1"],
-                            ["MEDIUM", "ELECTION", "sample", "123", "2"], ["MEDIUM", "ELECTION", "audit"]])
+                            ["MEDIUM", "ELECTION", "sample", "123", "2"], ["MEDIUM", "ELECTION", "audit"],
+                            ["MEDIUM", "ELECTION", "merge", "MORE1"]])
         if rng.random() < 0.3:
             return rng.choices(pool, k=rng.randint(0, 5))
         at = rng.randrange(len(whole))
@@ -255,17 +310,23 @@ def case(rng):
     maker = Maker(rng, told, crowded)
     if text is not None:
         runs = [maker.run(rng.choice(["init", "build", "audit", "replay"]))]
-        return {"election": told, "text": text, "medium": maker.medium(), "runs": runs}
-    medium, runs = maker.medium(), []
+        return {"election": told, "text": text, "medium": maker.medium(), "more": [], "runs": runs}
+    commands = rng.choices(list(COMMANDS), list(COMMANDS.values()), k=rng.choice([1, 1, 2, 3]))
+    joined = not FURTHER.keys().isdisjoint(commands)
+    if joined:
+        maker.overlap()
+    medium = maker.medium(0.2, 0.05, 0.1) if joined else maker.medium()
+    more, runs = maker.further() if joined else [], []
     if medium is None and rng.random() < 0.8:
         runs.append(maker.run("init"))
         if rng.random() < 0.1:
             runs.append(maker.run("large", first=True))
     if crowded:
         runs.append({"words": ["MEDIUM", "ELECTION", "session"], "script": maker.script(3, True, 0), "output": "pipe"})
-    for _ in range(rng.choice([1, 1, 2, 3])):
-        runs.append(maker.run(*rng.choices(list(COMMANDS), list(COMMANDS.values()))))
-    return {"election": told, "text": text, "medium": medium, "runs": runs}
+    runs += [maker.run(command) for command in commands]
+    words = [word for run in runs for word in run["words"]]
+    more = [told for told in more if any(told["name"] in word for word in words)]
+    return {"election": told, "text": text, "medium": medium, "more": more, "runs": runs}
 
 
 def text_of(case):
@@ -273,12 +334,24 @@ def text_of(case):
     return (json.dumps(case["election"]) if case["text"] is None else case["text"]).encode("latin-1")
 
 
+def name_of(word):
+    """The path that a word stands for."""
+    return "/".join(NAMES.get(part, part) for part in word.split("/"))
+
+
 def medium_of(case):
     """The bytes of the medium, or None."""
-    told = case["medium"]
-    if told is None:
-        return None
-    rules = Rules(json.dumps(case["election"]).encode())
+    return case["medium"] and bytes_of(case["election"], case["medium"])
+
+
+def further_of(case):
+    """The bytes of each further medium that is there, by the names of their files."""
+    return {NAMES[told["name"]]: bytes_of(case["election"] | told["under"], told) for told in case.get("more", [])}
+
+
+def bytes_of(election, told):
+    """The bytes of a medium."""
+    rules = Rules(json.dumps(election).encode())
     image, other = (rules.image({b[0]: b for b in map(rules.ballot, map(str.encode, told[name])) if b})
                     for name in ("ballots", "other"))
     width, cells = rules.election.cell_format().size, rules.election.cell_count()

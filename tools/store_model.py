@@ -16,6 +16,7 @@ RECORD = re.compile(rb"(" + NUMBER + rb") ([1-9][0-9]{0,2}) ([-0-9,/]+)\Z")
 GROUP = re.compile(rb"-\Z|[1-9][0-9]?(,[1-9][0-9]?)*\Z")
 PHASES = {b"cast": "casting", b"withdraw": "withdrawing", b"find": "finding"}
 TEXTS = {9: "no store", 11: "other election"}
+FAULT = "fault"  # in place of the bytes of a further medium which the disk doesn't give
 
 
 class Doubt(Exception):
@@ -26,6 +27,13 @@ def refusal(finding):
     """The status of a Finding, and the program's text for it."""
     status, line = finding.args
     return status, "ballot_store: " + TEXTS.get(status, line) + "\n"
+
+
+def is_merge(words):
+    """Whether the words of a merge, as the program gets them, are a command form."""
+    more = words[3:]
+    return (1 <= len(more) <= 8 and all(word and word[0] != "-" for word in words[:3] + more)
+            and len({words[0], *more}) == 1 + len(more))
 
 
 def number_of(text):
@@ -87,6 +95,29 @@ class Rules:
             return "held", tuple(sorted(self.held(medium).values()))
         except Finding as finding:
             return "refused", refusal(finding)
+
+    def merge(self, target, more):
+        """How a merge of these bytes ends: status, standard error and output, and the set that the target holds then;
+        None where it gives no store, and stays as it was."""
+        try:
+            old = self.held(target)
+        except Finding as finding:
+            return (*refusal(finding), b""), None
+        union, disputed = dict(old), set()
+        for index, medium in enumerate(more, 1):
+            if medium == FAULT:
+                return (17, f"ballot_store: disk fault at medium {index}\n", b""), old
+            try:
+                held = self.held(medium)
+            except Finding as finding:
+                return (20, refusal(finding)[1].replace(": ", f": medium {index} ", 1), b""), old
+            disputed |= {number for number in held if union.get(number, held[number]) != held[number]}
+            union |= held
+        if disputed:
+            return (21, f"ballot_store: conflict {min(disputed)}\n", b""), old
+        if len(union) > self.election.limit:
+            return (22, f"ballot_store: merge of {len(union)}\n", b""), old
+        return (0, "", b"merged %d\n" % len(union)), union
 
     def tally(self, held):
         lines = [f"tally {len(held)}"]
