@@ -10,5 +10,5 @@ returns-then-ne c =
       | then-is_plain w ↦
           follows c.args.medium.now c.args.word.now c.args.earlier.now c.is_among.result (c.is_plain.ensures.0 w.if-is_plain.true)
           (differs c.args.word.now c.args.medium.now (sym w.ne.ensures ∙ sym w.value-is ∙ c.if-ne.true)) c.is_among.ensures
-      | else-is_plain w ↦ absurd (false≢true (sym w.value-is ∙ c.if-ne.true))
+      | else-is_plain w ↦ absurd (false≢true (sym w.if-is_plain.false ∙ sym w.value-is ∙ c.if-ne.true))
     ]
