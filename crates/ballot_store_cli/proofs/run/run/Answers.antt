@@ -7,7 +7,7 @@ use Rattle.ballot_store_cli.specs.Command.{Forms}
 use Rattle.ballot_store_cli.specs.declared.command.Command.{Command}
 
 pub carry_out-requires-clause-more : goal.carry_out-requires-clause-more
-carry_out-requires-clause-more g c is =
+carry_out-requires-clause-more g c _ _ is =
     let words = map string_bytes c.args.words.now in
     let formed : Forms words c.in-Ok-Some.command = subst (λ (o : Option Command). IfSome o (Forms words)) c.in-Ok-Some.field-0-is c.in-Ok-Some.ensures.formed in
     let few = few_media words c.in-Ok-Some.command formed is in
