@@ -115,7 +115,7 @@ def plain(contests, choices, version, allowed=1, **more):
 def version_rows(table, program, examples):
     room = Room(table, program, examples)
     for rows in (example_rows, wide_contest_rows, limit_rows, key_rows, grammar_rows, other_version_rows,
-                 generated_rows, opinion_rows, county_rows):
+                 generated_rows, thread_rows, opinion_rows, county_rows):
         rows(room)
 
 
@@ -309,6 +309,17 @@ def generated_rows(room):
         told = text(*(f"line {k} match" for k in range(1, 271)), "missing 0")
         words = [place, path, "compare", "8", "300"]
         room.table.row(f"all lines of a large run in version {version}", words, OK, sheets, told)
+
+
+def thread_rows(room):
+    """A tally of so many mark sets that four threads count it, against the export beside it."""
+    parts = plain(16, 4, 1, allowed=2, limit=32768, bits=15, salt="0123456789abcdef")
+    start = [room.program, str(room.table.room / "threads.medium"), room.election(parts)]
+    for words in (["init"], ["large", "--seed", "3", "--count", "32768", "--tabs", "4"]):
+        subprocess.run([*start, *words], check=True, stdout=subprocess.DEVNULL)
+    done = subprocess.run([*start, "session"], input="tally\nexport\n", capture_output=True, text=True)
+    told, _, lines = done.stdout.partition("export ")
+    room.table.same("a tally counted by four threads", told.splitlines(), tally(parts, lines.splitlines()[1:]))
 
 
 def opinion_rows(room):
