@@ -4,7 +4,7 @@ use Rattle.std.specs.Prelude.{option_map, IfSome}
 use Rattle.crash_disk.proofs.Moments.{goes_on, joined, weaker}
 use Rattle.crash_disk.proofs.TornBytes.{overwritten-next}
 use Rattle.checkpoint.proofs.Pages.{Fits}
-use Rattle.checkpoint.proofs.Unused.{opened_medium, opening_holds, unused_holds, unused_small, unused_torn}
+use Rattle.checkpoint.proofs.Unused.{opened_medium, opening_holds, unused_small, unused_torn}
 use Rattle.checkpoint.specs.Unused.{IsUntouchedOr}
 use Rattle.outside_io.specs.Told.{IfTold}
 use Rattle.store_spec.specs.Ballot.{Ballot}
@@ -29,7 +29,7 @@ module _ {D : Type 0} (calls : D → ℕ) (may_leave : D → ℕ → List ℕ �
       → LeavesOnly calls may_leave synced written (IsUntouchedOr e ballots bytes)
   run_writing synced looked written unused run writing =
       joined calls may_leave synced looked written (IsUntouchedOr e ballots bytes) run
-      (weaker calls may_leave looked written (IsUnused e) (IsUntouchedOr e ballots bytes) (λ c still. inr (unused, inr (unused_holds e c still))) writing)
+      (weaker calls may_leave looked written (IsUnused e) (IsUntouchedOr e ballots bytes) (λ c still. inr (unused, inl still)) writing)
 
   -- its gates are opened
   pub run_opening : (synced written opened : D) → Fits e ballots → IsUnused e bytes → LeavesOnly calls may_leave synced written (IsUntouchedOr e ballots bytes)

@@ -1,15 +1,16 @@
 -- An unused disk becomes the medium of the empty set.
 use Rattle.std.proofs.Common.{◌≡◌, ℕ, ◌+◌, ◌*◌, ◌≤◌, ◌<◌, List, [], ◌∷◌, ◌++◌, length, get_or, drop, sym, ◌∙◌, ap, inl, inr, ⊎_elim, arith, length-append}
 use Rattle.std.proofs.lemmas.Bool.{cases_eq}
-use Rattle.std.proofs.lemmas.List.{append-nil, drop_all}
+use Rattle.std.proofs.lemmas.List.{append-nil, drop_all, length-drop}
 use Rattle.crash_disk.proofs.TornBytes.{overwritten-next, torn-before, torn-byte_behind, torn-size}
 use Rattle.checkpoint.proofs.Pages.{Fits}
+use Rattle.checkpoint.specs.Unused.{IsUnusedOrHolds}
 use Rattle.image_builder.proofs.MediumParts.{bank_a, bank_b, part_a, part_b}
 use Rattle.store_spec.specs.Ballot.{Ballot}
 use Rattle.store_spec.specs.Disk.{overwritten, IsTorn}
 use Rattle.store_spec.specs.Election.{Election, bank_size, medium_size}
 use Rattle.store_spec.specs.Image.{image_of}
-use Rattle.store_spec.specs.Medium.{Bank, HoldsAtMost, HoldsSet, IsChosen, IsOpen, IsUnused, bank_of, gate_place, medium_of, open_gate}
+use Rattle.store_spec.specs.Medium.{Bank, HoldsSet, IsChosen, IsOpen, IsUnused, bank_of, gate_place, medium_of, open_gate}
 use Rattle.store_spec.specs.Medium.Bank.{A, B}
 
 -- while its banks are written it stays unused
@@ -46,8 +47,14 @@ module _ (e : Election) (ballots : List Ballot) (start : List ℕ) (fits : Fits 
   both_long : length (image_of e ballots ++ image_of e ballots) ≡ 2 * bank_size e
   both_long = omega (arith, length-append (image_of e ballots) (image_of e ballots), fits.long)
 
-  -- while the gates are opened it holds this set or nothing
-  pub opening_holds : (c : List ℕ) → IsTorn (2 * bank_size e) 2 (overwritten 0 (image_of e ballots ++ image_of e ballots) start) c → HoldsAtMost e ballots c
+  no_longer : (c : List ℕ) → IsTorn (2 * bank_size e) 2 (overwritten 0 (image_of e ballots ++ image_of e ballots) start) c → length c ≤ medium_size e
+  no_longer c torn =
+      let both = image_of e ballots ++ image_of e ballots in
+      let rest = drop (0 + length both) start in
+      omega (arith, torn.no_longer, length-append both rest, length-drop (0 + length both) start, both_long, small)
+
+  -- while the gates are opened it is unused still, or holds this set
+  pub opening_holds : (c : List ℕ) → IsTorn (2 * bank_size e) 2 (overwritten 0 (image_of e ballots ++ image_of e ballots) start) c → IsUnusedOrHolds e ballots c
   opening_holds c torn =
       let size = bank_size e in
       let rest = drop (0 + length (image_of e ballots ++ image_of e ballots)) start in
@@ -59,7 +66,7 @@ module _ (e : Election) (ballots : List Ballot) (start : List ℕ) (fits : Fits 
       ⊎_elim
       (λ (whole : length c ≡ medium_size e).
       ⊎_elim
-      (λ (a : get_or c (gate_place e A) 0 ≡ open_gate). inl (record {
+      (λ (a : get_or c (gate_place e A) 0 ≡ open_gate). inr (record {
         size = whole;
         bank = A;
         chosen = a;
@@ -67,16 +74,16 @@ module _ (e : Election) (ballots : List Ballot) (start : List ℕ) (fits : Fits 
       }))
       (λ (no_a : ¬ (get_or c (gate_place e A) 0 ≡ open_gate)).
       ⊎_elim
-      (λ (b : get_or c (gate_place e B) 0 ≡ open_gate). inl (record {
+      (λ (b : get_or c (gate_place e B) 0 ≡ open_gate). inr (record {
         size = whole;
         bank = B;
         chosen = (no_a, b);
         image = record { set = fits.set; within_limit = fits.within_limit; bytes = second };
       }))
-      (λ (no_b : ¬ (get_or c (gate_place e B) 0 ≡ open_gate)). inr (λ set held. no_bank e c held.bank no_a no_b held.chosen))
+      (λ (no_b : ¬ (get_or c (gate_place e B) 0 ≡ open_gate)). inl (inr (whole, no_a, no_b)))
       (cases_eq (get_or c (gate_place e B) 0) open_gate))
       (cases_eq (get_or c (gate_place e A) 0) open_gate))
-      (λ (other : ¬ (length c ≡ medium_size e)). inr (λ set held. other held.size))
+      (λ (other : ¬ (length c ≡ medium_size e)). inl (inl (omega (arith, no_longer c torn, other))))
       (cases_eq (length c) (medium_size e))
 
   -- and in the end it is the medium

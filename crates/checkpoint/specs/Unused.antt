@@ -7,7 +7,7 @@ use Rattle.checkpoint.specs.declared.fresh.InitFault.TheVariants.{WrongSize, Exi
 use Rattle.store_spec.specs.Ballot.{Ballot}
 use Rattle.store_spec.specs.Disk.{DiskModel, LeavesOnly, leaves_now}
 use Rattle.store_spec.specs.Election.{Election, medium_size}
-use Rattle.store_spec.specs.Medium.{IsOpen, IsUnused, HoldsAtMost}
+use Rattle.store_spec.specs.Medium.{HoldsSet, IsOpen, IsUnused}
 use Rattle.store_spec.specs.Medium.Bank.{A, B}
 
 -- a disk that is not filled is not made a new medium either
@@ -35,9 +35,13 @@ IsUnharmedAt model DiskFault old new = Unit {0}
 IsUnharmedAt model fault old new =
     LeavesOnly model.calls model.may_leave old new (leaves_now model.calls model.may_leave old)
 
--- Nothing was written yet to a disk that had the first bytes, or it was unused, and these hold nothing or this set.
+-- these are unused still, or hold this set
+abbrev pub IsUnusedOrHolds : Election → List Ballot → List ℕ → Type 0
+IsUnusedOrHolds e set image = IsUnused e image ⊎ HoldsSet e image set
+
+-- Nothing was written yet to a disk that had the first bytes, or it was unused, and these are so still or hold this set.
 abbrev pub IsUntouchedOr : Election → List Ballot → List ℕ → List ℕ → Type 0
-IsUntouchedOr e set bytes image = (image ≡ bytes) ⊎ (IsUnused e bytes × HoldsAtMost e set image)
+IsUntouchedOr e set bytes image = (image ≡ bytes) ⊎ (IsUnused e bytes × IsUnusedOrHolds e set image)
 
 abbrev pub IsUntouchedOrNew : Election → List ℕ → List ℕ → Type 0
 IsUntouchedOrNew e = IsUntouchedOr e []

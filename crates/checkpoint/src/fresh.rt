@@ -8,7 +8,7 @@ ghost use Rattle.outside_io.specs.Told.{AsTold};
 ghost use Rattle.store_spec.specs.Disk.{disk_model, leaves_now, overwritten, IsSettled, LeavesOnly, SyncsFirst};
 ghost use Rattle.store_spec.specs.Fault.{CountsFault, CountsFaultIf};
 ghost use Rattle.store_spec.specs.Election.{bank_size};
-ghost use Rattle.store_spec.specs.Medium.{HoldsAtMost, IsMediumOf, IsUnused};
+ghost use Rattle.store_spec.specs.Medium.{IsMediumOf, IsUnused};
 
 use ballot_record::Election;
 use bank_medium::{Bank, gates, open_both_gates, settle, write_page};
@@ -99,7 +99,7 @@ pub fn init<D: Disk>(alloc: Global, disk: &mut D, election: &Election) -> Result
 
 /// Makes an unused disk the medium of a store: both banks are written and settled before the gates are opened. Until
 /// the first sync has returned a crash leaves what it might have left before. From then on nothing was written yet, or
-/// it leaves what holds nothing or the set of the store.
+/// it leaves what is unused still or holds the set of the store.
 pub fn fill<D: Disk>(disk: &mut D, closed: &Closed, election: &Election) -> Result<(), FillFault>
     requires { closed.now.election ≡ election.now }
     ensures medium { OnOk result (AsTold D.seen disk.old disk.new

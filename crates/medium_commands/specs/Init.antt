@@ -22,7 +22,7 @@ abbrev pub ready_text : List ℕ
 ready_text = codes "ready" ++ line_end ∷ []
 
 -- Until the first sync has returned a crash leaves what it might have left before. From then on, where that sync
--- succeeded, it leaves what stood there, or, only where the disk was unused, bytes that hold nothing or the empty set.
+-- succeeded, it leaves what stood there, or, only where the disk was unused, bytes that are unused still or hold the empty set.
 -- Or no call was made.
 abbrev pub HoldsNoOther : {D : Type 0} → DiskModel D → Election → D → D → Type 0
 HoldsNoOther model e before after =

@@ -1,7 +1,7 @@
 -- Why a target is not filled, and what a crash leaves of one that is.
 use Rattle.std.proofs.Common.{◌≡◌, ℕ, ◌⊎◌, inl, inr, ⊎_elim, List, Result, Ok, Err, refl, sym, subst}
 use Rattle.std.specs.Prelude.{IfErr, IfSome, IsErrAnd, IsErrOf}
-use Rattle.checkpoint.specs.Unused.{init_fault, IsRefusedDisk, IsUntouchedOr}
+use Rattle.checkpoint.specs.Unused.{init_fault, IsRefusedDisk, IsUntouchedOr, IsUnusedOrHolds}
 use Rattle.checkpoint.specs.declared.fresh.FillFault.{FillFault}
 use Rattle.checkpoint.specs.declared.fresh.FillFault.TheVariants.{WrongSize, Exists, DiskFault}
 use Rattle.migrate_medium.specs.Migrating.{MayHold, MigrateRefuses, OldHolds, target_fault}
@@ -10,7 +10,7 @@ use Rattle.store_spec.specs.Ballot.{Ballot}
 use Rattle.store_spec.specs.Disk.{DiskModel, LeavesOnlyOnceSynced, SyncsFirst}
 use Rattle.store_spec.specs.Election.{Election, HasVersionOne, as_version_one}
 use Rattle.store_spec.specs.Fault.{Rose}
-use Rattle.store_spec.specs.Medium.{HoldsAtMost, HoldsSet}
+use Rattle.store_spec.specs.Medium.{HoldsSet}
 
 module _ {A B : Type 0} (old : DiskModel A) (target : DiskModel B) (e form : Election) (is_form : form ≡ as_version_one e) (from : A)
     (read : List Ballot) (found : IfSome (old.seen from) (λ bytes. HoldsSet form bytes read)) where
@@ -32,7 +32,7 @@ module _ {A B : Type 0} (old : DiskModel A) (target : DiskModel B) (e form : Ele
 
   module _ (set : List Ballot) (same : set ≡ read) (bytes : List ℕ) (before after : B) where
     filled : (image : List ℕ) → IsUntouchedOr e set bytes image → MayHold old e from bytes image
-    filled image left = ⊎_elim inl (λ new. inr (new.0, (read, held, subst (λ set. HoldsAtMost e set image) same new.1))) left
+    filled image left = ⊎_elim inl (λ new. inr (new.0, (read, held, subst (λ set. IsUnusedOrHolds e set image) same new.1))) left
 
     once_filled : LeavesOnlyOnceSynced target.calls target.may_leave before after (IsUntouchedOr e set bytes)
         → LeavesOnlyOnceSynced target.calls target.may_leave before after (MayHold old e from bytes)

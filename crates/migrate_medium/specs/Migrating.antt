@@ -1,7 +1,7 @@
 -- What a migration makes of an old medium and of a target. `from` and `since` are the disk of the old medium at the start
 -- and at the end, `before` and `after` that of the target.
 use Rattle.std.specs.Prelude.{◌≡◌, ◌≢◌, ◌⊎◌, ℕ, List, length, Some, IfSome}
-use Rattle.checkpoint.specs.Unused.{IsRefusedDisk}
+use Rattle.checkpoint.specs.Unused.{IsRefusedDisk, IsUnusedOrHolds}
 use Rattle.checkpoint.specs.declared.fresh.FillFault.{FillFault}
 use Rattle.checkpoint.specs.declared.fresh.FillFault.TheVariants as fills
 use Rattle.checkpoint.specs.declared.fresh.InitFault.TheVariants as inits
@@ -14,7 +14,7 @@ use Rattle.store_spec.specs.Ballot.{Ballot}
 use Rattle.store_spec.specs.Disk.{DiskModel, IsSettled, LeavesOnly, leaves_now}
 use Rattle.store_spec.specs.Election.{Election, HasVersionOne, as_version_one}
 use Rattle.store_spec.specs.Fault.{Rose}
-use Rattle.store_spec.specs.Medium.{HoldsAtMost, HoldsSet, IsMediumOf, IsUnused}
+use Rattle.store_spec.specs.Medium.{HoldsSet, IsMediumOf, IsUnused}
 
 -- the fault of a target that is not filled
 abbrev pub target_fault : FillFault → MigrateFault
@@ -73,7 +73,7 @@ IsSpared model before after fault =
     × ((bytes : List ℕ) → model.seen before ≡ Some bytes
     → LeavesOnly model.calls model.may_leave before after (leaves_now model.calls model.may_leave before))
 
--- These are the bytes that the target had, or it was unused, and these hold nothing or the set that the old medium holds.
+-- These are the bytes that the target had, or it was unused, and these are so still or hold the set of the old medium.
 abbrev pub MayHold : {D : Type 0} → DiskModel D → Election → D → List ℕ → List ℕ → Type 0
 MayHold old e from bytes image =
-    (image ≡ bytes) ⊎ (IsUnused e bytes × ((set : List Ballot) × OldHolds old e from set × HoldsAtMost e set image))
+    (image ≡ bytes) ⊎ (IsUnused e bytes × ((set : List Ballot) × OldHolds old e from set × IsUnusedOrHolds e set image))
