@@ -43,7 +43,7 @@ not_used e bytes unused size gate = ⊎_elim
 not_large : (e : Election) (bytes : List ℕ) → IsUnused e bytes → ¬ (medium_size e < length bytes)
 not_large e bytes unused more = ⊎_elim (λ less. omega arith) (λ closed. omega (arith, closed.0)) unused
 
-one_init : (e : Election) (bytes : List ℕ) (a b : Status) → InitDecides e bytes a → InitDecides e bytes b → a ≡ b
+pub one_init : (e : Election) (bytes : List ℕ) (a b : Status) → InitDecides e bytes a → InitDecides e bytes b → a ≡ b
 one_init e bytes status.Ok status.Ok x y = refl
 one_init e bytes status.Ok status.Exists x y = absurd (not_used e bytes x y.0 y.1)
 one_init e bytes status.Ok (status.WrongSize n) x y = absurd (not_large e bytes x (omega (arith, y.0, y.1)))

@@ -3,7 +3,7 @@ use Rattle.std.specs.Prelude.{ℕ, List, ◌++◌, codes, Result, Ok as Fine, Er
 use Rattle.std.specs.Fmt.{decimal}
 use Rattle.recovery.specs.declared.fault.MediumWhy.TheVariants as media
 use Rattle.run_outcome.specs.declared.status.Status.{Status}
-use Rattle.run_outcome.specs.declared.status.Status.TheVariants.{Ok, Usage, BadElection, TooLong, DiskFault, ReadFault, WriteFault, Memory, NoStore, Damaged, OtherElection, Exists, WrongSize, NotCanonical, BadLine, OtherDiskFault, BadMedium, MergeConflict, MergeFull}
+use Rattle.run_outcome.specs.declared.status.Status.TheVariants.{Ok, Usage, BadElection, TooLong, DiskFault, ReadFault, WriteFault, Memory, NoStore, Damaged, OtherElection, Exists, WrongSize, NotCanonical, BadLine, NoOldForm, OtherDiskFault, MediumSize, MediumInUse, BadMedium, MergeConflict, MergeFull}
 use Rattle.run_outcome.specs.declared.status.Which.TheVariants.{Election, Script}
 
 abbrev pub exit_status : Status → ℕ
@@ -22,7 +22,10 @@ exit_status Exists = 12
 exit_status (WrongSize size) = 13
 exit_status (NotCanonical place) = 14
 exit_status (BadLine line why) = 15
+exit_status NoOldForm = 16
 exit_status (OtherDiskFault index) = 17
+exit_status (MediumSize index size) = 18
+exit_status (MediumInUse index) = 19
 exit_status (BadMedium index why) = 20
 exit_status (MergeConflict number) = 21
 exit_status (MergeFull count) = 22
@@ -45,7 +48,10 @@ status_text Exists = codes "store exists"
 status_text (WrongSize size) = codes "wrong size " ++ decimal size
 status_text (NotCanonical place) = codes "not canonical at " ++ decimal place
 status_text (BadLine line why) = codes "bad line " ++ decimal line
+status_text NoOldForm = codes "no version 1 form"
 status_text (OtherDiskFault index) = codes "disk fault at medium " ++ decimal index
+status_text (MediumSize index size) = codes "medium " ++ decimal index ++ codes " wrong size " ++ decimal size
+status_text (MediumInUse index) = codes "medium " ++ decimal index ++ codes " in use"
 status_text (BadMedium index media.NoStore) = codes "medium " ++ decimal index ++ codes " no store"
 status_text (BadMedium index (media.OtherElection header)) = codes "medium " ++ decimal index ++ codes " other election"
 status_text (BadMedium index (media.Damaged cell)) = codes "medium " ++ decimal index ++ codes " damaged cell " ++ decimal cell

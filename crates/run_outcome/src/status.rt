@@ -45,8 +45,14 @@ pub enum Status {
     NotCanonical { place: u64 },
     /// A line of a script was refused; lines count from 1.
     BadLine { line: u64, why: LineWhy },
+    /// The election has no form in version 1.
+    NoOldForm,
     /// The disk of this further medium failed. Further media count from 1.
     OtherDiskFault { index: u32 },
+    /// This further medium has more bytes than a medium, so many.
+    MediumSize { index: u32, size: u64 },
+    /// This further medium has as many bytes as a medium, and a gate is open.
+    MediumInUse { index: u32 },
     /// This further medium, the first such one, is no store of the election.
     BadMedium { index: u32, why: MediumWhy },
     /// This is the least number of which two media hold different ballots.
@@ -78,7 +84,10 @@ impl Status {
             Status::WrongSize { .. } => 13,
             Status::NotCanonical { .. } => 14,
             Status::BadLine { .. } => 15,
+            Status::NoOldForm => 16,
             Status::OtherDiskFault { .. } => 17,
+            Status::MediumSize { .. } => 18,
+            Status::MediumInUse { .. } => 19,
             Status::BadMedium { .. } => 20,
             Status::MergeConflict { .. } => 21,
             Status::MergeFull { .. } => 22,
@@ -130,7 +139,10 @@ impl fmt::Display for Status {
             Status::WrongSize { size } => write!(f, "wrong size {size}"),
             Status::NotCanonical { place } => write!(f, "not canonical at {place}"),
             Status::BadLine { line, .. } => write!(f, "bad line {line}"),
+            Status::NoOldForm => f.write_str("no version 1 form"),
             Status::OtherDiskFault { index } => write!(f, "disk fault at medium {index}"),
+            Status::MediumSize { index, size } => write!(f, "medium {index} wrong size {size}"),
+            Status::MediumInUse { index } => write!(f, "medium {index} in use"),
             Status::BadMedium { index, why } => match why {
                 MediumWhy::NoStore => write!(f, "medium {index} no store"),
                 MediumWhy::OtherElection { .. } => write!(f, "medium {index} other election"),
