@@ -3,7 +3,7 @@ use Rattle.std.proofs.Common.{◌≡◌, ℕ, ◌+◌, ◌*◌, ◌≤◌, List,
 use Rattle.std.specs.Prelude.{IfErr, IfNone, IfOk, IfSome, codes, length}
 use Rattle.ballot_store_cli.specs.Command.{Forms, row}
 use Rattle.ballot_store_cli.specs.declared.command.Command.{Command}
-use Rattle.ballot_store_cli.specs.declared.command.Command.TheVariants.{Build, Init, Session, Audit, Replay, Large, Sample, Compare, Merge}
+use Rattle.ballot_store_cli.specs.declared.command.Command.TheVariants.{Build, Init, Session, Audit, Replay, Large, Sample, Compare, Merge, Migrate}
 use Rattle.large_options.proofs.Orders.{one_reading, ordered}
 use Rattle.large_options.specs.Options.{AreOptions, IsOptions}
 use Rattle.large_options.specs.declared.options.Options.{Options}
@@ -11,6 +11,8 @@ use Rattle.medium_commands.proofs.AuditLaws.{audit_laws}
 use Rattle.medium_commands.proofs.InitLaws.{init_laws}
 use Rattle.merge_commands.proofs.MergeLaws.{merge_laws}
 use Rattle.merge_commands.specs.Merge.{AreFew, merge_row}
+use Rattle.migrate_commands.proofs.MigrateLaws.{migrate_laws}
+use Rattle.migrate_commands.specs.Migrate.{IsOne, migrate_row}
 use Rattle.run_outcome.proofs.Laws.{Laws}
 use Rattle.run_outcome.specs.Row.{IsNamed}
 use Rattle.sample_commands.proofs.Asking.{none_asked, one_asked}
@@ -34,6 +36,7 @@ laws (Large o) = large_laws o
 laws (Sample asked) = sample_laws asked
 laws (Compare asked) = compare_laws asked
 laws Merge = merge_laws
+laws Migrate = migrate_laws
 
 -- ---- commands are told apart by their words
 
@@ -59,6 +62,7 @@ one_row (Large o) (Large p) words same x y = one_large words o p x y
 one_row (Sample a) (Sample b) words same x y = ap Sample (one_asked words a b x y)
 one_row (Compare a) (Compare b) words same x y = ap Compare (one_asked words a b x y)
 one_row Merge Merge words same x y = refl
+one_row Migrate Migrate words same x y = refl
 one_row a b words same x y = absurd (omega (arith, ap number_of same))
 
 -- ---- a word alone
@@ -73,6 +77,9 @@ none_given words none o =
 
 no_media : AreFew [] → ⊥
 no_media few = absurd (omega (arith, few.some))
+
+no_target : IsOne [] → ⊥
+no_target one = absurd (omega (arith, one))
 
 -- it is the word of no command that takes no further words
 pub record IsOther (word : List ℕ) : Type 0 where
@@ -92,6 +99,7 @@ names_none word other (Large o) medium is = none_given [] refl (o.seed, o.count,
 names_none word other (Sample asked) medium is = none_asked asked is.further
 names_none word other (Compare asked) medium is = none_asked asked is.further
 names_none word other Merge medium is = no_media is.further
+names_none word other Migrate medium is = no_target is.further
 
 -- ---- a word with others behind it
 
@@ -131,6 +139,10 @@ module _ (medium word : List ℕ) (words : List (List ℕ)) where
   names_no_merge same none Merge is = none (record { word = refl; further = is.further; media = is.media })
   names_no_merge same none other is = omega (arith, ap number_of (sym is.word ∙ same))
 
+  names_no_migrate : word ≡ codes "migrate" → (IsNamed migrate_row medium (codes "migrate") words → ⊥) → NamesNone
+  names_no_migrate same none Migrate is = none (record { word = refl; further = is.further; media = is.media })
+  names_no_migrate same none other is = omega (arith, ap number_of (sym is.word ∙ same))
+
   -- words that ask for no sample name none
   pub no_sample : (found : Option Command) → word ≡ codes "sample" → IfNone found ((asked : Asked) → IsAsked words asked → ⊥) → IfNone found NamesNone
   no_sample found same none = none_found found (names_no_sample same) none
@@ -140,6 +152,9 @@ module _ (medium word : List ℕ) (words : List (List ℕ)) where
 
   pub no_merge : (found : Option Command) → word ≡ codes "merge" → IfNone found (IsNamed merge_row medium (codes "merge") words → ⊥) → IfNone found NamesNone
   no_merge found same none = none_found found (names_no_merge same) none
+
+  pub no_migrate : (found : Option Command) → word ≡ codes "migrate" → IfNone found (IsNamed migrate_row medium (codes "migrate") words → ⊥) → IfNone found NamesNone
+  no_migrate found same none = none_found found (names_no_migrate same) none
 
   pub no_large : {E : Type 0} (r : Result (Option Command) E) → word ≡ codes "large" → IfOk r (λ o. IfNone o (AreOptions words → ⊥)) → IfOk r (λ o. IfNone o NamesNone)
   no_large (Ok found) same none = none_found found (names_no_large same) none
@@ -152,17 +167,15 @@ module _ (medium word : List ℕ) (words : List (List ℕ)) where
 
 -- ---- how many further media there are
 
-few_more : (c : Command) (words : List (List ℕ)) → (row c).further words → c ≡ Merge → length words ≤ 8
-few_more Merge words further is = further.few
-few_more Build words further is = absurd cc
-few_more Init words further is = absurd cc
-few_more Session words further is = absurd cc
-few_more Audit words further is = absurd cc
-few_more Replay words further is = absurd cc
-few_more (Large o) words further is = absurd cc
-few_more (Sample asked) words further is = absurd cc
-few_more (Compare asked) words further is = absurd cc
+-- behind a word and two others these are the further words of the command that they form
+pub further_of : (words : List (List ℕ)) (c : Command) → Forms words c → (more : List (List ℕ)) × (row c).further more × (length words ≡ length more + 3)
+further_of (medium ∷ election ∷ word ∷ words) c forms = (words, forms.2.further, omega arith)
+further_of words c forms = absurd forms
 
 pub few_media : (words : List (List ℕ)) (c : Command) → Forms words c → c ≡ Merge → length words ≤ 11
-few_media (medium ∷ election ∷ word ∷ words) c forms is = let few = few_more c words forms.2.further is in omega arith
-few_media words c forms is = absurd forms
+few_media words Merge forms is = let more = further_of words Merge forms in omega (arith, more.1.few, more.2)
+few_media words other forms is = absurd cc
+
+pub one_medium : (words : List (List ℕ)) (c : Command) → Forms words c → c ≡ Migrate → length words ≡ 4
+one_medium words Migrate forms is = let more = further_of words Migrate forms in omega (arith, more.1, more.2)
+one_medium words other forms is = absurd cc

@@ -2,7 +2,7 @@
 use Rattle.std.proofs.Common.{◌≡◌, ℕ, List, ◌∷◌, Some, ◌⊎◌, inl, inr, ⊎_elim, sym, subst, ◌∙◌}
 use Rattle.std.specs.Prelude.{◌≢◌, IsSome}
 use Rattle.ballot_store_cli.proofs.OneElection.{election_decides_one, election_or_memory, none_refused, refusal_decides}
-use Rattle.ballot_store_cli.proofs.Rows.{laws, one_row}
+use Rattle.ballot_store_cli.proofs.Rows.{further_of, laws, one_row}
 use Rattle.ballot_store_cli.specs.Command.{Forms, row}
 use Rattle.ballot_store_cli.specs.ElectionText.{GivesElection}
 use Rattle.ballot_store_cli.specs.Outcome.{Ends, RunEnds}
@@ -23,11 +23,6 @@ use Rattle.store_spec.specs.Election.{Election, IsElection}
 pub one_command : (words : List (List ℕ)) (a b : Command) → Forms words a → Forms words b → a ≡ b
 one_command (m ∷ e ∷ word ∷ words) a b x y = one_row a b words (sym x.2.word ∙ y.2.word) x.2.further y.2.further
 one_command words a b x y = absurd x
-
--- behind a word these are the further words of the command that they form
-further_words : (words : List (List ℕ)) (c : Command) → Forms words c → (further : List (List ℕ)) × (row c).further further
-further_words (m ∷ e ∷ word ∷ words) c forms = (words, forms.2.further)
-further_words words c forms = absurd forms
 
 -- no command answers that the words form none
 pub not_usage : {S K D : Type 0} (model : DiskModel D) (c : Command) (e : Election) (a : Status) (report : Reported) (before after : World S K D) → CommandEnds model (row c) e a report before after → a ≢ status.Usage
@@ -84,7 +79,7 @@ carried_out_whole model words c e content a report old new before after ends for
     let is : one.election ≡ e = one_election gives.text one.election e read.1 gives.describes in
     let holds = subst (λ (x : Election). CommandEnds model (row c) x a report before after) is one.holds in
     let valid = subst IsElection is one.valid in
-    let further = further_words words c forms in
+    let further = further_of words c forms in
     ⊎_elim
     (λ decided. inl ((laws c).served e content a further.0 valid further.1 served ((laws c).caused model e a report before after content tells decided holds.ends)))
     inr

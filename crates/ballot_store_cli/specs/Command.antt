@@ -1,10 +1,11 @@
 -- The commands of the program, and the words that it is called with: a medium, an election, and a command.
 use Rattle.std.specs.Prelude.{◌≢◌, ℕ, List, ◌∷◌, Contains}
 use Rattle.ballot_store_cli.specs.declared.command.Command.{Command}
-use Rattle.ballot_store_cli.specs.declared.command.Command.TheVariants.{Build, Init, Session, Audit, Replay, Large, Sample, Compare, Merge}
+use Rattle.ballot_store_cli.specs.declared.command.Command.TheVariants.{Build, Init, Session, Audit, Replay, Large, Sample, Compare, Merge, Migrate}
 use Rattle.medium_commands.specs.Audit.{audit_row}
 use Rattle.medium_commands.specs.Init.{init_row}
 use Rattle.merge_commands.specs.Merge.{merge_row}
+use Rattle.migrate_commands.specs.Migrate.{migrate_row}
 use Rattle.run_outcome.specs.Row.{IsNamed, IsPlain, Row}
 use Rattle.sample_commands.specs.Compare.{compare_row}
 use Rattle.sample_commands.specs.Sample.{sample_row}
@@ -24,6 +25,7 @@ row (Large o) = large_row o
 row (Sample asked) = sample_row asked
 row (Compare asked) = compare_row asked
 row Merge = merge_row
+row Migrate = migrate_row
 
 -- behind this word for the medium and those of some further media, a word may be that of one more
 pub record MayFollow (medium : List ℕ) (earlier : List (List ℕ)) (word : List ℕ) : Type 0 where

@@ -3,6 +3,7 @@ ghost use Rattle.std.specs.Prelude.{◌≡◌, ◌↔◌, ◌∷◌, [], IsTrue,
 ghost use Rattle.ballot_store_cli.specs.Command.{Forms, FormNone, MayFollow, row};
 ghost use Rattle.large_options.specs.Options.{AreOptions};
 ghost use Rattle.merge_commands.specs.Merge.{merge_row};
+ghost use Rattle.migrate_commands.specs.Migrate.{migrate_row};
 ghost use Rattle.run_outcome.specs.Row.{AreMediaIf, IsNamed, IsPlain};
 ghost use Rattle.sample_commands.specs.Asked.{IsAsked};
 ghost use Rattle.sample_commands.specs.declared.asked.Asked.{Asked};
@@ -31,6 +32,8 @@ pub enum Command {
     Compare(Asked),
     /// Make a medium that of the union of its own set and those of further media.
     Merge,
+    /// Make a further medium, of version 2, that of the ballots of an old one.
+    Migrate,
     /// Handle a script that these options generate as a session does, and write the summary of its replies.
     Large(Options),
 }
@@ -140,6 +143,20 @@ fn merge_named(medium: &str, words: &[String]) -> Option<Command>
     }
 }
 
+/// The migration into this medium, if one word stands there and it is that of a further medium.
+fn migrate_named(medium: &str, words: &[String]) -> Option<Command>
+    ensures named { IfSome result
+        (λ c. IsNamed (row c) medium.now (codes "migrate") (map string_bytes words.now)) }
+    ensures none { IfNone result
+        (¬ IsNamed migrate_row medium.now (codes "migrate") (map string_bytes words.now)) }
+{
+    if words.len() == 1 && are_media(medium, words) {
+        Some(Command::Migrate)
+    } else {
+        None
+    }
+}
+
 /// The command that this word names, with these further words behind it and this word for the medium.
 fn named_with(
     alloc: Global,
@@ -160,6 +177,7 @@ fn named_with(
         "sample" => Ok(sample_named(words)),
         "compare" => Ok(compare_named(words)),
         "merge" => Ok(merge_named(medium, words)),
+        "migrate" => Ok(migrate_named(medium, words)),
         _ => Ok(None),
     }
 }

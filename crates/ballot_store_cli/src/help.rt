@@ -12,6 +12,7 @@ const FORMS: &[&str] = &[
     "sample DICE K",
     "compare DICE K <lines",
     "merge MORE ..",
+    "migrate TARGET",
     "replay <schedule",
 ];
 

@@ -18,6 +18,7 @@ use crash_disk::Disk;
 use medium_commands::audit::audit;
 use medium_commands::init::init;
 use merge_commands::merge::merge;
+use migrate_commands::migrate::migrate;
 use outside_io::{Sink, Source, Turns};
 use phase_gate::Report;
 use run_outcome::Status;
@@ -42,7 +43,9 @@ use std::thread::Threads;
 /// - `MEDIUM ELECTION sample DICE K` writes the K ballots of the medium whose tickets under the dice are the least;
 /// - `MEDIUM ELECTION compare DICE K` compares the script's record lines with that sample;
 /// - `MEDIUM ELECTION merge MORE ..` makes the medium that of the union of its own set and those of further media, one to
-///   eight.
+///   eight;
+/// - `MEDIUM ELECTION migrate TARGET` makes an unused target, under an election of version 2, the medium of the ballots that
+///   the medium holds in version 1.
 ///
 /// The report has how many calls the disk had seen at each checkpoint that a session acknowledged, and how many ballots
 /// its last closed store held. `more` has a disk for each word after the third.
@@ -108,6 +111,7 @@ fn carry_out<R: Threads + Sync, S: Source, K: Sink, D: Disk, T: Turns>(
     requires options { (o : Options) → command ≡ Command.Large o → IsTab o.tabs }
     requires election { IsElection election.now }
     requires more { command ≡ Command.Merge → length more.old ≤ 8 }
+    requires target { command ≡ Command.Migrate → length more.old ≡ 1 }
     requires report { reported report.old ≡ nothing_reported }
     ensures { CommandEnds (disk_model D.seen D.calls D.may_leave D.faults)
         (row command) election.now (ended result) (reported report.new)
@@ -123,6 +127,7 @@ fn carry_out<R: Threads + Sync, S: Source, K: Sink, D: Disk, T: Turns>(
         Command::Sample(asked) => sample(alloc, election, &asked, out, disk),
         Command::Compare(asked) => compare(alloc, election, &asked, script, out, disk),
         Command::Merge => merge(alloc, election, out, disk, more),
+        Command::Migrate => migrate(alloc, election, out, disk, more),
         Command::Large(options) => large(rt, alloc, options, election, out, disk, turns, report),
     }
 }

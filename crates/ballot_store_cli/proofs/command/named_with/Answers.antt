@@ -1,6 +1,6 @@
 use Rattle.std.proofs.Common.{List, ℕ, map, string_bytes, subst, sym}
 use Rattle.std.specs.Prelude.{IfOk, IfSome}
-use Rattle.ballot_store_cli.proofs.Rows.{found_behind, named_behind, names_large, no_compare, no_large, no_merge, no_sample}
+use Rattle.ballot_store_cli.proofs.Rows.{found_behind, named_behind, names_large, no_compare, no_large, no_merge, no_migrate, no_sample}
 use Rattle.ballot_store_cli.specs.Command.{row}
 use Rattle.run_outcome.specs.Row.{IsNamed}
 use Rattle.ballot_store_cli.proofs.command.named_with.Goals as goal
@@ -42,3 +42,11 @@ returns-in-merge-clause-named c =
 
 pub returns-in-merge-clause-none : goal.returns-in-merge-clause-none
 returns-in-merge-clause-none c = no_merge c.args.medium.now c.args.word.now (map string_bytes c.args.words.now) c.merge_named.result c.in-merge.is c.merge_named.ensures.none
+
+pub returns-in-migrate-clause-named : goal.returns-in-migrate-clause-named
+returns-in-migrate-clause-named c =
+    let words = map string_bytes c.args.words.now in
+    subst (λ (word : List ℕ). IfSome c.migrate_named.result (λ command. IsNamed (row command) c.args.medium.now word words)) (sym c.in-migrate.is) c.migrate_named.ensures.named
+
+pub returns-in-migrate-clause-none : goal.returns-in-migrate-clause-none
+returns-in-migrate-clause-none c = no_migrate c.args.medium.now c.args.word.now (map string_bytes c.args.words.now) c.migrate_named.result c.in-migrate.is c.migrate_named.ensures.none

@@ -1,0 +1,4 @@
+pub mod MigrateLaws
+mod Migrated
+mod OldForm
+mod Stops
