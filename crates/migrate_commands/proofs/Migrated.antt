@@ -40,12 +40,16 @@ module _ {D : Type 0} (model : DiskModel D) (e : Election) (from since before af
   pub not_filled : {T : Type 0} (r : Result T MigrateFault) (fault : MigrateFault) → r ≡ Err fault → MigrateRefuses model model e from since before after fault → IsSpared model before after fault
       → CountsFaultIf (IsErrOf r (Old recover.DiskFault)) (model.faults from) (model.faults since) → CountsFaultIf (IsErrOf r ToFault) (model.faults before) (model.faults after)
       → MigratesNone model e from since before after (migrate_status fault)
-  not_filled {T} r fault is refuses spared old target = (fault, refl, record {
-    refuses = refuses;
-    spared = spared;
-    old_steady = λ other. old.steady (λ wrong. other (let both : Err {T} fault ≡ Err (Old recover.DiskFault) = sym is ∙ wrong in cc));
-    target_steady = λ other. target.steady (λ wrong. other (let both : Err {T} fault ≡ Err ToFault = sym is ∙ wrong in cc));
-  })
+  not_filled {T} r fault is refuses spared old target = (
+    fault,
+    refl,
+    record {
+      refuses = refuses;
+      spared = spared;
+      old_steady = λ other. old.steady (λ wrong. other (let both : Err {T} fault ≡ Err (Old recover.DiskFault) = sym is ∙ wrong in cc));
+      target_steady = λ other. target.steady (λ wrong. other (let both : Err {T} fault ≡ Err ToFault = sym is ∙ wrong in cc));
+    },
+  )
 
   -- then nothing is told
   pub none_told : {K : Type 0} (a : Status) (out : Output K) → MigratesNone model e from since before after a → MigrateTells model e a out out from since before after
