@@ -16,6 +16,7 @@ use std::thread::Threads;
 mod faults;
 mod memory;
 mod merging;
+mod migrating;
 mod rows;
 mod turns;
 
@@ -23,6 +24,11 @@ mod turns;
 const EXAMPLE: &[u8] =
     b"{\"contests\":[{\"choices\":4,\"allowed\":1},{\"choices\":3,\"allowed\":2}],\
     \"styles\":[[1,2]],\"limit\":8,\"bits\":3,\"salt\":\"0000000000000000\"}";
+
+// The same election in version 2.
+const SECOND: &[u8] =
+    b"{\"contests\":[{\"choices\":4,\"allowed\":1},{\"choices\":3,\"allowed\":2}],\
+    \"styles\":[[1,2]],\"limit\":8,\"bits\":3,\"salt\":\"0000000000000000\",\"version\":2}";
 
 // The header of the example's images, in hexadecimal digits.
 const HEADER: &str = "48494253544f524500010302000000080000000000000000";
@@ -33,8 +39,11 @@ const SESSION: &[&str] = &["medium", "election.json", "session"];
 
 const REPLAY: &[&str] = &["medium", "election.json", "replay"];
 
+// The most bytes of a disk: one more than a medium of version 2 has.
+const MOST: usize = 867;
+
 const ROOM: Room = Room {
-    size: 610,
+    size: MOST,
     calls: 100,
     written: 4000,
 };
@@ -138,12 +147,41 @@ fn no_disks(alloc: Global, texts: &[&str]) -> Result<Vec<MemoryDisk>, Fail> {
     Ok(disks)
 }
 
+// A disk with these bytes whose call of this number fails. None fails where it is 0.
+fn disk_of(rt: &impl Abort, alloc: Global, bytes: &[u8], failing: u64) -> Result<MemoryDisk, Fail> {
+    assert!(rt; bytes.len() <= MOST);
+    let calls = vec![in alloc; failing]?;
+    Ok(MemoryDisk::new(alloc, bytes.to_vec(alloc)?, calls, ROOM)?)
+}
+
+// The call that fails on the medium at a place, counted from 0, where it is this one.
+fn call_at(at: u32, place: u32, call: u64) -> u64 {
+    if at == place { call } else { 0 }
+}
+
+// The status of a run in which a call on the medium at a place failed.
+fn fault_at(place: u32) -> Status {
+    if place == 0 {
+        Status::DiskFault
+    } else {
+        Status::OtherDiskFault { index: place }
+    }
+}
+
 // A source whose call of this number fails. If there is one, the bytes come one by one.
 fn source_of(alloc: Global, bytes: Vec<u8>, failing: u64) -> Result<Pieces<MemorySource>, Fail> {
     Ok(Pieces {
         inner: MemorySource::new(bytes, vec![in alloc; failing]?),
         most: if failing == 0 { usize::MAX } else { 1 },
     })
+}
+
+// The election in the file of this name.
+fn election_named(name: Option<&&str>) -> &'static [u8] {
+    match name {
+        Some(&"second.json") => SECOND,
+        _ => EXAMPLE,
+    }
 }
 
 // A run of these words over these disks.
@@ -163,7 +201,11 @@ where
 {
     let alloc = rt.alloc();
     let words = words_of(alloc, texts)?;
-    let mut election = source_of(alloc, EXAMPLE.to_vec(alloc)?, failing.election)?;
+    let mut election = source_of(
+        alloc,
+        election_named(texts.get(1)).to_vec(alloc)?,
+        failing.election,
+    )?;
     let mut script = source_of(alloc, lines(alloc, script)?, failing.script)?;
     let mut sink = MemorySink::new(alloc, 1000, vec![in alloc; failing.sink]?)?;
     assert_eq!(rt; more.len(), words.len().saturating_sub(3));
@@ -195,9 +237,7 @@ where
     T: Turns,
 {
     let alloc = rt.alloc();
-    assert!(rt; medium.len() <= 610);
-    let calls = vec![in alloc; failing.disk]?;
-    let mut disk = MemoryDisk::new(alloc, medium.to_vec(alloc)?, calls, ROOM)?;
+    let mut disk = disk_of(rt, alloc, medium, failing.disk)?;
     let mut more = no_disks(alloc, texts)?;
     let (status, report, written) = run_on(
         rt, texts, script, failing, &mut disk, &mut more, turns,

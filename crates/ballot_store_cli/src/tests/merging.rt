@@ -1,7 +1,7 @@
 //! A merge of three media: each call on each of them fails in turn, and the target stops at each call.
 
 use super::rows::{FOUR_BALLOTS, Set, THREE_BALLOTS, assert_recovers};
-use super::{Failing, NOTHING, ROOM, medium_of, run_on};
+use super::{Failing, NOTHING, call_at, disk_of, fault_at, medium_of, run_on};
 use crate::Status;
 use crash_disk::{Disk, MemoryDisk, Torn};
 use outside_io::NoTurns;
@@ -24,28 +24,11 @@ struct Media {
     more: Vec<MemoryDisk>,
 }
 
-// A disk whose call of this number fails. None fails where it is 0.
-fn disk_of(
-    rt: &impl Abort,
-    alloc: Global,
-    bytes: Vec<u8>,
-    failing: u64,
-) -> Result<MemoryDisk, Fail> {
-    assert!(rt; bytes.len() <= 610);
-    let calls = vec![in alloc; failing]?;
-    Ok(MemoryDisk::new(alloc, bytes, calls, ROOM)?)
-}
-
-// The call that fails on the medium at a place, where it is this one.
-fn call_at(at: u32, place: u32, call: u64) -> u64 {
-    if at == place { call } else { 0 }
-}
-
 // A target with these bytes, and the media of two ballots and of none. On one of them, counted from 0, a call fails.
 fn three_media(
     rt: &impl Abort,
     alloc: Global,
-    target: Vec<u8>,
+    target: &[u8],
     place: u32,
     call: u64,
 ) -> Result<Media, Fail> {
@@ -53,8 +36,8 @@ fn three_media(
     let second = medium_of(alloc, TWO_BALLOTS)?;
     let third = medium_of(alloc, "")?;
     let mut more = Vec::new(alloc);
-    more.push(disk_of(rt, alloc, second, call_at(1, place, call))?)?;
-    more.push(disk_of(rt, alloc, third, call_at(2, place, call))?)?;
+    more.push(disk_of(rt, alloc, &second, call_at(1, place, call))?)?;
+    more.push(disk_of(rt, alloc, &third, call_at(2, place, call))?)?;
     Ok(Media { target, more })
 }
 
@@ -96,19 +79,11 @@ where
     R: Threads + Sync + AllocGlobal + Abort,
 {
     let alloc = rt.alloc();
-    let mut media = three_media(rt, alloc, bytes.to_vec(alloc)?, 0, 0)?;
+    let mut media = three_media(rt, alloc, bytes, 0, 0)?;
     let (status, written) = merge(rt, &mut media, 0)?;
     assert_eq!(rt; status, Status::Ok);
     assert_eq!(rt; written.as_slice(), b"merged 4\n".as_slice());
     assert_united(rt, alloc, &media)
-}
-
-fn fault_at(place: u32) -> Status {
-    if place == 0 {
-        Status::DiskFault
-    } else {
-        Status::OtherDiskFault { index: place }
-    }
 }
 
 // Each call on one of the media fails in turn, until a merge makes no such call. The same merge again comes to its end.
@@ -119,7 +94,7 @@ where
     let alloc = rt.alloc();
     for call in 1..100 {
         let three = medium_of(alloc, THREE_BALLOTS)?;
-        let mut media = three_media(rt, alloc, three, place, call)?;
+        let mut media = three_media(rt, alloc, &three, place, call)?;
         let (status, written) = merge(rt, &mut media, 0)?;
         if status == Status::Ok {
             assert!(rt; call > 3, "{place}");
@@ -147,7 +122,7 @@ fn each_call_of_a_merge_fails_in_turn(rt: HostRuntime) -> Result<(), Fail> {
 fn a_merge_whose_sink_fails(rt: HostRuntime) -> Result<(), Fail> {
     let alloc = rt.alloc();
     let three = medium_of(alloc, THREE_BALLOTS)?;
-    let mut media = three_media(&rt, alloc, three, 0, 0)?;
+    let mut media = three_media(&rt, alloc, &three, 0, 0)?;
     let (status, written) = merge(&rt, &mut media, 1)?;
     assert_eq!(rt; status, Status::WriteFault);
     assert_eq!(rt; written.len(), 0);
@@ -172,7 +147,7 @@ where
 fn a_merge_is_stopped_at_each_call(rt: HostRuntime) -> Result<(), Fail> {
     let alloc = rt.alloc();
     let three = medium_of(alloc, THREE_BALLOTS)?;
-    let mut media = three_media(&rt, alloc, three, 0, 0)?;
+    let mut media = three_media(&rt, alloc, &three, 0, 0)?;
     let (status, _) = merge(&rt, &mut media, 0)?;
     assert_eq!(rt; status, Status::Ok);
     for torn in [Torn::Old, Torn::New, Torn::Fill(0x3c), Torn::Fill(0xa7)] {
