@@ -45,20 +45,20 @@ pub enum Status {
     NotCanonical { place: u64 },
     /// A line of a script was refused; lines count from 1.
     BadLine { line: u64, why: LineWhy },
-    /// The election has no form in version 1.
-    NoOldForm,
     /// The disk of this further medium failed. Further media count from 1.
     OtherDiskFault { index: u32 },
-    /// This further medium has more bytes than a medium, so many.
-    MediumSize { index: u32, size: u64 },
-    /// This further medium has as many bytes as a medium, and a gate is open.
-    MediumInUse { index: u32 },
     /// This further medium, the first such one, is no store of the election.
     BadMedium { index: u32, why: MediumWhy },
     /// This is the least number of which two media hold different ballots.
     MergeConflict { number: u64 },
     /// The union of the media has so many ballots, more than a store of the election may hold.
     MergeFull { count: u32 },
+    /// The election has no form in version 1.
+    NoOldForm,
+    /// This further medium has more bytes than a medium, so many.
+    MediumSize { index: u32, size: u64 },
+    /// This further medium has as many bytes as a medium, and a gate is open.
+    MediumInUse { index: u32 },
 }
 
 impl Status {
