@@ -7,7 +7,7 @@ use Rattle.medium_commands.proofs.InitLaws.{InitDecides, one_init}
 use Rattle.medium_commands.proofs.Refusing.{HoldsSome, Refuses, not_both, one_refused, refuses}
 use Rattle.migrate_commands.proofs.Migrated.{IsRefusal, is_refusal}
 use Rattle.migrate_commands.proofs.OldForm.{form_valid}
-use Rattle.migrate_commands.specs.Migrate.{FromTo, HoldsOld, IsMigrated, IsUnusedTarget, MayMigrate, MigrateEnds, MigrateTells, MigratesNone, MigratesNot, migrate_row, migrate_status}
+use Rattle.migrate_commands.specs.Migrate.{FromTo, HoldsOld, IsUnusedTarget, MigrateEnds, MigrateTells, MigratesNone, MigratesNot, migrate_row, migrate_status}
 use Rattle.migrate_medium.specs.Migrating.{OldHolds}
 use Rattle.migrate_medium.specs.declared.fault.MigrateFault.{MigrateFault}
 use Rattle.migrate_medium.specs.declared.fault.MigrateFault.TheVariants as faults
@@ -101,20 +101,20 @@ module _ {D : Type 0} (model : DiskModel D) (e : Election) (from since before af
   refused_old why no_fault form no_memory refused = inr (record { form = form; decides = inl (refuses (as_version_one e) content.disk why no_fault no_memory refused) })
 
   not_decides : (fault : MigrateFault) → IsDecided (migrate_status fault) → MigratesNot model e from since before after fault → MigrateDecides e content (migrate_status fault)
-  not_decides faults.NoOldForm decided not = inl (not.refuses, refl)
+  not_decides faults.NoOldForm is not = inl (not.refuses.0, refl)
   not_decides (faults.Old recover.NoStore) is not =
-      refused_old recover.NoStore (λ no. cc) not.refuses.0 (λ no. cc) (at_told (model.seen from) content.disk (λ x. IsRefusedMedium (as_version_one e) x recover.NoStore) reads not.refuses.1)
+      refused_old recover.NoStore (λ no. cc) not.refuses.0 (λ no. cc) (at_told (model.seen from) content.disk (λ x. IsRefusedMedium (as_version_one e) x recover.NoStore) reads not.refuses.1.0)
   not_decides (faults.Old (recover.OtherElection header)) is not =
       refused_old (recover.OtherElection header) (λ no. cc) not.refuses.0 (λ no. cc)
-      (at_told (model.seen from) content.disk (λ x. IsRefusedMedium (as_version_one e) x (recover.OtherElection header)) reads not.refuses.1)
+      (at_told (model.seen from) content.disk (λ x. IsRefusedMedium (as_version_one e) x (recover.OtherElection header)) reads not.refuses.1.0)
   not_decides (faults.Old (recover.Damaged cell)) is not =
-      refused_old (recover.Damaged cell) (λ no. cc) not.refuses.0 (λ no. cc) (at_told (model.seen from) content.disk (λ x. IsRefusedMedium (as_version_one e) x (recover.Damaged cell)) reads not.refuses.1)
+      refused_old (recover.Damaged cell) (λ no. cc) not.refuses.0 (λ no. cc) (at_told (model.seen from) content.disk (λ x. IsRefusedMedium (as_version_one e) x (recover.Damaged cell)) reads not.refuses.1.0)
   not_decides (faults.Old recover.DiskFault) is not = absurd is
   not_decides (faults.Old recover.Memory) is not = absurd is
   not_decides (faults.ToSize size) is not =
-      decided not.refuses.0 not.refuses.1.0 (status.WrongSize size) not.refuses.1.1 (at_told (model.seen before) target (λ x. IsRefusedDisk e x (inits.WrongSize size)) sees not.refuses.2)
+      decided not.refuses.0 not.refuses.1.0.0 (status.WrongSize size) not.refuses.1.0.1 (at_told (model.seen before) target (λ x. IsRefusedDisk e x (inits.WrongSize size)) sees not.refuses.1.1)
   not_decides faults.ToInUse is not =
-      decided not.refuses.0 not.refuses.1.0 status.Exists not.refuses.1.1 (at_told (model.seen before) target (λ x. IsRefusedDisk e x inits.Exists) sees not.refuses.2)
+      decided not.refuses.0 not.refuses.1.0.0 status.Exists not.refuses.1.0.1 (at_told (model.seen before) target (λ x. IsRefusedDisk e x inits.Exists) sees not.refuses.1.1)
   not_decides faults.ToFault is not = absurd is
   not_decides faults.Memory is not = absurd is
 
@@ -142,18 +142,18 @@ migrate_caused model e a before after more now content others reads only each is
 
 -- ---- no fault where no count rose
 
-module _ {K D : Type 0} (model : DiskModel D) (e : Election) (from since before after : D) (steady : IsSteady (model.faults from) (model.faults since)) (still : IsSteady (model.faults before) (model.faults after)) where
+module _ {D : Type 0} (model : DiskModel D) (e : Election) (from since before after : D) (steady : IsSteady (model.faults from) (model.faults since)) (still : IsSteady (model.faults before) (model.faults after)) where
   none_settled : (fault : MigrateFault) → MigratesNot model e from since before after fault → IsDecided (migrate_status fault) ⊎ (migrate_status fault ≡ status.Memory)
   none_settled (faults.Old recover.NoStore) not = inl tt
   none_settled (faults.Old (recover.OtherElection header)) not = inl tt
   none_settled (faults.Old (recover.Damaged cell)) not = inl tt
-  none_settled (faults.Old recover.DiskFault) not = absurd (not_risen (model.faults from) (model.faults since) steady (not.refuses.3 refl))
+  none_settled (faults.Old recover.DiskFault) not = absurd (not_risen (model.faults from) (model.faults since) steady (not.refuses.1.2 refl))
   none_settled (faults.Old recover.Memory) not = inr refl
-  none_settled faults.ToFault not = absurd (not_risen (model.faults before) (model.faults after) still not.refuses.2)
+  none_settled faults.ToFault not = absurd (not_risen (model.faults before) (model.faults after) still not.refuses.1.1)
   none_settled faults.Memory not = inr refl
   none_settled other not = inl tt
 
-  tells_settled : (a : Status) (old new : Output K) → IsSteady old.faults new.faults → MigrateTells model e a old new from since before after → IsDecided a ⊎ (a ≡ status.Memory)
+  tells_settled : {K : Type 0} (a : Status) (old new : Output K) → IsSteady old.faults new.faults → MigrateTells model e a old new from since before after → IsDecided a ⊎ (a ≡ status.Memory)
   tells_settled status.Ok old new sink tells = inl tt
   tells_settled status.WriteFault old new sink tells = absurd (not_risen old.faults new.faults sink tells.1)
   tells_settled status.Memory old new sink tells = inr refl
@@ -185,7 +185,7 @@ migrate_laws = record {
   one = one_migrate;
   settled = λ model e a report before after none ends. migrate_settled model e a before after before.more after.more none.sink none.disk none.more ends;
   served = λ e content a words valid one served decides.
-      one_migrate e content a status.Ok valid decides (served_decides e content content.more refl served.0.0 (served.0.1, served.0.2) served.1);
+      one_migrate e content a status.Ok valid decides (served_decides e content content.more refl served.0.0 served.0.1 served.1);
   no_usage = λ model e report before after ends. not_usage model e before.streams.sink after.streams.sink before.disk after.disk before.more after.more ends;
 }
 
@@ -202,6 +202,7 @@ in_use e content image set only old full = by_target e content image status.Exis
 pub again : {S K D : Type 0} (model : DiskModel D) (e : Election) (a : Status) (report : Reported) (before after : World S K D) (content : Content) (image : List ℕ) (set : List Ballot)
     → IsElection e → Tells model migrate_row.touches before content → HoldsOld e content.disk set → content.more ≡ image ∷ [] → IsUnusedOrHolds e set image → NothingFailed model migrate_row.touches before after
     → migrate_row.ends model e a report before after → (a ≡ status.Ok) ⊎ (a ≡ status.Memory) ⊎ ((a ≡ status.MediumInUse 1) × HoldsSet e image set)
+unfolding migrate_laws
 again model e a report before after content image set valid tells old only left none ends = ⊎_elim
     (λ decided.
     let cause = migrate_laws.caused model e a report before after content tells decided ends in

@@ -40,14 +40,14 @@ module _ {D : Type 0} (model : DiskModel D) (e : Election) (from since before af
   pub not_filled : {T : Type 0} (r : Result T MigrateFault) (fault : MigrateFault) → r ≡ Err fault → MigrateRefuses model model e from since before after fault → IsSpared model before after fault
       → CountsFaultIf (IsErrOf r (Old recover.DiskFault)) (model.faults from) (model.faults since) → CountsFaultIf (IsErrOf r ToFault) (model.faults before) (model.faults after)
       → MigratesNone model e from since before after (migrate_status fault)
-  not_filled {T} r fault is refuses spared old target = (
+  not_filled {T = T} r fault is refuses spared old target = (
     fault,
     refl,
     record {
       refuses = refuses;
       spared = spared;
-      old_steady = λ other. old.steady (λ wrong. other (let both : Err {T} fault ≡ Err (Old recover.DiskFault) = sym is ∙ wrong in cc));
-      target_steady = λ other. target.steady (λ wrong. other (let both : Err {T} fault ≡ Err ToFault = sym is ∙ wrong in cc));
+      old_steady = λ other. old.steady (λ wrong. other (let both : IsErrOf {T = T} (Err fault) (Old recover.DiskFault) = sym is ∙ wrong in cc));
+      target_steady = λ other. target.steady (λ wrong. other (let both : IsErrOf {T = T} (Err fault) ToFault = sym is ∙ wrong in cc));
     },
   )
 

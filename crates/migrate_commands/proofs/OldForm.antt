@@ -1,6 +1,5 @@
 -- An election's form in version 1, and what an old medium holds under it.
 use Rattle.std.proofs.Common.{◌≡◌, ℕ, List, Some, arith}
-use Rattle.std.specs.List.{All}
 use Rattle.image_builder.proofs.Held.{one_held}
 use Rattle.migrate_commands.specs.Migrate.{HoldsOld}
 use Rattle.store_spec.specs.Ballot.{Ballot}

@@ -1,7 +1,6 @@
 -- What the command `migrate` makes of an old medium and of a target. `old` and `new` are the sink before and after, `from`
 -- and `since` the disk of the old medium at the start and at the end, and `before` and `after` that of the target.
 use Rattle.std.specs.Prelude.{◌≡◌, ◌≢◌, ◌⊎◌, ℕ, List, [], ◌∷◌, codes, length, Some, is_some, true, false}
-use Rattle.checkpoint.specs.Unused.{IsUnusedOrHolds}
 use Rattle.medium_commands.specs.Refused.{refused_status}
 use Rattle.migrate_medium.specs.Migrating.{IsSpared, MayHold, MigrateRefuses, Migrates}
 use Rattle.migrate_medium.specs.declared.fault.MigrateFault.{MigrateFault}

@@ -54,9 +54,9 @@ TargetRefuses old target e from before after ToFault =
     ((set : List Ballot) × OldHolds old e from set) × Rose (target.faults before) (target.faults after)
 TargetRefuses old target e from before after fault = ⊥
 
--- why no medium was made
+-- Why no medium was made. Where the election has no form in version 1, the old medium is not touched.
 abbrev pub MigrateRefuses : {A B : Type 0} → DiskModel A → DiskModel B → Election → A → A → B → B → MigrateFault → Type 0
-MigrateRefuses old target e from since before after NoOldForm = ¬ HasVersionOne e
+MigrateRefuses old target e from since before after NoOldForm = (¬ HasVersionOne e) × (since ≡ from)
 MigrateRefuses old target e from since before after (Old why) = HasVersionOne e × OldRefuses old (as_version_one e) from since (Old why)
 MigrateRefuses old target e from since before after Memory = HasVersionOne e
 MigrateRefuses old target e from since before after fault = HasVersionOne e × TargetRefuses old target e from before after fault

@@ -39,7 +39,7 @@ fn old_store<A: Disk>(alloc: Global, from: &mut A, form: &Election) -> Result<Cl
 
 /// Makes an unused target the medium of the ballots that an old medium of version 1 holds, and answers how many they
 /// are. The election is of version 2; the old medium is read under its form in version 1, and before the target is
-/// looked at. It is neither written nor synced. Where it is refused, or memory is wanting, no call is made on the
+/// looked at. It is neither written nor synced, and not touched where there is no such form. Where it is refused, or memory is wanting, no call is made on the
 /// target; where the target is refused, it is as it was; where its disk fails, it holds what it held, nothing, or those
 /// ballots.
 pub fn migrate<A: Disk, B: Disk>(
