@@ -1,4 +1,4 @@
-use Rattle.std.proofs.Common.{◌≡◌, ◌+◌, ◌≤◌, Option, arith, length, map, subst, string_bytes}
+use Rattle.std.proofs.Common.{Option, arith, length, map, subst, string_bytes}
 use Rattle.std.proofs.lemmas.List.{length-map}
 use Rattle.std.specs.Prelude.{IfSome}
 use Rattle.ballot_store_cli.proofs.Rows.{few_media, one_medium}
