@@ -40,7 +40,7 @@ const SESSION: &[&str] = &["medium", "election.json", "session"];
 const REPLAY: &[&str] = &["medium", "election.json", "replay"];
 
 // The most bytes of a disk: one more than a medium of version 2 has.
-const MOST: usize = 867;
+const MOST: u64 = 867;
 
 const ROOM: Room = Room {
     size: MOST,
@@ -149,7 +149,7 @@ fn no_disks(alloc: Global, texts: &[&str]) -> Result<Vec<MemoryDisk>, Fail> {
 
 // A disk with these bytes whose call of this number fails. None fails where it is 0.
 fn disk_of(rt: &impl Abort, alloc: Global, bytes: &[u8], failing: u64) -> Result<MemoryDisk, Fail> {
-    assert!(rt; bytes.len() <= MOST);
+    assert!(rt; bytes.len() as u64 <= MOST);
     let calls = vec![in alloc; failing]?;
     Ok(MemoryDisk::new(alloc, bytes.to_vec(alloc)?, calls, ROOM)?)
 }

@@ -161,10 +161,10 @@ fn targets_that_are_taken_or_refused(rt: HostRuntime) -> Result<(), Fail> {
             Status::MediumInUse { index: 1 },
         )?;
     }
-    let size = MOST as u64;
+    let size = MOST;
     assert_refuses(
         &rt,
-        &rubbish(alloc, MOST, &[])?,
+        &rubbish(alloc, MOST as usize, &[])?,
         Status::MediumSize { index: 1, size },
     )
 }
