@@ -1,14 +1,22 @@
 -- What a store of an election in version 1 holds, a store of the election may hold.
-use Rattle.std.proofs.Common.{◌≡◌, ℕ, List, Some, Result, Ok, Err, sym, subst}
+use Rattle.std.proofs.Common.{◌≡◌, ℕ, List, Option, Some, None, Result, Ok, Err, drop, ap, sym, ◌∙◌, subst}
 use Rattle.std.proofs.lemmas.List.Elements.{All-contains, All-weaker}
 use Rattle.std.specs.List.{All}
+use Rattle.std.proofs.lemmas.List.Sorted.{IsPermutation-refl}
 use Rattle.std.specs.List.Sorted.{IsPermutation}
-use Rattle.std.specs.Prelude.{IfOk}
+use Rattle.std.specs.Prelude.{IfOk, IfSome, option_map}
 use Rattle.ballot_record.proofs.BallotSets.{listing_from_set, same_in_order}
 use Rattle.ballot_record.proofs.Lookups.{found_in}
+use Rattle.ballot_record.specs.Record.{ballot}
+use Rattle.ballot_record.specs.declared.record.Record.{Record}
+use Rattle.body_store.proofs.ByNumber.{by_number-is}
+use Rattle.body_store.proofs.Spelled.{spelled_by_number}
+use Rattle.body_store.specs.ByNumber.{by_number}
 use Rattle.body_store.specs.Contents.{Contents, IsStored}
+use Rattle.body_store.specs.Held.{Shows, spelled_in}
 use Rattle.store_spec.specs.Ballot.{Ballot, ballot_of, IsListing, IsValid, IsWithinLimit}
-use Rattle.store_spec.specs.Election.{Election, as_version_one}
+use Rattle.store_spec.specs.Election.{Election, IsElection, as_version_one, header_size}
+use Rattle.store_spec.specs.Image.{cells_of, image_of}
 
 valid_too : (e : Election) (b : Ballot) → IsValid (as_version_one e) b → IsValid e b
 valid_too e b valid = record {
@@ -20,19 +28,35 @@ valid_too e b valid = record {
   marked = valid.marked;
 }
 
+-- no ballot changes its cell
+pub same_cells : (old : Contents) (e : Election) → old.election ≡ as_version_one e → (cells : List ℕ) → cells ≡ cells_of old.election old.ballots → cells ≡ cells_of e old.ballots
+same_cells old e form cells are = are ∙ ap (λ (e : Election). cells_of e old.ballots) form
+
 module _ (e : Election) (old : Contents) (form : old.election ≡ as_version_one e) (stored : IsStored old) where
   all_valid : All (IsValid e) old.ballots
   all_valid = All-weaker (IsValid (as_version_one e)) (IsValid e) (valid_too e) old.ballots (subst (λ (e : Election). All (IsValid e) old.ballots) form stored.set.valid)
 
-  pub valid_found : (number : ℕ) (b : Ballot) → ballot_of old.ballots number ≡ Some b → IsValid e b
-  valid_found number b found = All-contains (IsValid e) old.ballots b all_valid (found_in old.ballots number b found).0
+  -- a ballot that stands in a cell is valid
+  pub valid_in_cell : (held : Option Record) (number : ℕ) → option_map ballot held ≡ ballot_of old.ballots number → IfSome held (λ cast. IsValid e (ballot cast))
+  valid_in_cell None number is = tt
+  valid_in_cell (Some cast) number is = All-contains (IsValid e) old.ballots (ballot cast) all_valid (found_in old.ballots number (ballot cast) (sym is)).0
 
-  pub listing_too : (list : List Ballot) → list ≡ old.ballots → IsListing e list
-  listing_too list same = subst (IsListing e) (sym same) (listing_from_set e old.ballots (record { valid = all_valid; ascending = stored.set.ascending }))
+  listing_too : IsListing e old.ballots
+  listing_too = listing_from_set e old.ballots (record { valid = all_valid; ascending = stored.set.ascending })
 
-  pub within_too : (list : List Ballot) → list ≡ old.ballots → IsWithinLimit e list
-  within_too list same =
-      subst (IsWithinLimit e) (sym same) (subst (λ (e : Election). IsWithinLimit e old.ballots) form stored.within_limit)
+  within_too : IsWithinLimit e old.ballots
+  within_too = subst (λ (e : Election). IsWithinLimit e old.ballots) form stored.within_limit
+
+  module _ (election : IsElection e) (image cells : List ℕ) (is : image ≡ image_of e old.ballots) (laid : cells ≡ cells_of e old.ballots) where
+    -- an image and its cells spell them
+    pub spelled_same : by_number (spelled_in e cells (drop header_size image)) ≡ old.ballots
+    spelled_same =
+        spelled_by_number e old.ballots image cells election (record { listing = listing_too; within_limit = within_too }) is laid
+        ∙ by_number-is old.ballots old.ballots listing_too.distinct stored.set.ascending (IsPermutation-refl old.ballots)
+
+    pub shown_too : Shows e (by_number (spelled_in e cells (drop header_size image))) image cells
+    shown_too = subst (λ (list : List Ballot). Shows e list image cells) (sym spelled_same)
+        (record { election = election; listing = listing_too; within_limit = within_too; image = is; cells = laid })
 
   -- a store that is made of them holds them
   pub same_stored : {E : Type 0} (r : Result Contents E) (list : List Ballot) → list ≡ old.ballots → IfOk r (λ store. IsPermutation list store.ballots) → IfOk r IsStored

@@ -1,41 +1,49 @@
-//! The ballots of a store of version 1 are carried into one of version 2.
+//! The ballots of a store of version 1 are carried into one of version 2. No ballot changes its cell: homes and limit are
+//! the same.
 
-ghost use Rattle.std.specs.Prelude.{◌≡◌, IfOk, IsSome, Some};
+ghost use Rattle.std.specs.Prelude.{◌≡◌, ◌++◌, IfOk, IfSome, OnOk, option_map, replicate};
+ghost use Rattle.std.specs.Option.{option_map_or};
 ghost use Rattle.ballot_record.specs.Record.{ballot};
-ghost use Rattle.body_store.specs.Contents.{IsStored};
-ghost use Rattle.store_spec.specs.Ballot.{ballot_of};
-ghost use Rattle.store_spec.specs.Election.{as_version_one};
+ghost use Rattle.store_spec.specs.Ballot.{IsValid};
+ghost use Rattle.store_spec.specs.Election.{IsElection, as_version_one, cell_size};
+ghost use Rattle.store_spec.specs.Image.{ballot_bytes, image_of};
 
-use ballot_record::{BallotList, Election, Record};
+use ballot_record::{Election, Header, MAX_CELL_BYTES, Record};
 use body_store::Closed;
 use outside_io::Memory;
 use std::alloc::Global;
 
-/// The ballot of a number that a store holds.
-fn held(closed: &Closed, number: u64) -> Record
-    requires { IsSome (ballot_of closed.now.ballots number) }
-    ensures { ballot_of closed.now.ballots number ≡ Some (ballot result) }
+/// Puts the bytes of a cell behind others: those of a ballot, or zeros where there is none.
+#[tactic(auto, using(ballot_record::proofs::CellFormat::largest_cell_width, std::proofs::lemmas::Grind::common_steps))]
+fn push_cell(image: &mut Vec<u8>, held: Option<Record>, election: &Election) -> Result<(), Memory>
+    requires { IfSome held (λ cast. IsValid election.now (ballot cast)) }
+    ensures { OnOk result (image.new.items ≡ image.old.items
+        ++ option_map_or (ballot_bytes election.now) (option_map ballot held) (replicate (cell_size election.now) 0)) }
 {
-    match closed.record_of(number) {
-        Some(record) => record,
-        None => unreachable!(),
+    let mut room = [0; MAX_CELL_BYTES];
+    let cell = &mut room[..election.cell_bytes()];
+    match held {
+        Some(cast) => {
+            cast.put_cell(election, cell);
+            Ok(image.extend_from_slice(cell)?)
+        }
+        None => Ok(image.extend_from_slice(cell)?),
     }
 }
 
-/// The ballots of a store under the election in version 1, as those of the election.
-fn ballots_in(alloc: Global, old: &Closed, election: &Election) -> Result<BallotList, Memory>
-    requires form { old.now.election ≡ as_version_one election.now }
-    ensures same { IfOk result (λ list. list.ballots ≡ old.now.ballots) }
-    ensures election { IfOk result (λ list. list.election ≡ election.now) }
-    ensures stored { IsStored old.now }
+/// The image of the election's store with the ballots of a store under the election in version 1.
+fn widened(alloc: Global, old: &Closed, election: &Election) -> Result<Vec<u8>, Memory>
+    requires { old.now.election ≡ as_version_one election.now }
+    ensures image { IfOk result (λ image. image.items ≡ image_of election.now old.now.ballots) }
+    ensures election { IsElection election.now }
 {
-    let places = old.in_order(alloc)?;
-    let mut ballots = BallotList::with_room(alloc, election, places.len())?;
-    'places: for place in &places {
-        let record = held(old, place.number);
-        ballots.push(&record, election)?;
+    let header = Header::of(election);
+    let mut image = Vec::with_capacity(alloc, election.bank_bytes())?;
+    image.extend_from_slice(&header.bytes)?;
+    'cells: for cell in 0..old.cells().len() {
+        push_cell(&mut image, old.record_in(cell), election)?;
     }
-    Ok(ballots)
+    Ok(image)
 }
 
 /// The store of the election that holds the ballots of a store under the election in version 1.
@@ -44,6 +52,7 @@ pub(crate) fn carried(alloc: Global, old: &Closed, election: &Election) -> Resul
     ensures same { IfOk result (λ store. store.ballots ≡ old.now.ballots) }
     ensures election { IfOk result (λ store. store.election ≡ election.now) }
 {
-    let ballots = ballots_in(alloc, old, election)?;
-    Closed::from_records(alloc, election, &ballots)
+    let image = widened(alloc, old, election)?;
+    let cells = old.cells().to_vec(alloc)?;
+    Closed::from_image(alloc, election, image, cells)
 }

@@ -1,15 +1,18 @@
-use Rattle.migrate_medium.proofs.Versions.{listing_too, same_stored, within_too}
+use Rattle.std.proofs.Common.{◌∙◌}
+use Rattle.migrate_medium.proofs.Versions.{same_cells, same_stored, shown_too, spelled_same}
 use Rattle.migrate_medium.proofs.carrying.carried.Goals as goal
 
-pub from_records-requires-clause-listing : goal.from_records-requires-clause-listing
-from_records-requires-clause-listing c =
-    listing_too c.args.election.now c.args.old.now c.requires.form c.in_ok-ballots.ensures.stored c.in_ok-ballots.ballots.ballots c.in_ok-ballots.ensures.same
-
-pub from_records-requires-clause-within_limit : goal.from_records-requires-clause-within_limit
-from_records-requires-clause-within_limit c =
-    within_too c.args.election.now c.args.old.now c.requires.form c.in_ok-ballots.ensures.stored c.in_ok-ballots.ballots.ballots c.in_ok-ballots.ensures.same
+pub from_image-requires : goal.from_image-requires
+from_image-requires c =
+    let e = c.args.election.now in
+    let old = c.args.old.now in
+    shown_too e old c.requires.form c.cells.ensures.stored c.in_ok-image.ensures.election c.in_ok-image.image.items c.in_ok-cells.cells.items c.in_ok-image.ensures.image
+    (c.in_ok-cells.ensures.items_if_clones_equal (λ x y same. same) ∙ same_cells old e c.requires.form c.cells.result.now c.cells.ensures.cells)
 
 pub returns-clause-same : goal.returns-clause-same
 returns-clause-same c =
-    same_stored c.args.election.now c.args.old.now c.requires.form c.in_ok-ballots.ensures.stored c.from_records.result c.in_ok-ballots.ballots.ballots
-    c.in_ok-ballots.ensures.same c.from_records.ensures.same c.from_records.ensures.stored
+    let e = c.args.election.now in
+    let old = c.args.old.now in
+    same_stored e old c.requires.form c.cells.ensures.stored c.from_image.result
+    _ (spelled_same e old c.requires.form c.cells.ensures.stored c.in_ok-image.ensures.election c.in_ok-image.image.items c.in_ok-cells.cells.items c.in_ok-image.ensures.image
+    (c.in_ok-cells.ensures.items_if_clones_equal (λ x y same. same) ∙ same_cells old e c.requires.form c.cells.result.now c.cells.ensures.cells)) c.from_image.ensures.same c.from_image.ensures.stored

@@ -1,0 +1,8 @@
+use Rattle.std.proofs.Common.{◌≡◌, ◌++◌, take}
+use Rattle.std.specs.Prelude.{flat_map}
+use Rattle.migrate_medium.proofs.carrying.widened.Given as goal
+use Rattle.store_spec.specs.Image.{cell_bytes, cells_of, header_of}
+
+-- the first cells were put behind the header
+abbrev pub invariant-cells : goal.invariant-cells
+invariant-cells l = l.image.items ≡ header_of l.election ++ flat_map (cell_bytes l.election l.old.ballots) (take l.cell (cells_of l.election l.old.ballots))
