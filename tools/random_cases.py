@@ -5,9 +5,10 @@ part by part. Its strings stand for bytes, as latin-1 has them. It has the keys
 
     election   a dictionary as the election's JSON, with or without "version"
     text       the election's text where it is not just that JSON, else None
-    medium     None where the file is missing, else the sets that it was made of and the damage
+    medium     None where the file is missing, else the sets that it was made of, the damage and, under "under", what
+               its election has otherwise
     more       a list of further media, each as the medium, with its name (MORE1 to MORE8; one that is missing does not
-               stand here) and, under "under", what its election has otherwise
+               stand here)
     runs       a list of runs: words, in which MEDIUM, ELECTION and MORE1 to MORE8 stand for the files, the lines of the
                script, and where the output goes ("pipe" or "full")
 """
@@ -18,11 +19,11 @@ from store_model import Rules
 GOLDEN = 0x9E3779B97F4A7C15
 MORE = [f"MORE{k}" for k in range(1, 9)]
 NAMES = {"MEDIUM": "medium", "ELECTION": "election.json"} | {name: name.lower() for name in MORE}  # of the files
-# The commands that a run is made of, and how often. Later ones (migrate, twin, part) get a line here and, where it says
-# how many further media they have, in FURTHER; and a function that makes their scripts.
+# The commands that a run is made of, and how often. Later ones (twin, part) get a line here and, where it says how many
+# further media they have, in FURTHER; and a function that makes their scripts.
 COMMANDS = {"session": 50, "audit": 12, "sample": 7, "compare": 7, "build": 8, "large": 4, "replay": 8, "init": 6,
-            "merge": 16, "words": 4, "odd": 3}
-FURTHER = {"merge": [1, 1, 2, 2, 3, 4, 8]}
+            "merge": 16, "migrate": 16, "words": 4, "odd": 3}
+FURTHER = {"merge": [1, 1, 2, 2, 3, 4, 8], "migrate": [1]}
 BAD_LINES = ["", " ", "\r", "\0", "close ", " close", "close\r", "Close", "checkpoint 1", "export\t", "tally\0", "open",
              "open cast", "open cast 0", "open cast 65", "open cast 01", "open  cast 1", "open cast 1 ", "open count 1",
              "open cast 1\r", "cast", "cast 1", "cast 1 ", "cast 0 1 1 1", "cast 65 1 1 1", "cast 01 1 1 1", "find 1 0",
@@ -39,8 +40,8 @@ BAD_VALUES = ['0', '-1', '-0', '1.0', '1e0', '"1"', 'null', 'true', '[]', '{}', 
               '[{"choices":1,"allowed":1,"x":1}]', '"\\ud800"', "[" * 130 + "]" * 130]
 
 
-def election(rng, small=False):
-    version = rng.choice([None, None, 1, 2, 2])
+def election(rng, small=False, versions=(None, None, 1, 2, 2)):
+    version = rng.choice(versions)
     most_contests, most_choices = (24, 64) if version == 2 else (16, 32)
     count = rng.choice([1, 1, 2, 2, 3, 4, most_contests] if not small else [1, 2, 3])
     contests = []
@@ -57,6 +58,11 @@ def election(rng, small=False):
         limit, bits = 32768, 16
     told = {"contests": contests, "styles": styles, "limit": limit, "bits": bits, "salt": f"{rng.getrandbits(64):016x}"}
     return told if version is None else told | {"version": version}
+
+
+def renewed(rng, small=False):
+    """An election of version 2 that has a form in version 1."""
+    return election(rng, small, [1]) | {"version": 2}
 
 
 def spelled(rng, told):
@@ -164,16 +170,51 @@ class Maker:
                                      ["size", rng.choice([-1, 1, -2, 10, -10**6, rng.randint(-400, 400)])]]))
         return {"ballots": ballots, "other": other, "edits": edits}
 
-    def further(self, torn=0.2, strange=0.03):
-        """Further media for all names; the strange ones are damaged, empty, or of another election or version."""
+    def old_medium(self, torn=0.3, strange=0.06):
+        """A medium of version 1 under an election of version 2; the strange ones are none or damaged, or of another
+        election or version."""
+        rng, told = self.rng, self.medium(torn, 2 * strange, strange)
+        if told:
+            other = rng.choice([self.other_election(), {"version": 2}]) if rng.random() < strange else {}
+            told["under"] = {"version": 1} | other
+        return told
+
+    def target(self, used=0.2):
+        """A target for a migration: mostly one that is missing, too small, or of closed gates."""
+        rng, told = self.rng, self.medium(0.3, 0.2, 0.3)
+        if told and rng.random() >= used:
+            told["under"] = {"version": 1} if rng.random() < 0.15 else {}
+            told["edits"] += rng.choice([[["size", -10**9]], [["size", -rng.randint(1, 900)]],
+                                         [["gate", bank, rng.choice([0, 0x27, 0xA6, 255])] for bank in (0, 1)]])
+        elif told:
+            told["edits"] += rng.choice([[], [["gate", rng.randrange(2), 0]], [["size", 1]],
+                                         [["size", rng.randint(1, 900)]]])
+        return told
+
+    def further(self, torn=0.2, strange=0.03, targets=0.0):
+        """Further media for all names; the strange ones are damaged, empty, or of another election or version. So many
+        of them are targets for a migration."""
         rng, media = self.rng, []
         for name in MORE if self.told["limit"] < 1000 else MORE[:1]:  # the largest have 40 million bytes
+            if rng.random() < targets:
+                media += [{"name": name} | told for told in [self.target()] if told]
+                continue
             told = self.medium(torn, strange, strange)
             if told:
                 under = self.other_election() if rng.random() < strange else {}
                 told["edits"] += [["size", -10**9]] if rng.random() < strange else []  # an empty file
                 media.append({"name": name, "under": under} | told)
         return media
+
+    def media(self, commands, migrates):
+        """The medium and the further media of a case with these commands."""
+        if "merge" in commands:
+            self.overlap()
+        if migrates:
+            return self.old_medium(), self.further(targets=0.7)
+        if FURTHER.keys().isdisjoint(commands):
+            return self.medium(), []
+        return self.medium(0.2, 0.05, 0.1), self.further()
 
     def other_election(self):
         """What another election has otherwise, of the same contests."""
@@ -262,14 +303,16 @@ class Maker:
         rng = self.rng
         more = rng.sample(MORE, rng.choice(FURTHER[command]))
         words = ["MEDIUM", "ELECTION", command, *more]
-        if rng.random() < 0.1:  # a further medium and the target change places
+        one = command == "migrate"  # which has one word more, so that another mostly takes its place
+        if rng.random() < (0.03 if one else 0.1):  # a further medium and the target change places
             words[0], words[3] = words[3], words[0]
         if rng.random() < 0.1 and len(more) < 8:  # one medium under two names
-            words.append("./" + rng.choice(words[3:]))
+            words[3 if one else len(words):] = ["./" + rng.choice(words[3:])]
         if rng.random() < 0.15:
             odd = rng.choice(["", "-", "-MORE1", "--help", words[0], *words[3:5], ".", "none", "none/x", "ELECTION",
                               "ELECTION/x", "election.json", "MORE1/x"])
-            words.insert(rng.randint(3, len(words)), odd)
+            at = rng.randint(3, len(words))
+            words[at:at + (one and rng.random() < 0.7)] = [odd]
         elif rng.random() < 0.03:
             words[3:] = rng.choice([[], MORE, MORE + ["MORE9"]])
         output = "full" if rng.random() < 0.05 else "pipe"
@@ -278,11 +321,11 @@ class Maker:
     def words(self):
         rng = self.rng
         pool = ["MEDIUM", "ELECTION", "init", "session", "audit", "sample", "compare", "build", "large", "replay",
-                "merge", "", "-", "--help", "--seed", "1", "01", "--count", "--tabs", "65", "0", "32769", "4294967296",
-                "1" * 65, "x", "--seed=1"]
+                "merge", "migrate", "", "-", "--help", "--seed", "1", "01", "--count", "--tabs", "65", "0", "32769",
+                "4294967296", "1" * 65, "x", "--seed=1"]
         whole = rng.choice([["MEDIUM", "ELECTION", "large", "--seed", "1", "--count", "5", "--tabs", "1"],
                             ["MEDIUM", "ELECTION", "sample", "123", "2"], ["MEDIUM", "ELECTION", "audit"],
-                            ["MEDIUM", "ELECTION", "merge", "MORE1"]])
+                            ["MEDIUM", "ELECTION", "merge", "MORE1"], ["MEDIUM", "ELECTION", "migrate", "MORE1"]])
         if rng.random() < 0.3:
             return rng.choices(pool, k=rng.randint(0, 5))
         at = rng.randrange(len(whole))
@@ -301,29 +344,40 @@ class Maker:
         return {"words": words, "script": script, "output": output}
 
 
+def onto_targets(rng, runs):
+    """Lets runs that come after a migration mostly have its target as their medium."""
+    target = None
+    for words in (run["words"] for run in runs):
+        if words[2:3] == ["migrate"]:
+            target = words[3] if words[3:] and words[3] in MORE else target
+        elif target and words[:2] == ["MEDIUM", "ELECTION"] and FURTHER.keys().isdisjoint(words):
+            words[0] = target if rng.random() < 0.6 else words[0]
+
+
 def case(rng):
     crowded = rng.random() < 0.03
-    told = election(rng)
+    commands = rng.choices(list(COMMANDS), list(COMMANDS.values()), k=rng.choice([1, 1, 2, 3]))
+    migrates = "migrate" in commands and rng.random() < 0.93
+    told = renewed(rng) if migrates else election(rng)
     if crowded:
         told |= {"limit": rng.randint(50, 400), "bits": rng.choice([0, 1, 3, 5, 8])}
     text = spelled(rng, told) if rng.random() < 0.12 else None
     maker = Maker(rng, told, crowded)
     if text is not None:
-        runs = [maker.run(rng.choice(["init", "build", "audit", "replay"]))]
-        return {"election": told, "text": text, "medium": maker.medium(), "more": [], "runs": runs}
-    commands = rng.choices(list(COMMANDS), list(COMMANDS.values()), k=rng.choice([1, 1, 2, 3]))
-    joined = not FURTHER.keys().isdisjoint(commands)
-    if joined:
-        maker.overlap()
-    medium = maker.medium(0.2, 0.05, 0.1) if joined else maker.medium()
-    more, runs = maker.further() if joined else [], []
-    if medium is None and rng.random() < 0.8:
+        runs = [maker.run("migrate" if migrates else rng.choice(["init", "build", "audit", "replay"]))]
+        medium = maker.old_medium() if migrates else maker.medium()
+        return {"election": told, "text": text, "medium": medium, "more": [], "runs": runs}
+    (medium, more), runs = maker.media(commands, migrates), []
+    if migrates:
+        commands += rng.choices(["audit", "session", "migrate"], k=rng.choice([0, 1, 2]))
+    elif medium is None and rng.random() < 0.8:
         runs.append(maker.run("init"))
         if rng.random() < 0.1:
             runs.append(maker.run("large", first=True))
     if crowded:
         runs.append({"words": ["MEDIUM", "ELECTION", "session"], "script": maker.script(3, True, 0), "output": "pipe"})
     runs += [maker.run(command) for command in commands]
+    onto_targets(rng, runs)
     words = [word for run in runs for word in run["words"]]
     more = [told for told in more if any(told["name"] in word for word in words)]
     return {"election": told, "text": text, "medium": medium, "more": more, "runs": runs}
@@ -341,12 +395,14 @@ def name_of(word):
 
 def medium_of(case):
     """The bytes of the medium, or None."""
-    return case["medium"] and bytes_of(case["election"], case["medium"])
+    told = case["medium"]
+    return told and bytes_of(case["election"] | told.get("under", {}), told)
 
 
 def further_of(case):
     """The bytes of each further medium that is there, by the names of their files."""
-    return {NAMES[told["name"]]: bytes_of(case["election"] | told["under"], told) for told in case.get("more", [])}
+    return {NAMES[told["name"]]: bytes_of(case["election"] | told.get("under", {}), told)
+            for told in case.get("more", [])}
 
 
 def bytes_of(election, told):

@@ -17,6 +17,7 @@ GROUP = re.compile(rb"-\Z|[1-9][0-9]?(,[1-9][0-9]?)*\Z")
 PHASES = {b"cast": "casting", b"withdraw": "withdrawing", b"find": "finding"}
 TEXTS = {9: "no store", 11: "other election"}
 FAULT = "fault"  # in place of the bytes of a further medium which the disk doesn't give
+FURTHER = {"merge": range(1, 9), "migrate": [1]}  # of each command over further media, how many they may be
 
 
 class Doubt(Exception):
@@ -29,10 +30,10 @@ def refusal(finding):
     return status, "ballot_store: " + TEXTS.get(status, line) + "\n"
 
 
-def is_merge(words):
-    """Whether the words of a merge, as the program gets them, are a command form."""
+def is_form(words):
+    """Whether the words of a command over further media, as the program gets them, are its form."""
     more = words[3:]
-    return (1 <= len(more) <= 8 and all(word and word[0] != "-" for word in words[:3] + more)
+    return (len(more) in FURTHER[words[2]] and all(word and word[0] != "-" for word in words[:3] + more)
             and len({words[0], *more}) == 1 + len(more))
 
 
@@ -45,8 +46,16 @@ class Rules:
     """An election, and what follows from it."""
 
     def __init__(self, text):
-        self.election = parse_election(text)
-        self.allowed = [contest["allowed"] for contest in json.loads(text)["contests"]]
+        self.election, self.parts = parse_election(text), json.loads(text)
+        self.allowed = [contest["allowed"] for contest in self.parts["contests"]]
+
+    def in_version_one(self):
+        """The rules of this election, which is of version 2, in version 1; None where there is no such form."""
+        try:
+            old = Rules(json.dumps(self.parts | {"version": 1}).encode())
+        except ValueError:
+            return None
+        return old if self.election.version == 2 else None
 
     def ballot(self, line):
         """The ballot of a record line; None where it is malformed, False where it is invalid."""
@@ -118,6 +127,25 @@ class Rules:
         if len(union) > self.election.limit:
             return (22, f"ballot_store: merge of {len(union)}\n", b""), old
         return (0, "", b"merged %d\n" % len(union)), union
+
+    def migrate(self, medium, target):
+        """How a migration of these bytes ends: status, standard error and output, and the set that the target holds
+        then; None where it stays as it was. The target is a FAULT where it cannot be written either."""
+        old = self.in_version_one()
+        if not old:
+            return (16, "ballot_store: no version 1 form\n", b""), None
+        try:
+            held = old.held(medium)
+        except Finding as finding:
+            return (*refusal(finding), b""), None
+        if target == FAULT:
+            return (17, "ballot_store: disk fault at medium 1\n", b""), None
+        size = 2 * self.election.image_size() + 2
+        if target and len(target) > size:
+            return (18, f"ballot_store: medium 1 wrong size {len(target)}\n", b""), None
+        if target and len(target) == size and OPEN_GATE in target[-2:]:
+            return (19, "ballot_store: medium 1 in use\n", b""), None
+        return (0, "", b"migrated %d\n" % len(held)), held
 
     def tally(self, held):
         lines = [f"tally {len(held)}"]
