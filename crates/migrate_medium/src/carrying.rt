@@ -13,6 +13,8 @@ use body_store::Closed;
 use outside_io::Memory;
 use std::alloc::Global;
 
+const ZEROS: [u8; MAX_CELL_BYTES] = [0; MAX_CELL_BYTES];
+
 /// Puts the bytes of a cell behind others: those of a ballot, or zeros where there is none.
 #[tactic(auto, using(ballot_record::proofs::CellFormat::largest_cell_width, std::proofs::lemmas::Grind::common_steps))]
 fn push_cell(image: &mut Vec<u8>, held: Option<Record>, election: &Election) -> Result<(), Memory>
@@ -20,14 +22,14 @@ fn push_cell(image: &mut Vec<u8>, held: Option<Record>, election: &Election) -> 
     ensures { OnOk result (image.new.items ≡ image.old.items
         ++ option_map_or (ballot_bytes election.now) (option_map ballot held) (replicate (cell_size election.now) 0)) }
 {
-    let mut room = [0; MAX_CELL_BYTES];
-    let cell = &mut room[..election.cell_bytes()];
+    let at = image.len();
+    image.extend_from_slice(&ZEROS[..election.cell_bytes()])?;
     match held {
         Some(cast) => {
-            cast.put_cell(election, cell);
-            Ok(image.extend_from_slice(cell)?)
+            cast.put_cell(election, &mut image[at..]);
+            Ok(())
         }
-        None => Ok(image.extend_from_slice(cell)?),
+        None => Ok(()),
     }
 }
 

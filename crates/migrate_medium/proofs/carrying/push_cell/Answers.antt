@@ -9,10 +9,10 @@ use Rattle.migrate_medium.proofs.carrying.push_cell.Goals as goal
 use Rattle.store_spec.specs.Election.{cell_size}
 use Rattle.store_spec.specs.Image.{ballot_bytes}
 
-pub returns-in_ok-extend_from_slice-in-None : goal.returns-in_ok-extend_from_slice-in-None
-returns-in_ok-extend_from_slice-in-None c =
+pub returns-in-None : goal.returns-in-None
+returns-in-None c =
     let e = c.args.election.now in
     let image = c.args.image.now.items in
-    c.in_ok-extend_from_slice-in-None.ensures.items ∙ ap (λ (bytes : List ℕ). image ++ bytes)
+    c.in_ok-extend_from_slice.ensures.items ∙ ap (λ (bytes : List ℕ). image ++ bytes)
     (take-replicate c.cell_bytes.result 201 0 (omega (arith, c.cell_bytes.ensures.at_most, largest_cell_width)) ∙ ap (λ n. replicate n 0) c.cell_bytes.ensures.size)
     ∙ ap (λ (held : Option Record). image ++ option_map_or (ballot_bytes e) (option_map ballot held) (replicate (cell_size e) 0)) (sym c.in-None.is)
