@@ -15,21 +15,36 @@ use std::alloc::Global;
 
 const ZEROS: [u8; MAX_CELL_BYTES] = [0; MAX_CELL_BYTES];
 
-/// Puts the bytes of a cell behind others: those of a ballot, or zeros where there is none.
+/// Puts the bytes of an empty cell behind others.
 #[tactic(auto, using(ballot_record::proofs::CellFormat::largest_cell_width, std::proofs::lemmas::Grind::common_steps))]
-fn push_cell(image: &mut Vec<u8>, held: Option<Record>, election: &Election) -> Result<(), Memory>
-    requires { IfSome held (λ cast. IsValid election.now (ballot cast)) }
-    ensures { OnOk result (image.new.items ≡ image.old.items
-        ++ option_map_or (ballot_bytes election.now) (option_map ballot held) (replicate (cell_size election.now) 0)) }
+fn push_empty(image: &mut Vec<u8>, election: &Election) -> Result<(), Memory>
+    ensures { OnOk result (image.new.items ≡ image.old.items ++ replicate (cell_size election.now) 0) }
+{
+    image.extend_from_slice(&ZEROS[..election.cell_bytes()])?;
+    Ok(())
+}
+
+/// Puts the bytes of a ballot's cell behind others.
+#[tactic(auto, using(ballot_record::proofs::CellFormat::largest_cell_width, std::proofs::lemmas::Grind::common_steps))]
+fn push_ballot(image: &mut Vec<u8>, cast: &Record, election: &Election) -> Result<(), Memory>
+    requires { IsValid election.now (ballot cast.now) }
+    ensures { OnOk result (image.new.items ≡ image.old.items ++ ballot_bytes election.now (ballot cast.now)) }
 {
     let at = image.len();
-    image.extend_from_slice(&ZEROS[..election.cell_bytes()])?;
+    push_empty(image, election)?;
+    cast.put_cell(election, &mut image[at..]);
+    Ok(())
+}
+
+/// Puts the bytes of a cell behind others: those of a ballot, or zeros where there is none.
+fn push_cell(image: &mut Vec<u8>, held: &Option<Record>, election: &Election) -> Result<(), Memory>
+    requires { IfSome held.now (λ cast. IsValid election.now (ballot cast)) }
+    ensures { OnOk result (image.new.items ≡ image.old.items
+        ++ option_map_or (ballot_bytes election.now) (option_map ballot held.now) (replicate (cell_size election.now) 0)) }
+{
     match held {
-        Some(cast) => {
-            cast.put_cell(election, &mut image[at..]);
-            Ok(())
-        }
-        None => Ok(()),
+        Some(cast) => push_ballot(image, cast, election),
+        None => push_empty(image, election),
     }
 }
 
@@ -43,7 +58,7 @@ fn widened(alloc: Global, old: &Closed, election: &Election) -> Result<Vec<u8>, 
     let mut image = Vec::with_capacity(alloc, election.bank_bytes())?;
     image.extend_from_slice(&header.bytes)?;
     'cells: for cell in 0..old.cells().len() {
-        push_cell(&mut image, old.record_in(cell), election)?;
+        push_cell(&mut image, &old.record_in(cell), election)?;
     }
     Ok(image)
 }
