@@ -42,6 +42,7 @@ pub fn audit<D: Disk>(
         → ReadsOnly D.seen D.calls D.may_leave disk.old disk.new }
     ensures later { D.calls disk.old ≤ D.calls disk.new }
     ensures fault { CountsFaultIf (IsErrOf result DiskFault) (D.faults disk.old) (D.faults disk.new) }
+    ensures leads { D.leads_to disk.old disk.new }
 {
     let (bank, open_too) = choose(disk, election)?;
     let mut scratch = Scratch::new(alloc)?;
@@ -68,6 +69,7 @@ fn compare<D: Disk>(
         (λ audit. IfSome (D.seen disk.old) (λ bytes. IsAudited closed.now.election bytes audit)) }
     ensures reads { WritesNothing D.seen D.calls D.may_leave disk.old disk.new }
     ensures fault { CountsFault result (D.faults disk.old) (D.faults disk.new) }
+    ensures leads { D.leads_to disk.old disk.new }
 {
     let election = closed.election();
     let other = other_of(bank);

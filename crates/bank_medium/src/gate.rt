@@ -29,6 +29,7 @@ pub fn gates<D: Disk>(disk: &mut D, election: &Election) -> Result<(bool, bool),
     ensures crash_images { KeepsCrashImages D.calls D.may_leave disk.old disk.new }
     ensures later { D.calls disk.old ≤ D.calls disk.new }
     ensures fault { CountsFault result (D.faults disk.old) (D.faults disk.new) }
+    ensures leads { D.leads_to disk.old disk.new }
 {
     let mut gates = [0; 2];
     disk.read(gate_place(election, Bank::A), &mut gates)?;
@@ -47,6 +48,7 @@ pub fn close_gate<D: Disk>(disk: &mut D, election: &Election, bank: Bank) -> Res
     ensures told { is_some (D.seen disk.new) ≡ is_some (D.seen disk.old) }
     ensures later { D.calls disk.old ≤ D.calls disk.new }
     ensures fault { CountsFault result (D.faults disk.old) (D.faults disk.new) }
+    ensures leads { D.leads_to disk.old disk.new }
 {
     write_settled(disk, gate_place(election, bank), &[CLOSED])
 }
@@ -63,6 +65,7 @@ pub fn open_gate<D: Disk>(disk: &mut D, election: &Election, bank: Bank) -> Resu
         D.may_leave disk.old disk.new (IsTorn (gate_of election.now bank) 1 old) }
     ensures later { D.calls disk.old ≤ D.calls disk.new }
     ensures fault { CountsFault result (D.faults disk.old) (D.faults disk.new) }
+    ensures leads { D.leads_to disk.old disk.new }
 {
     write_settled(disk, gate_place(election, bank), &[OPEN])
 }
@@ -79,6 +82,7 @@ pub fn open_both_gates<D: Disk>(disk: &mut D, election: &Election) -> Result<(),
     ensures told { is_some (D.seen disk.new) ≡ is_some (D.seen disk.old) }
     ensures later { D.calls disk.old ≤ D.calls disk.new }
     ensures fault { CountsFault result (D.faults disk.old) (D.faults disk.new) }
+    ensures leads { D.leads_to disk.old disk.new }
 {
     write_settled(disk, gate_place(election, Bank::A), &[OPEN, OPEN])
 }

@@ -30,6 +30,7 @@ pub fn read_page<D: Disk>(
     ensures crash_images { KeepsCrashImages D.calls D.may_leave disk.old disk.new }
     ensures later { D.calls disk.old ≤ D.calls disk.new }
     ensures fault { CountsFault result (D.faults disk.old) (D.faults disk.new) }
+    ensures leads { D.leads_to disk.old disk.new }
 {
     disk.read(bank_place(election, bank) + at as u64, out)
 }
@@ -56,6 +57,7 @@ pub fn write_page<D: Disk>(
         (place_of election.now bank + at) (length bytes.now) disk.old disk.new) }
     ensures later { D.calls disk.old ≤ D.calls disk.new }
     ensures fault { CountsFault result (D.faults disk.old) (D.faults disk.new) }
+    ensures leads { D.leads_to disk.old disk.new }
 {
     disk.write_at(bank_place(election, bank) + at as u64, bytes)
 }
@@ -70,6 +72,7 @@ pub fn settle<D: Disk>(disk: &mut D) -> Result<(), Failed>
     ensures unsettled { OnErr result (KeepsCrashImages D.calls D.may_leave disk.old disk.new) }
     ensures later { D.calls disk.old ≤ D.calls disk.new }
     ensures fault { CountsFault result (D.faults disk.old) (D.faults disk.new) }
+    ensures leads { D.leads_to disk.old disk.new }
 {
     disk.sync()
 }
@@ -94,6 +97,7 @@ pub fn write_bank<D: Disk>(
     ensures told { is_some (D.seen disk.new) ≡ is_some (D.seen disk.old) }
     ensures later { D.calls disk.old ≤ D.calls disk.new }
     ensures fault { CountsFault result (D.faults disk.old) (D.faults disk.new) }
+    ensures leads { D.leads_to disk.old disk.new }
 {
     write_settled(disk, bank_place(election, bank), bytes)
 }

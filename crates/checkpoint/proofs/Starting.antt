@@ -1,11 +1,12 @@
 -- The runs of calls that make an unused disk the medium of a set.
-use Rattle.std.proofs.Common.{◌≡◌, ℕ, ◌+◌, ◌*◌, ◌≤◌, List, [], ◌∷◌, ◌++◌, length, Option, Some, None, is_some, sym, ◌∙◌, ap, inl, inr, arith}
-use Rattle.std.specs.Prelude.{option_map, IfSome}
+use Rattle.std.proofs.Common.{◌≡◌, ℕ, ◌+◌, ◌*◌, ◌≤◌, List, [], ◌∷◌, ◌++◌, length, Option, Some, None, is_some, refl, sym, ◌∙◌, ap, inl, inr, arith}
+use Rattle.std.specs.Prelude.{option_map}
+use Rattle.std.specs.Option.{ForSome}
 use Rattle.crash_disk.proofs.Moments.{goes_on, joined, weaker}
 use Rattle.crash_disk.proofs.TornBytes.{overwritten-next}
 use Rattle.checkpoint.proofs.Pages.{Fits}
 use Rattle.checkpoint.proofs.Unused.{opened_medium, opening_holds, unused_small, unused_torn}
-use Rattle.checkpoint.specs.Unused.{IsUntouchedOr}
+use Rattle.checkpoint.specs.Unused.{IsUntouchedOr, IsUnusedOrHolds}
 use Rattle.outside_io.specs.Told.{IfTold}
 use Rattle.store_spec.specs.Ballot.{Ballot}
 use Rattle.store_spec.specs.Disk.{leaves_now, overwritten, torn_from, IsTorn, LeavesOnly, TearsAtMost}
@@ -25,20 +26,24 @@ module _ {D : Type 0} (calls : D → ℕ) (may_leave : D → ℕ → List ℕ �
   run_looking synced looked run = weaker calls may_leave synced looked (λ c. c ≡ bytes) (IsUntouchedOr e ballots bytes) (λ c same. inl same) run
 
   -- its banks are written
-  pub run_writing : (synced looked written : D) → IsUnused e bytes → LeavesOnly calls may_leave synced looked (IsUntouchedOr e ballots bytes) → LeavesOnly calls may_leave looked written (IsUnused e)
-      → LeavesOnly calls may_leave synced written (IsUntouchedOr e ballots bytes)
-  run_writing synced looked written unused run writing =
-      joined calls may_leave synced looked written (IsUntouchedOr e ballots bytes) run
-      (weaker calls may_leave looked written (IsUnused e) (IsUntouchedOr e ballots bytes) (λ c still. inr (unused, inl still)) writing)
+  pub run_writing : (looked written : D) → LeavesOnly calls may_leave looked written (IsUnused e) → LeavesOnly calls may_leave looked written (IsUnusedOrHolds e ballots)
+  run_writing looked written run = weaker calls may_leave looked written (IsUnused e) (IsUnusedOrHolds e ballots) (λ c still. inl still) run
 
-  -- its gates are opened
-  pub run_opening : (synced written opened : D) → Fits e ballots → IsUnused e bytes → LeavesOnly calls may_leave synced written (IsUntouchedOr e ballots bytes)
+  -- and its gates are opened
+  pub run_opening : (looked written opened : D) → Fits e ballots → IsUnused e bytes → LeavesOnly calls may_leave looked written (IsUnused e)
       → LeavesOnly calls may_leave written opened (IsTorn (2 * bank_size e) 2 (overwritten 0 (image_of e ballots ++ image_of e ballots) bytes))
-      → LeavesOnly calls may_leave synced opened (IsUntouchedOr e ballots bytes)
-  run_opening synced written opened fits unused run opening =
-      joined calls may_leave synced written opened (IsUntouchedOr e ballots bytes) run
-      (weaker calls may_leave written opened (IsTorn (2 * bank_size e) 2 (overwritten 0 (image_of e ballots ++ image_of e ballots) bytes)) (IsUntouchedOr e ballots bytes)
-      (λ c torn. inr (unused, opening_holds e ballots bytes fits (unused_small e bytes unused) c torn)) opening)
+      → LeavesOnly calls may_leave looked opened (IsUnusedOrHolds e ballots)
+  run_opening looked written opened fits unused writing opening =
+      joined calls may_leave looked written opened (IsUnusedOrHolds e ballots) (run_writing looked written writing)
+      (weaker calls may_leave written opened (IsTorn (2 * bank_size e) 2 (overwritten 0 (image_of e ballots ++ image_of e ballots) bytes)) (IsUnusedOrHolds e ballots)
+      (λ c torn. opening_holds e ballots bytes fits (unused_small e bytes unused) c torn) opening)
+
+  -- it is looked at, and filled
+  pub run_filling : (synced looked filled : D) → IsUnused e bytes → LeavesOnly calls may_leave synced looked (λ c. c ≡ bytes) → LeavesOnly calls may_leave looked filled (IsUnusedOrHolds e ballots)
+      → LeavesOnly calls may_leave synced filled (IsUntouchedOr e ballots bytes)
+  run_filling synced looked filled unused looking filling =
+      joined calls may_leave synced looked filled (IsUntouchedOr e ballots bytes) (run_looking synced looked looking)
+      (weaker calls may_leave looked filled (IsUnusedOrHolds e ballots) (IsUntouchedOr e ballots bytes) (λ c left. inr (unused, left)) filling)
 
 -- ---- where the bytes may not be told
 
@@ -52,7 +57,7 @@ banks_told now mid (Some x) image n long one two =
     ∙ ap Some (ap (λ k. overwritten k image (overwritten 0 image x)) from ∙ overwritten-next 0 n image image x (omega arith) long)
 
 -- the gates were opened
-pub made_told : (e : Election) (now written old : Option (List ℕ)) (ballots : List Ballot) → Fits e ballots → IfSome old (IsUnused e)
+pub made_told : (e : Election) (now written old : Option (List ℕ)) (ballots : List Ballot) → Fits e ballots → ForSome old (IsUnused e)
     → written ≡ option_map (overwritten 0 (image_of e ballots ++ image_of e ballots)) old → now ≡ option_map (overwritten (2 * bank_size e) (open_gate ∷ open_gate ∷ [])) written
     → IfTold old now (λ _ bytes. IsMediumOf e bytes ballots)
 made_told e now written None ballots fits unused one two = record {
@@ -62,7 +67,7 @@ made_told e now written None ballots fits unused one two = record {
 made_told e now written (Some bytes) ballots fits unused one two =
     let last = overwritten (2 * bank_size e) (open_gate ∷ open_gate ∷ []) (overwritten 0 (image_of e ballots ++ image_of e ballots) bytes) in
     let sees : now ≡ Some last = two ∙ ap (option_map (overwritten (2 * bank_size e) (open_gate ∷ open_gate ∷ []))) one in
-    let medium : last ≡ medium_of e ballots = opened_medium e ballots bytes fits (unused_small e bytes unused) in
+    let medium : last ≡ medium_of e ballots = opened_medium e ballots bytes fits (unused_small e bytes (unused bytes refl)) in
     record {
       told = ap is_some sees;
       related = λ x y was is.

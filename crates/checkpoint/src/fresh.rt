@@ -3,7 +3,7 @@
 ghost use Rattle.std.specs.Prelude.{◌≡◌, ◌⊎◌, ◌+◌, ◌≤◌, ◌++◌, ℕ, List, [], Some, option_map, is_some, IsErrOf, IfErr, IfSome, OnOk, length};
 ghost use Rattle.std.specs.Option.{ForSome};
 ghost use Rattle.bank_medium.specs.Banks.{place_of};
-ghost use Rattle.checkpoint.specs.Unused.{init_fault, IsRefusedDisk, IsUnchangedAt, IsUnharmedAt, IsUntouchedOr, IsUntouchedOrNew};
+ghost use Rattle.checkpoint.specs.Unused.{init_fault, IsRefusedDisk, IsUnchangedAt, IsUnharmedAt, IsUntouchedOr, IsUntouchedOrNew, IsUnusedOrHolds};
 ghost use Rattle.outside_io.specs.Told.{AsTold};
 ghost use Rattle.store_spec.specs.Disk.{disk_model, leaves_now, overwritten, IsSettled, LeavesOnly, SyncsFirst};
 ghost use Rattle.store_spec.specs.Fault.{CountsFault, CountsFaultIf};
@@ -87,6 +87,7 @@ pub fn init<D: Disk>(alloc: Global, disk: &mut D, election: &Election) -> Result
     ensures later { D.calls disk.old ≤ D.calls disk.new }
     ensures fault { CountsFaultIf (IsErrOf result InitFault.DiskFault)
         (D.faults disk.old) (D.faults disk.new) }
+    ensures leads { D.leads_to disk.old disk.new }
 {
     match Closed::empty(alloc, election) {
         Ok(closed) => Ok(fill(disk, &closed, election)?),
@@ -120,12 +121,36 @@ pub fn fill<D: Disk>(disk: &mut D, closed: &Closed, election: &Election) -> Resu
     ensures later { D.calls disk.old ≤ D.calls disk.new }
     ensures fault { CountsFaultIf (IsErrOf result FillFault.DiskFault)
         (D.faults disk.old) (D.faults disk.new) }
+    ensures leads { D.leads_to disk.old disk.new }
 {
     settle(disk)?;
     look(disk, election)?;
-    write_banks(disk, election, closed.image())?;
-    open_both_gates(disk, election)?;
+    fill_unused(disk, closed, election)?;
     Ok(())
+}
+
+/// The same on a settled disk that is known to be unused.
+pub fn fill_unused<D: Disk>(
+    disk: &mut D,
+    closed: &Closed,
+    election: &Election,
+) -> Result<(), Failed>
+    requires own { closed.now.election ≡ election.now }
+    requires settled { IsSettled D.seen D.calls D.may_leave disk.old }
+    requires unused { ForSome (D.seen disk.old) (IsUnused election.now) }
+    ensures medium { OnOk result (AsTold D.seen disk.old disk.new
+        (λ _ bytes. IsMediumOf election.now bytes closed.now.ballots)) }
+    ensures settled { OnOk result (IsSettled D.seen D.calls D.may_leave disk.new) }
+    ensures told { is_some (D.seen disk.new) ≡ is_some (D.seen disk.old) }
+    ensures any_moment { (bytes : List ℕ) → D.seen disk.old ≡ Some bytes
+        → LeavesOnly D.calls D.may_leave disk.old disk.new
+        (IsUnusedOrHolds election.now closed.now.ballots) }
+    ensures later { D.calls disk.old ≤ D.calls disk.new }
+    ensures fault { CountsFault result (D.faults disk.old) (D.faults disk.new) }
+    ensures leads { D.leads_to disk.old disk.new }
+{
+    write_banks(disk, election, closed.image())?;
+    open_both_gates(disk, election)
 }
 
 /// Tells whether a disk is unused, and syncs it first.
@@ -144,6 +169,7 @@ fn find_unused<D: Disk>(disk: &mut D, election: &Election) -> Result<(), FillFau
     ensures later { D.calls disk.old ≤ D.calls disk.new }
     ensures fault { CountsFaultIf (IsErrOf result FillFault.DiskFault)
         (D.faults disk.old) (D.faults disk.new) }
+    ensures leads { D.leads_to disk.old disk.new }
 {
     settle(disk)?;
     look(disk, election)
@@ -162,6 +188,7 @@ fn look<D: Disk>(disk: &mut D, election: &Election) -> Result<(), FillFault>
     ensures later { D.calls disk.old ≤ D.calls disk.new }
     ensures fault { CountsFaultIf (IsErrOf result FillFault.DiskFault)
         (D.faults disk.old) (D.faults disk.new) }
+    ensures leads { D.leads_to disk.old disk.new }
 {
     let size = disk.size()?;
     if size > election.medium_bytes() {
@@ -187,6 +214,7 @@ fn write_banks<D: Disk>(disk: &mut D, election: &Election, made: &[u8]) -> Resul
     ensures settled { OnOk result (IsSettled D.seen D.calls D.may_leave disk.new) }
     ensures any_moment { LeavesOnly D.calls D.may_leave disk.old disk.new (IsUnused election.now) }
     ensures fault { CountsFault result (D.faults disk.old) (D.faults disk.new) }
+    ensures leads { D.leads_to disk.old disk.new }
 {
     write_each_page(disk, election, Bank::A, made)?;
     write_each_page(disk, election, Bank::B, made)?;
@@ -209,6 +237,7 @@ fn write_each_page<D: Disk>(
     ensures told { is_some (D.seen disk.new) ≡ is_some (D.seen disk.old) }
     ensures any_moment { LeavesOnly D.calls D.may_leave disk.old disk.new (IsUnused election.now) }
     ensures fault { CountsFault result (D.faults disk.old) (D.faults disk.new) }
+    ensures leads { D.leads_to disk.old disk.new }
 {
     let end = made.len();
     let mut at = 0;

@@ -5,6 +5,6 @@ mod fresh;
 mod medium;
 mod renewal;
 
-pub use fresh::{FillFault, InitFault, fill, init};
+pub use fresh::{FillFault, InitFault, fill, fill_unused, init};
 pub use medium::checkpoint;
 pub use renewal::{fill_bank, renew_bank};

@@ -37,6 +37,7 @@ pub fn checkpoint<D: Disk>(
     ensures told { is_some (D.seen disk.new) ≡ is_some (D.seen disk.old) }
     ensures later { D.calls disk.old ≤ D.calls disk.new }
     ensures fault { CountsFault result (D.faults disk.old) (D.faults disk.new) }
+    ensures leads { D.leads_to disk.old disk.new }
 {
     let election = closed.election();
     let made = closed.image();

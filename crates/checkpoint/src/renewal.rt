@@ -39,6 +39,7 @@ fn renew_page<D: Disk>(
     ensures told { is_some (D.seen disk.new) ≡ is_some (D.seen disk.old) }
     ensures later { D.calls disk.old ≤ D.calls disk.new }
     ensures fault { CountsFault result (D.faults disk.old) (D.faults disk.new) }
+    ensures leads { D.leads_to disk.old disk.new }
 {
     read_page(disk, election, bank, at, found)?;
     if &found[..] == page {
@@ -68,6 +69,7 @@ fn write_pages<D: Disk>(
     ensures told { is_some (D.seen disk.new) ≡ is_some (D.seen disk.old) }
     ensures later { D.calls disk.old ≤ D.calls disk.new }
     ensures fault { CountsFault result (D.faults disk.old) (D.faults disk.new) }
+    ensures leads { D.leads_to disk.old disk.new }
 {
     let end = made.len();
     let mut at = 0;
@@ -103,6 +105,7 @@ pub fn fill_bank<D: Disk>(
     ensures told { is_some (D.seen disk.new) ≡ is_some (D.seen disk.old) }
     ensures later { D.calls disk.old ≤ D.calls disk.new }
     ensures fault { CountsFault result (D.faults disk.old) (D.faults disk.new) }
+    ensures leads { D.leads_to disk.old disk.new }
 {
     write_pages(disk, election, bank, made, found)?;
     settle(disk)?;
@@ -132,6 +135,7 @@ pub fn renew_bank<D: Disk>(
     ensures told { is_some (D.seen disk.new) ≡ is_some (D.seen disk.old) }
     ensures later { D.calls disk.old ≤ D.calls disk.new }
     ensures fault { CountsFault result (D.faults disk.old) (D.faults disk.new) }
+    ensures leads { D.leads_to disk.old disk.new }
 {
     close_gate(disk, election, bank)?;
     fill_bank(disk, election, bank, made, found)

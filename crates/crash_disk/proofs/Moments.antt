@@ -142,6 +142,41 @@ module _ {D : Type 0} (calls : D → ℕ) (may_leave : D → ℕ → List ℕ �
   pub syncs_first : (old new : D) (P Q : List ℕ → Type 0) → ((c : List ℕ) → leaves_now calls may_leave old c → P c) → ((c : List ℕ) → Q c → P c) → SyncsFirst calls may_leave old new Q → LeavesOnly calls may_leave old new P
   syncs_first old new P Q start more run = ⊎_elim (λ synced. once_synced old new P Q start more synced) (λ failed. one_call old new P start failed.at_most) run
 
+  -- what has P has Q
+  pub once_weaker : (old new : D) (P Q : List ℕ → Type 0) → ((c : List ℕ) → P c → Q c) → LeavesOnlyOnceSynced calls may_leave old new P → LeavesOnlyOnceSynced calls may_leave old new Q
+  once_weaker old new P Q more run = record {
+    later = run.later;
+    past = run.past;
+    before = run.before;
+    each = λ lt m from to c left. more c (run.each lt m from to c left);
+    now = λ c left. more c (run.now c left);
+  }
+
+  pub syncs_weaker : (old new : D) (P Q : List ℕ → Type 0) → ((c : List ℕ) → P c → Q c) → SyncsFirst calls may_leave old new P → SyncsFirst calls may_leave old new Q
+  syncs_weaker old new P Q more run = ⊎_elim (λ synced. inl (once_weaker old new P Q more synced)) (λ failed. inr failed) run
+
+  -- a run that begins with a sync, and what follows
+  pub synced_then : (old mid new : D) (P Q : List ℕ → Type 0) → (calls mid < last_count → calls old < calls mid) → ((c : List ℕ) → P c → Q c)
+      → LeavesOnlyOnceSynced calls may_leave old mid P → LeavesOnly calls may_leave mid new Q → LeavesOnlyOnceSynced calls may_leave old new Q
+  synced_then old mid new P Q called more one two = record {
+    later = omega (arith, one.later, two.later);
+    past = λ lt m le c.
+        let first = one.past (omega (arith, two.later)) m le c in
+        let second = two.past lt m (omega (arith, one.later)) c in
+        (λ left. first.0 (second.0 left), λ left. second.1 (first.1 left));
+    before = λ lt m from to c left.
+        let early : calls mid < last_count = omega (arith, two.later) in
+        let on = called early in
+        one.before early m from to c ((two.past lt m (omega arith) c).0 left);
+    each = λ lt m from to c left.
+        let early : calls mid < last_count = omega (arith, two.later) in
+        ⊎_elim
+        (λ (before : m < after_calls (calls mid)). more c (one.each early m from (omega arith) c ((two.past lt m (omega arith) c).0 left)))
+        (λ (after : after_calls (calls mid) ≤ m). two.each lt m after to c left)
+        (cases_lt m (after_calls (calls mid)));
+    now = two.now;
+  }
+
   -- ---- ranges of moments, for marks that were made on the way
 
   -- a range that ended before a run stays as it was

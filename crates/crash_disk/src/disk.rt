@@ -22,12 +22,17 @@ pub trait Disk {
     /// How many faults there were.
     ghost faults: { Self → ℕ };
 
+    /// That calls lead from one state to another. What it says is for each disk to choose: whatever makes calls on a
+    /// disk ensures it of the states before and after.
+    ghost leads_to: { Self → Self → Type 0 };
+
     /// How many bytes there are.
     fn size(&mut self) -> Result<u64, Failed>
         ensures size { IfOk result (λ size. IfSome (seen self.old) (λ bytes. size ≡ length bytes)) }
         ensures same_bytes { seen self.new ≡ seen self.old }
         ensures crash_images { KeepsCrashImages calls may_leave self.old self.new }
-        ensures fault { CountsFault result (faults self.old) (faults self.new) };
+        ensures fault { CountsFault result (faults self.old) (faults self.new) }
+        ensures leads { leads_to self.old self.new };
 
     /// Reads as many bytes as `buf` has, from `at` on. After `Failed` nothing is said of `buf`.
     fn read(&mut self, at: u64, buf: &mut [u8]) -> Result<(), Failed>
@@ -36,7 +41,8 @@ pub trait Disk {
             (λ bytes. buf.new ≡ slice_range bytes at (at + length buf.old))) }
         ensures same_bytes { seen self.new ≡ seen self.old }
         ensures crash_images { KeepsCrashImages calls may_leave self.old self.new }
-        ensures fault { CountsFault result (faults self.old) (faults self.new) };
+        ensures fault { CountsFault result (faults self.old) (faults self.new) }
+        ensures leads { leads_to self.old self.new };
 
     /// Writes over what is there, and past the end. Until a sync a crash may leave any bytes in the range, and any
     /// size between the old and the new. After `Failed` a read may give such bytes too.
@@ -49,7 +55,8 @@ pub trait Disk {
         ensures crash_images { TearsAtMost calls may_leave at (length bytes.now) self.old self.new }
         ensures any_bytes { OnOk result
             (TearsExactly calls may_leave at (length bytes.now) self.old self.new) }
-        ensures fault { CountsFault result (faults self.old) (faults self.new) };
+        ensures fault { CountsFault result (faults self.old) (faults self.new) }
+        ensures leads { leads_to self.old self.new };
 
     /// Once it has succeeded, a crash can leave only what a read gives. After `Failed` nothing is safe, and a read may
     /// give whatever a crash could have left.
@@ -60,7 +67,8 @@ pub trait Disk {
         ensures inside { KeepsThemInside calls may_leave self.old self.new }
         ensures settled { OnOk result (IsSettled seen calls may_leave self.new) }
         ensures unsettled { OnErr result (KeepsCrashImages calls may_leave self.old self.new) }
-        ensures fault { CountsFault result (faults self.old) (faults self.new) };
+        ensures fault { CountsFault result (faults self.old) (faults self.new) }
+        ensures leads { leads_to self.old self.new };
 
     /// How many calls of the four above were made. It stays at 2^64 - 1.
     fn calls(&self) -> u64
@@ -80,4 +88,11 @@ pub trait Disk {
     ghost crash_images_told: { (disk : Self) (moment : ℕ) (image : List ℕ)
         → may_leave disk moment image
         → IsSome (seen disk) };
+
+    /// Where no call is made, the state leads to itself.
+    ghost leads_to_itself: { (disk : Self) → leads_to disk disk };
+
+    /// Calls that follow others lead on from where those led.
+    ghost leads_on: { (old mid new : Self) → leads_to old mid → leads_to mid new
+        → leads_to old new };
 }

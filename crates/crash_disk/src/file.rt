@@ -292,6 +292,8 @@ where
 
     ghost faults = { λ disk. count_of disk.faults };
 
+    ghost leads_to = { λ _ _. Unit {0} };
+
     ghost counted_calls = { λ disk. disk.calls.within };
 
     ghost counted_faults = { λ disk. disk.faults.within };
@@ -299,6 +301,10 @@ where
     ghost seen_is_crash_image = { λ disk bytes is. Prim.cc };
 
     ghost crash_images_told = { λ disk m image left. absurd left };
+
+    ghost leads_to_itself = { λ _. tt };
+
+    ghost leads_on = { λ _ _ _ _ _. tt };
 
     fn size(&mut self) -> Result<u64, Failed> {
         let outcome = self.find_size(Hold::Shared);

@@ -157,6 +157,8 @@ impl<W: Failing + Drop> Disk for RecordedDisk<W> {
 
     ghost faults = { recorded_faults };
 
+    ghost leads_to = { λ _ _. Unit {0} };
+
     ghost counted_calls = { λ disk. disk.recording.counted_calls };
 
     ghost counted_faults = { λ disk. disk.recording.counted_faults };
@@ -164,6 +166,10 @@ impl<W: Failing + Drop> Disk for RecordedDisk<W> {
     ghost seen_is_crash_image = { λ disk bytes is. recording-image disk.recording bytes is };
 
     ghost crash_images_told = { λ disk moment bytes left. refl };
+
+    ghost leads_to_itself = { λ _. tt };
+
+    ghost leads_on = { λ _ _ _ _ _. tt };
 
     fn size(&mut self) -> Result<u64, Failed>
         ensures passes { is_ok result ≡ passes_next W.fails self.old }

@@ -36,6 +36,8 @@ impl Disk for SureDisk {
 
     ghost faults = { λ _. 0 };
 
+    ghost leads_to = { λ _ _. Unit {0} };
+
     ghost counted_calls = { λ disk. disk.calls.within };
 
     ghost counted_faults = { λ _. Prim.omega arith };
@@ -43,6 +45,10 @@ impl Disk for SureDisk {
     ghost seen_is_crash_image = { λ disk bytes is. Prim.cc };
 
     ghost crash_images_told = { λ disk moment image left. absurd left };
+
+    ghost leads_to_itself = { λ _. tt };
+
+    ghost leads_on = { λ _ _ _ _ _. tt };
 
     fn size(&mut self) -> Result<u64, Failed> {
         self.calls.add_one();

@@ -56,6 +56,7 @@ fn join<B: Disk>(
     ensures reads { WritesNothing B.seen B.calls B.may_leave disk.old disk.new }
     ensures count { length union.new.ballots ≤ length union.old.ballots + most_ballots }
     ensures election { union.new.election ≡ union.old.election }
+    ensures leads { B.leads_to disk.old disk.new }
 {
     let store = match look(alloc, disk, election) {
         Ok(store) => store,
@@ -84,6 +85,7 @@ fn join_each<B: Disk>(
         (disk_model B.seen B.calls B.may_leave B.faults) more.old more.new) }
     ensures reads { AllZip (WritesNothing B.seen B.calls B.may_leave) more.old more.new }
     ensures election { union.new.election ≡ union.old.election }
+    ensures leads { AllZip B.leads_to more.old more.new }
 {
     for place in 0..more.len() {
         join(alloc, &mut more[place], election, place as u32 + 1, union)?;
@@ -113,6 +115,7 @@ fn begin<A: Disk>(
     ensures once_synced { OnOk result ((bytes : List ℕ) → A.seen disk.old ≡ Some bytes
         → LeavesOnlyOnceSynced A.calls A.may_leave disk.old disk.new
         (HoldsTheSame election.now bytes)) }
+    ensures leads { A.leads_to disk.old disk.new }
 {
     let store = match recover(alloc, disk, election, scratch) {
         Ok(store) => store,
@@ -180,6 +183,8 @@ pub fn merge<A: Disk, B: Disk>(
         (disk_model B.seen B.calls B.may_leave B.faults) election.now set more.old) }
     ensures reads { AllZip (WritesNothing B.seen B.calls B.may_leave) more.old more.new }
     ensures told { is_some (A.seen disk.new) ≡ is_some (A.seen disk.old) }
+    ensures leads { A.leads_to disk.old disk.new }
+    ensures others_lead { AllZip B.leads_to more.old more.new }
 {
     let mut union = begin(alloc, disk, election, scratch)?;
     join_each(alloc, more, election, &mut union)?;

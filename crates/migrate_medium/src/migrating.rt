@@ -29,6 +29,7 @@ fn old_store<A: Disk>(alloc: Global, from: &mut A, form: &Election) -> Result<Cl
     ensures later { A.calls from.old ≤ A.calls from.new }
     ensures fault { CountsFaultIf (IsErrOf result (MigrateFault.Old RecoverFault.DiskFault))
         (A.faults from.old) (A.faults from.new) }
+    ensures leads { A.leads_to from.old from.new }
 {
     match look(alloc, from, form) {
         Ok(store) => Ok(store),
@@ -64,6 +65,8 @@ pub fn migrate<A: Disk, B: Disk>(
         (A.faults from.old) (A.faults from.new) }
     ensures target_fault { CountsFaultIf (IsErrOf result MigrateFault.ToFault)
         (B.faults to.old) (B.faults to.new) }
+    ensures old_leads { A.leads_to from.old from.new }
+    ensures target_leads { B.leads_to to.old to.new }
 {
     let Some(form) = election.as_version_one() else {
         return Err(MigrateFault::NoOldForm);

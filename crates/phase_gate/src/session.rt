@@ -117,6 +117,7 @@ impl Session {
             (around (output K.taken K.faults out.new) disk.new report.new) }
         ensures election { IfOk result (λ session. session.election ≡ self.election) }
         ensures telling { IfOk result (λ session. session.telling ≡ self.telling) }
+        ensures leads { D.leads_to disk.old disk.new }
     {
         let Session {
             gate,
@@ -168,6 +169,7 @@ fn prepare<D: Disk>(
         gate.now.closed.election gate.now.closed.ballots disk.old disk.new fault) }
     ensures marks { OnErr result (report.new.marks.items ≡ report.old.marks.items) }
     ensures held { report.new.held ≡ report.old.held }
+    ensures leads { D.leads_to disk.old disk.new }
 {
     match task {
         Task::Acknowledge => acknowledge(gate, disk, scratch, report),
@@ -193,6 +195,7 @@ fn acknowledge<D: Disk>(
         gate.now.closed.election gate.now.closed.ballots disk.old disk.new) }
     ensures marks { OnErr result (report.new.marks.items ≡ report.old.marks.items) }
     ensures held { report.new.held ≡ report.old.held }
+    ensures leads { D.leads_to disk.old disk.new }
 {
     if report.marks.reserve(1).is_err() {
         return Err(SessionFault::Memory);

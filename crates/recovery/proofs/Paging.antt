@@ -13,9 +13,9 @@ use Rattle.recovery.specs.Canonical.{IsReadAs, IsReadFrom}
 use Rattle.recovery.specs.Differing.{DiffersFirstAt, IsFirstDifference}
 use Rattle.recovery.specs.Faults.{recover_fault}
 use Rattle.recovery.specs.Refused.{IsRefusedMedium}
-use Rattle.store_spec.specs.Ballot.{Ballot}
+use Rattle.store_spec.specs.Ballot.{Ballot, IsBallotSet, IsWithinLimit}
 use Rattle.store_spec.specs.Election.{Election, IsElection, bank_size, medium_size}
-use Rattle.store_spec.specs.Image.{IsImageOf}
+use Rattle.store_spec.specs.Image.{IsImageOf, image_of}
 use Rattle.store_spec.specs.Medium.{Bank, bank_of}
 use Rattle.store_spec.specs.Medium.Bank.{A, B}
 
@@ -96,6 +96,14 @@ same_all xs ys at far near same = sym (take_all at xs far) ∙ same ∙ take_all
 
 pub stored_election : (e : Election) (store : Contents) → e ≡ store.election → IsStored store → IsElection e
 stored_election e store own stored = subst IsElection (sym own) stored.election
+
+-- what a store shows is the image of its set
+pub shown_image : (e : Election) (store : Contents) (image : List ℕ) → store.election ≡ e → IsStored store → image ≡ image_of store.election store.ballots → IsImageOf e image store.ballots
+shown_image e store image same stored is = record {
+  set = subst (λ (e : Election). IsBallotSet e store.ballots) same stored.set;
+  within_limit = subst (λ (e : Election). IsWithinLimit e store.ballots) same stored.within_limit;
+  bytes = is ∙ ap (λ e. image_of e store.ballots) same;
+}
 
 -- pages before it agree, and a page differs
 pub differs_in_page : (xs ys : List ℕ) (at k place : ℕ) → take at xs ≡ take at ys → DiffersFirstAt place (slice_range xs at (at + k)) (slice_range ys at (at + k)) → DiffersFirstAt (at + place) xs ys

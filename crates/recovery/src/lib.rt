@@ -8,4 +8,4 @@ mod restoring;
 
 pub use fault::{MediumWhy, RecoverFault};
 pub use reading::{choose, first_difference, look, read_bank};
-pub use restoring::{other_of, recover};
+pub use restoring::{make_canonical, other_of, recover};

@@ -41,6 +41,7 @@ pub fn look<D: Disk>(
     ensures later { D.calls disk.old ≤ D.calls disk.new }
     ensures fault { CountsFaultIf (IsErrOf result RecoverFault.DiskFault)
         (D.faults disk.old) (D.faults disk.new) }
+    ensures leads { D.leads_to disk.old disk.new }
 {
     let (bank, _) = choose(disk, election)?;
     read_bank(alloc, disk, election, bank)
@@ -55,6 +56,7 @@ pub fn choose<D: Disk>(disk: &mut D, election: &Election) -> Result<(Bank, bool)
     ensures reads { WritesNothing D.seen D.calls D.may_leave disk.old disk.new }
     ensures fault { CountsFaultIf (IsErrOf result RecoverFault.DiskFault)
         (D.faults disk.old) (D.faults disk.new) }
+    ensures leads { D.leads_to disk.old disk.new }
 {
     if disk.size()? != election.medium_bytes() {
         return Err(RecoverFault::NoStore);
@@ -85,6 +87,7 @@ pub fn read_bank<D: Disk>(
     ensures reads { WritesNothing D.seen D.calls D.may_leave disk.old disk.new }
     ensures fault { CountsFaultIf (IsErrOf result RecoverFault.DiskFault)
         (D.faults disk.old) (D.faults disk.new) }
+    ensures leads { D.leads_to disk.old disk.new }
 {
     let mut cells = CellsRead::new(alloc, election)?;
     let mut made = zeros(alloc, election)?;
@@ -113,6 +116,7 @@ fn read_pages<D: Disk>(
     ensures reads { WritesNothing D.seen D.calls D.may_leave disk.old disk.new }
     ensures fault { CountsFaultIf (IsErrOf result RecoverFault.DiskFault)
         (D.faults disk.old) (D.faults disk.new) }
+    ensures leads { D.leads_to disk.old disk.new }
 {
     let end = made.len();
     let mut at = 0;
@@ -151,6 +155,7 @@ pub fn first_difference<D: Disk>(
     ensures within { IfOk result (λ first. IfSome first (λ at. at < bank_size election.now)) }
     ensures reads { WritesNothing D.seen D.calls D.may_leave disk.old disk.new }
     ensures fault { CountsFault result (D.faults disk.old) (D.faults disk.new) }
+    ensures leads { D.leads_to disk.old disk.new }
 {
     let end = made.len();
     let mut at = 0;
@@ -181,6 +186,7 @@ pub(crate) fn has_bytes<D: Disk>(
         (λ bytes. IsTrue same ↔ (bytes_of election.now bank bytes ≡ made.now))) }
     ensures reads { WritesNothing D.seen D.calls D.may_leave disk.old disk.new }
     ensures fault { CountsFault result (D.faults disk.old) (D.faults disk.new) }
+    ensures leads { D.leads_to disk.old disk.new }
 {
     Ok(first_difference(disk, election, bank, made, found)?.is_none())
 }
@@ -203,6 +209,7 @@ fn page_difference<D: Disk>(
     ensures same_bytes { D.seen disk.new ≡ D.seen disk.old }
     ensures crash_images { KeepsCrashImages D.calls D.may_leave disk.old disk.new }
     ensures fault { CountsFault result (D.faults disk.old) (D.faults disk.new) }
+    ensures leads { D.leads_to disk.old disk.new }
 {
     read_page(disk, election, bank, at, found)?;
     Ok(first_differing(found, page))

@@ -66,6 +66,7 @@ pub fn recover<D: Disk>(
     ensures called { D.calls disk.new < last_count → D.calls disk.old < D.calls disk.new }
     ensures fault { CountsFaultIf (IsErrOf result RecoverFault.DiskFault)
         (D.faults disk.old) (D.faults disk.new) }
+    ensures leads { D.leads_to disk.old disk.new }
 {
     settle(disk)?;
     restore(alloc, disk, election, scratch)
@@ -102,6 +103,7 @@ fn restore<D: Disk>(
     ensures later { D.calls disk.old ≤ D.calls disk.new }
     ensures fault { CountsFaultIf (IsErrOf result RecoverFault.DiskFault)
         (D.faults disk.old) (D.faults disk.new) }
+    ensures leads { D.leads_to disk.old disk.new }
 {
     let (bank, open_too) = choose(disk, election)?;
     let closed = read_bank(alloc, disk, election, bank)?;
@@ -116,8 +118,9 @@ fn restore<D: Disk>(
     Ok(closed)
 }
 
-/// Makes the other bank and its gate agree with the bank that was read, which has these bytes.
-fn make_canonical<D: Disk>(
+/// Makes the other bank and its gate agree with the bank that was read, which has these bytes. At each moment a crash
+/// leaves what holds the same set.
+pub fn make_canonical<D: Disk>(
     disk: &mut D,
     election: &Election,
     bank: Bank,
@@ -148,6 +151,7 @@ fn make_canonical<D: Disk>(
         → ReadsOnly D.seen D.calls D.may_leave disk.old disk.new }
     ensures later { D.calls disk.old ≤ D.calls disk.new }
     ensures fault { CountsFault result (D.faults disk.old) (D.faults disk.new) }
+    ensures leads { D.leads_to disk.old disk.new }
 {
     let other = other_of(bank);
     if !open_too {

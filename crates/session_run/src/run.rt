@@ -36,11 +36,12 @@ pub fn run_session<R: Threads + Sync, S: Source, K: Sink, D: Disk, T: Turns>(
     requires election { IsElection election.now }
     requires marks { report.old.marks.items ≡ [] }
     requires held { report.old.held ≡ 0 }
-    ensures { SessionEnds (disk_model D.seen D.calls D.may_leave D.faults) (told_by telling)
+    ensures ends { SessionEnds (disk_model D.seen D.calls D.may_leave D.faults) (told_by telling)
         election.now result
         (input S.left S.faults script.old) (input S.left S.faults script.new)
         (around (output K.taken K.faults out.old) disk.old report.old)
         (around (output K.taken K.faults out.new) disk.new report.new) }
+    ensures leads { D.leads_to disk.old disk.new }
 {
     let mut scratch = Scratch::new(alloc)?;
     let mut lines = Lines::new(alloc)?;
@@ -80,11 +81,12 @@ fn play<R: Threads + Sync, S: Source, K: Sink, D: Disk, T: Turns>(
     requires nothing_kept { lines.old.text ≡ [] }
     requires room { lines.old.room ≡ script_limit }
     requires not_ended { lines.old.ended ≡ false }
-    ensures { GoesOn (disk_model D.seen D.calls D.may_leave D.faults) (told_by session.telling)
+    ensures ends { GoesOn (disk_model D.seen D.calls D.may_leave D.faults) (told_by session.telling)
         session.election session.state result
         (input S.left S.faults script.old) (input S.left S.faults script.new)
         (around (output K.taken K.faults out.old) disk.old report.old)
         (around (output K.taken K.faults out.new) disk.new report.new) }
+    ensures leads { D.leads_to disk.old disk.new }
 {
     let mut index = 0;
     let mut ballot = Record::blank();

@@ -20,7 +20,7 @@ returns-in_err-write_page-clause-any_moment g c =
     run_page g.D.Disk.calls g.D.Disk.may_leave e c.args.disk.now c.loop-at.disk c.write_page.new.disk (p + at) k within c.loop-at.invariant.unused c.write_page.ensures.crash_images
 
 pub loop-at-init : goal.loop-at-init
-loop-at-init g c = record { few = omega arith; written = grind (arith, common_steps); unused = search rules; no_fault = refl }
+loop-at-init g c = record { few = omega arith; written = grind (arith, common_steps); unused = search rules; no_fault = refl; leads = g.met.D.Disk.leads_to_itself c.args.disk.now }
 
 pub loop-at-preserved : goal.loop-at-preserved
 loop-at-preserved g c =
@@ -37,6 +37,7 @@ loop-at-preserved g c =
       written = page_next (g.D.Disk.seen c.write_page.new.disk) (g.D.Disk.seen c.loop-at.disk) (g.D.Disk.seen c.args.disk.now) image p at count within c.requires.begins c.loop-at.invariant.written c.in_ok-write_page.ensures.written;
       unused = run_page g.D.Disk.calls g.D.Disk.may_leave e c.args.disk.now c.loop-at.disk c.write_page.new.disk (p + at) k ends c.loop-at.invariant.unused c.write_page.ensures.crash_images;
       no_fault = c.in_ok-write_page.ensures.fault.steady ∙ c.loop-at.invariant.no_fault;
+      leads = g.met.D.Disk.leads_on _ _ _ c.loop-at.invariant.leads c.write_page.ensures.leads;
     }
 
 pub returns-clause-written : goal.returns-clause-written

@@ -11,6 +11,7 @@ invariant-loop-at g l = record {
   written : g.D.Disk.seen l.disk ≡ option_map (overwritten (place_of l.election l.bank) (take l.at l.made)) (g.D.Disk.seen l.fn.disk);
   unused : LeavesOnly g.D.Disk.calls g.D.Disk.may_leave l.fn.disk l.disk (IsUnused l.election);
   no_fault : g.D.Disk.faults l.disk ≡ g.D.Disk.faults l.fn.disk;
+  leads : g.D.Disk.leads_to l.fn.disk l.disk;
 }
 
 abbrev pub decreases-loop-at : goal.decreases-loop-at

@@ -35,6 +35,7 @@ loop-at-preserved g c =
           joined g.D.Disk.calls g.D.Disk.may_leave c.args.disk.now c.loop-at.disk c.renew_page.new.disk (IsTorn p (bank_size e) old) so_far (c.renew_page.ensures.any_moment old so_far.now);
       later = omega (arith, c.loop-at.invariant.later, c.renew_page.ensures.later);
       no_fault = c.in_ok-renew_page.ensures.fault.steady ∙ c.loop-at.invariant.no_fault;
+      leads = g.met.D.Disk.leads_on _ _ _ c.loop-at.invariant.leads c.renew_page.ensures.leads;
     }
 
 pub returns-clause-written : goal.returns-clause-written

@@ -12,6 +12,7 @@ invariant-loop-at g l = record {
   torn : (old : List ℕ) → g.D.Disk.seen l.fn.disk ≡ Some old → LeavesOnly g.D.Disk.calls g.D.Disk.may_leave l.fn.disk l.disk (IsTorn (place_of l.election l.bank) (bank_size l.election) old);
   later : g.D.Disk.calls l.fn.disk ≤ g.D.Disk.calls l.disk;
   no_fault : g.D.Disk.faults l.disk ≡ g.D.Disk.faults l.fn.disk;
+  leads : g.D.Disk.leads_to l.fn.disk l.disk;
 }
 
 abbrev pub decreases-loop-at : goal.decreases-loop-at

@@ -16,6 +16,7 @@ loop-place-init g c = record {
   few = omega (arith, c.requires.one);
   steady = zip_same (λ old new. g.B.Disk.faults new ≡ g.B.Disk.faults old) (λ disk. refl) c.args.more.now;
   reads = zip_same (WritesNothing g.B.Disk.seen g.B.Disk.calls g.B.Disk.may_leave) (nothing_called g.B.Disk.seen g.B.Disk.calls g.B.Disk.may_leave) c.args.more.now;
+  leads = zip_same g.B.Disk.leads_to g.met.B.Disk.leads_to_itself c.args.more.now;
   rest = refl;
 }
 
@@ -58,6 +59,16 @@ returns-in_err-join-clause-reads g c =
     zip_set (WritesNothing g.B.Disk.seen g.B.Disk.calls g.B.Disk.may_leave) first now place old c.join.new.disk c.loop-place.invariant.reads
     (get_or_from_slice_get first place old old there) c.join.ensures.reads
 
+pub returns-in_err-join-clause-leads : goal.returns-in_err-join-clause-leads
+returns-in_err-join-clause-leads g c =
+    let first = c.args.more.now in
+    let now = c.loop-place.more in
+    let place = c.loop-place.place in
+    let old = get_or now place c.index-more-place.result in
+    let there = stood_there first now place c.index-more-place.result c.loop-place.auto.more c.loop-place.invariant.rest (omega (arith, c.loop-place.auto.more)) c.index-more-place.is ∙ ap Some c.index-more-place.is in
+    zip_set g.B.Disk.leads_to first now place old c.join.new.disk c.loop-place.invariant.leads
+    (get_or_from_slice_get first place old old there) c.join.ensures.leads
+
 pub loop-place-preserved : goal.loop-place-preserved
 loop-place-preserved g c =
     let model = disk_model g.B.Disk.seen g.B.Disk.calls g.B.Disk.may_leave g.B.Disk.faults in
@@ -81,5 +92,7 @@ loop-place-preserved g c =
           (get_or_from_slice_get first place old old there) c.in_ok-join.ensures.steady;
       reads = zip_set (WritesNothing g.B.Disk.seen g.B.Disk.calls g.B.Disk.may_leave) first now place old c.join.new.disk c.loop-place.invariant.reads
           (get_or_from_slice_get first place old old there) c.join.ensures.reads;
+      leads = zip_set g.B.Disk.leads_to first now place old c.join.new.disk c.loop-place.invariant.leads
+          (get_or_from_slice_get first place old old there) c.join.ensures.leads;
       rest = rest_still first now place c.join.new.disk c.loop-place.invariant.rest;
     }

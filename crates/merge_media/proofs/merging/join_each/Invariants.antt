@@ -18,5 +18,6 @@ invariant-loop-place g l = record {
   few : length l.union.ballots ≤ (l.place + 1) * most_ballots;
   steady : NoneRose (disk_model g.B.Disk.seen g.B.Disk.calls g.B.Disk.may_leave g.B.Disk.faults) l.initial.more l.more;
   reads : AllZip (WritesNothing g.B.Disk.seen g.B.Disk.calls g.B.Disk.may_leave) l.initial.more l.more;
+  leads : AllZip g.B.Disk.leads_to l.initial.more l.more;
   rest : drop l.place l.more ≡ drop l.place l.initial.more;
 }

@@ -1,9 +1,10 @@
 use Rattle.std.proofs.Common.{◌∷◌, length, sym, ap, subst, ◌∙◌, arith}
 use Rattle.body_store.specs.Contents.{Contents}
 use Rattle.merge_media.proofs.Media.{handed_on, zip_same}
-use Rattle.merge_media.proofs.Merged.{begun_run, medium_now, medium_then, merged_run, refuses_all, refuses_begun, refuses_joining}
+use Rattle.merge_media.proofs.Merged.{begun_run, merged_run, refuses_all, refuses_begun, refuses_joining}
 use Rattle.merge_media.proofs.merging.merge.Goals as goal
 use Rattle.merge_media.specs.Merging.{MergeRefuses}
+use Rattle.recovery.proofs.Recovered.{medium_now, medium_then}
 use Rattle.recovery.proofs.OnlyReading.{nothing_called}
 use Rattle.recovery.specs.ReadsOnly.{WritesNothing}
 use Rattle.store_spec.specs.Disk.{disk_model}
@@ -34,6 +35,9 @@ returns-in_err-join_each-clause-refused g c =
 pub returns-in_err-union-clause-reads : goal.returns-in_err-union-clause-reads
 returns-in_err-union-clause-reads g c =
     zip_same (WritesNothing g.B.Disk.seen g.B.Disk.calls g.B.Disk.may_leave) (nothing_called g.B.Disk.seen g.B.Disk.calls g.B.Disk.may_leave) c.args.more.now
+
+pub returns-in_err-union-clause-others_lead : goal.returns-in_err-union-clause-others_lead
+returns-in_err-union-clause-others_lead g c = zip_same g.B.Disk.leads_to g.met.B.Disk.leads_to_itself c.args.more.now
 
 pub returns-in_err-join_each-clause-any_moment : goal.returns-in_err-join_each-clause-any_moment
 returns-in_err-join_each-clause-any_moment g c bytes set sees holds =

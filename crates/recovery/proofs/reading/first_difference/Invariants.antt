@@ -11,6 +11,7 @@ invariant-loop-at g l = record {
   same : IfSome (g.D.Disk.seen l.fn.disk) (λ bytes. take l.at (bytes_of l.election l.bank bytes) ≡ take l.at l.made);
   reads : WritesNothing g.D.Disk.seen g.D.Disk.calls g.D.Disk.may_leave l.fn.disk l.disk;
   no_fault : g.D.Disk.faults l.disk ≡ g.D.Disk.faults l.fn.disk;
+  leads : g.D.Disk.leads_to l.fn.disk l.disk;
 }
 
 abbrev pub decreases-loop-at : goal.decreases-loop-at

@@ -64,6 +64,7 @@ loop-at-preserved g c =
       fed = subst (λ (n : ℕ). IsFedFrom e (bank_named c.args.bank) (g.D.Disk.seen c.args.disk.now) (at + n) next) long fed;
       reads = nothing_on g.D.Disk.seen g.D.Disk.calls g.D.Disk.may_leave c.args.disk.now c.loop-at.disk c.read_page.new.disk c.loop-at.invariant.reads c.read_page.ensures.same_bytes c.read_page.ensures.crash_images;
       no_fault = c.in_ok-read_page.ensures.fault.steady ∙ c.loop-at.invariant.no_fault;
+      leads = g.met.D.Disk.leads_on _ _ _ c.loop-at.invariant.leads c.read_page.ensures.leads;
     }
 
 pub returns-clause-read : goal.returns-clause-read

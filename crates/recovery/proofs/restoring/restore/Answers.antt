@@ -8,23 +8,12 @@ use Rattle.recovery.specs.Refused.{IsUnharmedAt}
 use Rattle.recovery.specs.declared.fault.RecoverFault.{RecoverFault}
 use Rattle.recovery.specs.declared.fault.RecoverFault.TheVariants.{DiskFault}
 use Rattle.store_spec.specs.Disk.{disk_model}
-use Rattle.recovery.proofs.Paging.{stored_election}
+use Rattle.recovery.proofs.Paging.{shown_image, stored_election}
 use Rattle.recovery.proofs.Runs.{looked, restored_told}
 use Rattle.recovery.proofs.restoring.restore.Goals as goal
 use Rattle.recovery.specs.Canonical.{IsReadAs}
-use Rattle.body_store.specs.Contents.{Contents, IsStored}
-use Rattle.store_spec.specs.Ballot.{IsBallotSet, IsWithinLimit}
-use Rattle.store_spec.specs.Election.{Election}
-use Rattle.store_spec.specs.Image.{IsImageOf, image_of}
+use Rattle.store_spec.specs.Image.{image_of}
 use Rattle.store_spec.specs.Medium.{IsMediumOf}
-
--- what a store shows is the image of its set
-shown_image : (e : Election) (store : Contents) (image : List ℕ) → store.election ≡ e → IsStored store → image ≡ image_of store.election store.ballots → IsImageOf e image store.ballots
-shown_image e store image same stored is = record {
-  set = subst (λ (e : Election). IsBallotSet e store.ballots) same stored.set;
-  within_limit = subst (λ (e : Election). IsWithinLimit e store.ballots) same stored.within_limit;
-  bytes = is ∙ ap (λ e. image_of e store.ballots) same;
-}
 
 pub make_canonical-requires-clause-election : goal.make_canonical-requires-clause-election
 make_canonical-requires-clause-election g c = stored_election c.args.election.now c.in_ok-closed.closed (sym c.in_ok-closed.ensures.election) c.in_ok-closed.ensures.stored

@@ -28,10 +28,11 @@ lines-init g c =
       telling = refl;
       counted = room_of c.args.lines.now.room c.requires.room;
       no_fault = refl;
+      leads = g.met.D.Disk.leads_to_itself c.args.disk.now;
     }
 
-pub returns-in_err-next_line : goal.returns-in_err-next_line
-returns-in_err-next_line g c =
+pub returns-in_err-next_line-clause-ends : goal.returns-in_err-next_line-clause-ends
+returns-in_err-next_line-clause-ends g c =
     let model = disk_model g.D.Disk.seen g.D.Disk.calls g.D.Disk.may_leave g.D.Disk.faults in
     let tell = told_by c.args.session.telling in
     let e = c.args.session.election in
@@ -49,8 +50,8 @@ returns-in_err-next_line g c =
     c.next_line.new.self old mid new start now c.lines.invariant.read c.lines.invariant.no_fault why said.answers
     said.gives said.within_room said.none_whole said.fault)
 
-pub returns-in_err-end-in-End : goal.returns-in_err-end-in-End
-returns-in_err-end-in-End g c =
+pub returns-in_err-end-in-End-clause-ends : goal.returns-in_err-end-in-End-clause-ends
+returns-in_err-end-in-End-clause-ends g c =
     let model = disk_model g.D.Disk.seen g.D.Disk.calls g.D.Disk.may_leave g.D.Disk.faults in
     let tell = told_by c.args.session.telling in
     let e = c.args.session.election in
@@ -73,8 +74,8 @@ returns-in_err-end-in-End g c =
     (subst (λ (t : Telling). LastEnds (told_by t) c.lines.session.state.phase (Err why) now.sink sink)
     c.lines.invariant.telling c.in_err-end-in-End.ensures))
 
-pub returns-in-End : goal.returns-in-End
-returns-in-End g c =
+pub returns-in-End-clause-ends : goal.returns-in-End-clause-ends
+returns-in-End-clause-ends g c =
     let model = disk_model g.D.Disk.seen g.D.Disk.calls g.D.Disk.may_leave g.D.Disk.faults in
     let tell = told_by c.args.session.telling in
     let old = input g.S.Source.left g.S.Source.faults c.args.script.now in
@@ -90,8 +91,8 @@ returns-in-End g c =
     (subst (λ (t : Telling). LastEnds (told_by t) c.lines.session.state.phase (Ok tt) now.sink sink)
     c.lines.invariant.telling c.in_ok-end-in-End.ensures)
 
-pub returns-in_err-queue : goal.returns-in_err-queue
-returns-in_err-queue g c =
+pub returns-in_err-queue-clause-ends : goal.returns-in_err-queue-clause-ends
+returns-in_err-queue-clause-ends g c =
     let model = disk_model g.D.Disk.seen g.D.Disk.calls g.D.Disk.may_leave g.D.Disk.faults in
     let tell = told_by c.args.session.telling in
     let e = c.args.session.election in
@@ -115,8 +116,8 @@ returns-in_err-queue g c =
     c.in_ok-next_line.field-0 said.answers (no_fault said.fault) c.match-branch-2.line.now brought said.progress
     said.within_room session.Memory now (inl refl))
 
-pub returns-in_err-session : goal.returns-in_err-session
-returns-in_err-session g c =
+pub returns-in_err-session-clause-ends : goal.returns-in_err-session-clause-ends
+returns-in_err-session-clause-ends g c =
     let model = disk_model g.D.Disk.seen g.D.Disk.calls g.D.Disk.may_leave g.D.Disk.faults in
     let tell = told_by c.args.session.telling in
     let e = c.args.session.election in
@@ -180,6 +181,7 @@ lines-preserved g c =
       counted = counts_line index c.lines.lines.room c.next_line.new.self.room (takes_room brought said.progress)
           c.lines.invariant.counted;
       no_fault = steady ∙ c.lines.invariant.no_fault;
+      leads = c.lines.invariant.leads;
     }
 
 pub lines-preserved-then-not-branch : goal.lines-preserved-then-not-branch
@@ -219,4 +221,5 @@ lines-preserved-then-not-branch g c =
       counted = counts_line index c.lines.lines.room c.next_line.new.self.room (takes_room brought said.progress)
           c.lines.invariant.counted;
       no_fault = steady ∙ c.lines.invariant.no_fault;
+      leads = g.met.D.Disk.leads_on _ _ _ c.lines.invariant.leads c.line.ensures.leads;
     }

@@ -19,6 +19,7 @@ invariant-lines g l = record {
   telling : l.session.telling ≡ l.fn.session.telling;
   counted : l.index + l.lines.room ≤ script_limit;
   no_fault : g.S.Source.faults l.script ≡ g.S.Source.faults l.fn.script;
+  leads : g.D.Disk.leads_to l.fn.disk l.disk;
 }
 
 -- each line takes a byte or more of the room

@@ -10,8 +10,8 @@ use Rattle.session_run.specs.Faults.{recover_fault}
 use Rattle.store_spec.specs.Disk.{disk_model}
 use Rattle.store_spec.specs.Election.{Election, IsElection}
 
-pub returns-in_err-lines : goal.returns-in_err-lines
-returns-in_err-lines g c =
+pub returns-in_err-lines-clause-ends : goal.returns-in_err-lines-clause-ends
+returns-in_err-lines-clause-ends g c =
     let model = disk_model g.D.Disk.seen g.D.Disk.calls g.D.Disk.may_leave g.D.Disk.faults in
     let script = input g.S.Source.left g.S.Source.faults c.args.script.now in
     let before = around (output g.K.Sink.taken g.K.Sink.faults c.args.out.now) c.args.disk.now c.args.report.now in
@@ -19,8 +19,8 @@ returns-in_err-lines g c =
     (sym (answer_is c.from_residual-in_err-lines.result _ c.from_residual-in_err-lines.ensures.1))
     (no_memory model c.args.election.now (told_by c.args.telling) script before c.requires.marks c.requires.held)
 
-pub returns-in_err-closed : goal.returns-in_err-closed
-returns-in_err-closed g c =
+pub returns-in_err-closed-clause-ends : goal.returns-in_err-closed-clause-ends
+returns-in_err-closed-clause-ends g c =
     let model = disk_model g.D.Disk.seen g.D.Disk.calls g.D.Disk.may_leave g.D.Disk.faults in
     let script = input g.S.Source.left g.S.Source.faults c.args.script.now in
     let before = around (output g.K.Sink.taken g.K.Sink.faults c.args.out.now) c.args.disk.now c.args.report.now in
@@ -44,8 +44,8 @@ play-requires-clause-medium g c κs outlives =
     medium_of model c.args.election.now c.telling-session.result.election c.in_ok-closed.closed.ballots
     c.args.disk.now c.recover.new.disk (sym (c.telling-session.ensures.election ∙ did.election)) did.settled did.medium
 
-pub returns : goal.returns
-returns g c =
+pub returns-clause-ends : goal.returns-clause-ends
+returns-clause-ends g c =
     let model = disk_model g.D.Disk.seen g.D.Disk.calls g.D.Disk.may_leave g.D.Disk.faults in
     let did = c.in_ok-closed.ensures in
     let e = c.args.election.now in
@@ -63,7 +63,7 @@ returns g c =
     (input g.S.Source.left g.S.Source.faults c.play.new.script) mid
     (around (output g.K.Sink.taken g.K.Sink.faults c.play.new.out) c.play.new.disk c.play.new.report) closed.ballots
     before (ap told_by c.telling-session.ensures.telling) (c.telling-session.ensures.election ∙ did.election)
-    c.play.ensures
+    c.play.ensures.ends
     (has_begun model e closed begun.state before c.recover.new.disk c.len.result did.held did.election did.stored
     c.telling-session.ensures.begun c.requires.marks c.len.ensures.count did.told
     (medium_now model e closed.ballots c.args.disk.now c.recover.new.disk did.settled did.medium) did.later
