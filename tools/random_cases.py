@@ -19,11 +19,11 @@ from store_model import Rules
 GOLDEN = 0x9E3779B97F4A7C15
 MORE = [f"MORE{k}" for k in range(1, 9)]
 NAMES = {"MEDIUM": "medium", "ELECTION": "election.json"} | {name: name.lower() for name in MORE}  # of the files
-# The commands that a run is made of, and how often. Later ones (twin, part) get a line here and, where it says how many
+# The commands that a run is made of, and how often. A later one (part) gets a line here and, where it says how many
 # further media they have, in FURTHER; and a function that makes their scripts.
 COMMANDS = {"session": 50, "audit": 12, "sample": 7, "compare": 7, "build": 8, "large": 4, "replay": 8, "init": 6,
-            "merge": 16, "migrate": 16, "words": 4, "odd": 3}
-FURTHER = {"merge": [1, 1, 2, 2, 3, 4, 8], "migrate": [1]}
+            "merge": 16, "migrate": 16, "twin": 16, "words": 4, "odd": 3}
+FURTHER = {"merge": [1, 1, 2, 2, 3, 4, 8], "migrate": [1], "twin": [1]}
 BAD_LINES = ["", " ", "\r", "\0", "close ", " close", "close\r", "Close", "checkpoint 1", "export\t", "tally\0", "open",
              "open cast", "open cast 0", "open cast 65", "open cast 01", "open  cast 1", "open cast 1 ", "open count 1",
              "open cast 1\r", "cast", "cast 1", "cast 1 ", "cast 0 1 1 1", "cast 65 1 1 1", "cast 01 1 1 1", "find 1 0",
@@ -156,11 +156,7 @@ class Maker:
         edits, other = [], self.sheaf(min(limit, 60))
         ballots = self.sheaf(min(limit, 60) + (rng.random() < 0.04))  # one more than the limit fits the cells
         if rng.random() < torn:
-            edits += rng.choice([[["gate", 1, 0]], [["gate", 1, rng.randrange(256)], ["torn", 1, *self.range()]],
-                                 [["other", 1], ["gate", 1, rng.randrange(256)]], [["other", 1]],
-                                 [["gate", 0, 0], ["other", 1], ["torn", 0, *self.range()]],
-                                 [["gate", 0, rng.randrange(256)], ["other", 1]],
-                                 [["gate", 0, rng.randrange(256)], ["gate", 1, rng.randrange(256)]]])
+            edits += self.tears()
         while rng.random() < damaged:
             edits.append(rng.choice([["byte", rng.getrandbits(32), rng.randrange(256)], ["gate", rng.randrange(2), 0],
                                      ["byte", rng.randrange(32), rng.randrange(256)],
@@ -169,6 +165,21 @@ class Maker:
                                      ["torn", rng.randrange(2), *self.range()],
                                      ["size", rng.choice([-1, 1, -2, 10, -10**6, rng.randint(-400, 400)])]]))
         return {"ballots": ballots, "other": other, "edits": edits}
+
+    def tears(self):
+        """The edits of a medium that was stopped on the way from one set to another."""
+        rng = self.rng
+        return rng.choice([[["gate", 1, 0]], [["gate", 1, rng.randrange(256)], ["torn", 1, *self.range()]],
+                           [["other", 1], ["gate", 1, rng.randrange(256)]], [["other", 1]],
+                           [["gate", 0, 0], ["other", 1], ["torn", 0, *self.range()]],
+                           [["gate", 0, rng.randrange(256)], ["other", 1]],
+                           [["gate", 0, rng.randrange(256)], ["gate", 1, rng.randrange(256)]]])
+
+    def losses(self):
+        """The edits of a medium that is lost: it is too small, or its gates are closed."""
+        rng = self.rng
+        return rng.choice([[["size", -10**9]], [["size", -rng.randint(1, 900)]],
+                           [["gate", bank, rng.choice([0, 0x27, 0xA6, 255])] for bank in (0, 1)]])
 
     def old_medium(self, torn=0.3, strange=0.06):
         """A medium of version 1 under an election of version 2; the strange ones are none or damaged, or of another
@@ -184,8 +195,7 @@ class Maker:
         rng, told = self.rng, self.medium(0.3, 0.2, 0.3)
         if told and rng.random() >= used:
             told["under"] = {"version": 1} if rng.random() < 0.15 else {}
-            told["edits"] += rng.choice([[["size", -10**9]], [["size", -rng.randint(1, 900)]],
-                                         [["gate", bank, rng.choice([0, 0x27, 0xA6, 255])] for bank in (0, 1)]])
+            told["edits"] += self.losses()
         elif told:
             told["edits"] += rng.choice([[], [["gate", rng.randrange(2), 0]], [["size", 1]],
                                          [["size", rng.randint(1, 900)]]])
@@ -206,12 +216,35 @@ class Maker:
                 media.append({"name": name, "under": under} | told)
         return media
 
+    def twin(self, medium, torn=0.35, lost=0.25, strange=0.08):
+        """A disk beside this one, mostly with the same set or as another stop left it; the strange ones are damaged,
+        too large, or of another election."""
+        rng, told = self.rng, self.medium(torn, strange, lost / 2)
+        if told and medium and rng.random() < 0.75:
+            names = ["ballots", "other"] if rng.random() < 0.8 else ["other", "ballots"]
+            told |= {name: list(medium[of]) for name, of in zip(("ballots", "other"), names)}
+        if told and rng.random() < lost / 2:
+            told["edits"] += self.losses()
+        elif told and rng.random() < strange:
+            told |= rng.choice([{"under": self.other_election()},
+                                {"edits": told["edits"] + [["size", rng.choice([1, 2, rng.randint(1, 900)])]]}])
+        return told
+
+    def pair(self):
+        """A medium, and disks beside it for all names."""
+        names = MORE if self.told["limit"] < 1000 else MORE[:1]
+        medium = self.twin(None)
+        beside = [{"name": name} | told for name in names for told in [self.twin(medium)] if told]
+        return medium, beside
+
     def media(self, commands, migrates):
         """The medium and the further media of a case with these commands."""
         if "merge" in commands:
             self.overlap()
         if migrates:
             return self.old_medium(), self.further(targets=0.7)
+        if "twin" in commands and self.rng.random() < 0.9:
+            return self.pair()
         if FURTHER.keys().isdisjoint(commands):
             return self.medium(), []
         return self.medium(0.2, 0.05, 0.1), self.further()
@@ -303,7 +336,7 @@ class Maker:
         rng = self.rng
         more = rng.sample(MORE, rng.choice(FURTHER[command]))
         words = ["MEDIUM", "ELECTION", command, *more]
-        one = command == "migrate"  # which has one word more, so that another mostly takes its place
+        one = command != "merge"  # which has one word more, so that another mostly takes its place
         if rng.random() < (0.03 if one else 0.1):  # a further medium and the target change places
             words[0], words[3] = words[3], words[0]
         if rng.random() < 0.1 and len(more) < 8:  # one medium under two names
@@ -315,17 +348,20 @@ class Maker:
             words[at:at + (one and rng.random() < 0.7)] = [odd]
         elif rng.random() < 0.03:
             words[3:] = rng.choice([[], MORE, MORE + ["MORE9"]])
+        script = ["nobody reads this", ""]
+        if command == "twin":
+            script = self.script(rng.choice([0, 0, 1, 1, 2, 3]), badness=rng.choice([0, 0.02, 0.1]))
         output = "full" if rng.random() < 0.05 else "pipe"
-        return {"words": words, "script": ["nobody reads this", ""], "output": output}
+        return {"words": words, "script": script, "output": output}
 
     def words(self):
         rng = self.rng
         pool = ["MEDIUM", "ELECTION", "init", "session", "audit", "sample", "compare", "build", "large", "replay",
-                "merge", "migrate", "", "-", "--help", "--seed", "1", "01", "--count", "--tabs", "65", "0", "32769",
-                "4294967296", "1" * 65, "x", "--seed=1"]
+                "merge", "migrate", "twin", "", "-", "--help", "--seed", "1", "01", "--count", "--tabs", "65", "0",
+                "32769", "4294967296", "1" * 65, "x", "--seed=1"]
         whole = rng.choice([["MEDIUM", "ELECTION", "large", "--seed", "1", "--count", "5", "--tabs", "1"],
                             ["MEDIUM", "ELECTION", "sample", "123", "2"], ["MEDIUM", "ELECTION", "audit"],
-                            ["MEDIUM", "ELECTION", "merge", "MORE1"], ["MEDIUM", "ELECTION", "migrate", "MORE1"]])
+                            *(["MEDIUM", "ELECTION", command, "MORE1"] for command in FURTHER)])
         if rng.random() < 0.3:
             return rng.choices(pool, k=rng.randint(0, 5))
         at = rng.randrange(len(whole))
@@ -345,10 +381,13 @@ class Maker:
 
 
 def onto_targets(rng, runs):
-    """Lets runs that come after a migration mostly have its target as their medium."""
+    """Lets runs that come after a migration mostly have its target as their medium, and those after a pair its second
+    disk, as the second disk or alone."""
     target = None
     for words in (run["words"] for run in runs):
-        if words[2:3] == ["migrate"]:
+        if words[2:3] in (["migrate"], ["twin"]):
+            if words[2] == "twin" and target and target != words[0] and len(words) == 4 and rng.random() < 0.6:
+                words[3] = target
             target = words[3] if words[3:] and words[3] in MORE else target
         elif target and words[:2] == ["MEDIUM", "ELECTION"] and FURTHER.keys().isdisjoint(words):
             words[0] = target if rng.random() < 0.6 else words[0]
@@ -370,6 +409,8 @@ def case(rng):
     (medium, more), runs = maker.media(commands, migrates), []
     if migrates:
         commands += rng.choices(["audit", "session", "migrate"], k=rng.choice([0, 1, 2]))
+    elif "twin" in commands:
+        commands += rng.choices(["audit", "session", "twin"], k=rng.choice([0, 1, 2]))
     elif medium is None and rng.random() < 0.8:
         runs.append(maker.run("init"))
         if rng.random() < 0.1:

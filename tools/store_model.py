@@ -16,8 +16,8 @@ RECORD = re.compile(rb"(" + NUMBER + rb") ([1-9][0-9]{0,2}) ([-0-9,/]+)\Z")
 GROUP = re.compile(rb"-\Z|[1-9][0-9]?(,[1-9][0-9]?)*\Z")
 PHASES = {b"cast": "casting", b"withdraw": "withdrawing", b"find": "finding"}
 TEXTS = {9: "no store", 11: "other election"}
-FAULT = "fault"  # in place of the bytes of a further medium which the disk doesn't give
-FURTHER = {"merge": range(1, 9), "migrate": [1]}  # of each command over further media, how many they may be
+FAULT = "fault"  # in place of the bytes of a medium which the disk doesn't give
+FURTHER = {"merge": range(1, 9), "migrate": [1], "twin": [1]}  # how many media a command may have beside the first
 
 
 class Doubt(Exception):
@@ -146,6 +146,39 @@ class Rules:
         if target and len(target) == size and OPEN_GATE in target[-2:]:
             return (19, "ballot_store: medium 1 in use\n", b""), None
         return (0, "", b"migrated %d\n" % len(held)), held
+
+    def looked_at(self, medium, index):
+        """The set of one of two disks, None where the disk is lost, or a status and standard error; index 1 is the
+        second disk."""
+        if medium == FAULT:
+            return (17, "ballot_store: disk fault at medium 1\n") if index else (5, "ballot_store: disk fault\n")
+        where = ": medium 1 " if index else ": "
+        if medium and len(medium) > 2 * self.election.image_size() + 2:
+            return 18 if index else 13, f"ballot_store{where}wrong size {len(medium)}\n"
+        try:
+            return self.held(medium)
+        except Finding as finding:
+            status, error = refusal(finding)
+            return None if status == 9 else (20 if index else status, error.replace(": ", where, 1))
+
+    def pair(self, first, second, unmade=()):
+        """How the pairing of two disks with these bytes ends: status and standard error, the line that it writes, and
+        the set that both hold then; no set where they stay as they were. A disk is a FAULT where it gives nothing.
+        Where it is lost and stands in `unmade`, as 0 or 1, its medium cannot be made; the other is recovered or not."""
+        sets = []
+        for index, medium in enumerate((first, second)):
+            sets.append(self.looked_at(medium, index))
+            if type(sets[index]) is tuple:
+                return sets[index], b"", None
+        if sets == [None, None]:
+            return (9, "ballot_store: no store\n"), b"", None
+        held = sets[0] if sets[0] is not None else sets[1]
+        if None not in sets:
+            return (0, ""), b"media equal\n" if sets[0] == sets[1] else b"media differed\n", held
+        lost = sets.index(None)
+        if lost in unmade:
+            return self.looked_at(FAULT, lost), b"", held
+        return (0, ""), b"media second-restored\n" if lost else b"media first-restored\n", held
 
     def tally(self, held):
         lines = [f"tally {len(held)}"]

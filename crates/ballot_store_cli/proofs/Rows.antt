@@ -1,9 +1,9 @@
 -- The rows of all commands: their laws, and that their words tell them apart.
-use Rattle.std.proofs.Common.{◌≡◌, ℕ, ◌+◌, ◌*◌, ◌≤◌, List, [], ◌∷◌, Option, Some, None, Result, Ok, Err, ap, arith, refl, sym, ◌∙◌}
+use Rattle.std.proofs.Common.{◌≡◌, ℕ, ◌+◌, ◌*◌, ◌≤◌, List, [], ◌∷◌, Option, Some, None, Result, Ok, Err, ap, arith, refl, subst, sym, true, ◌∙◌}
 use Rattle.std.specs.Prelude.{IfErr, IfNone, IfOk, IfSome, codes, length}
 use Rattle.ballot_store_cli.specs.Command.{Forms, row}
 use Rattle.ballot_store_cli.specs.declared.command.Command.{Command}
-use Rattle.ballot_store_cli.specs.declared.command.Command.TheVariants.{Build, Init, Session, Audit, Replay, Large, Sample, Compare, Merge, Migrate}
+use Rattle.ballot_store_cli.specs.declared.command.Command.TheVariants.{Build, Init, Session, Audit, Replay, Large, Sample, Compare, Merge, Migrate, Twin}
 use Rattle.large_options.proofs.Orders.{one_reading, ordered}
 use Rattle.large_options.specs.Options.{AreOptions, IsOptions}
 use Rattle.large_options.specs.declared.options.Options.{Options}
@@ -12,9 +12,8 @@ use Rattle.medium_commands.proofs.InitLaws.{init_laws}
 use Rattle.merge_commands.proofs.MergeLaws.{merge_laws}
 use Rattle.merge_commands.specs.Merge.{AreFew, merge_row}
 use Rattle.migrate_commands.proofs.MigrateLaws.{migrate_laws}
-use Rattle.migrate_commands.specs.Migrate.{IsOne, migrate_row}
 use Rattle.run_outcome.proofs.Laws.{Laws}
-use Rattle.run_outcome.specs.Row.{IsNamed}
+use Rattle.run_outcome.specs.Row.{AreMediaIf, IsNamed, IsOne}
 use Rattle.sample_commands.proofs.Asking.{none_asked, one_asked}
 use Rattle.sample_commands.proofs.CompareLaws.{compare_laws}
 use Rattle.sample_commands.proofs.SampleLaws.{sample_laws}
@@ -24,6 +23,7 @@ use Rattle.script_commands.proofs.BuildLaws.{build_laws}
 use Rattle.script_commands.proofs.ReplayLaws.{replay_laws}
 use Rattle.session_commands.proofs.LargeLaws.{large_laws}
 use Rattle.session_commands.proofs.SessionLaws.{session_laws}
+use Rattle.twin_commands.proofs.TwinLaws.{twin_laws}
 
 -- the laws of each row
 pub laws : (c : Command) → Laws (row c)
@@ -37,6 +37,7 @@ laws (Sample asked) = sample_laws asked
 laws (Compare asked) = compare_laws asked
 laws Merge = merge_laws
 laws Migrate = migrate_laws
+laws Twin = twin_laws
 
 -- ---- commands are told apart by their words
 
@@ -63,6 +64,7 @@ one_row (Sample a) (Sample b) words same x y = ap Sample (one_asked words a b x 
 one_row (Compare a) (Compare b) words same x y = ap Compare (one_asked words a b x y)
 one_row Merge Merge words same x y = refl
 one_row Migrate Migrate words same x y = refl
+one_row Twin Twin words same x y = refl
 one_row a b words same x y = absurd (omega (arith, ap number_of same))
 
 -- ---- a word alone
@@ -78,8 +80,8 @@ none_given words none o =
 no_media : AreFew [] → ⊥
 no_media few = absurd (omega (arith, few.some))
 
-no_target : IsOne [] → ⊥
-no_target one = absurd (omega (arith, one))
+none_further : IsOne [] → ⊥
+none_further one = absurd (omega (arith, one))
 
 -- it is the word of no command that takes no further words
 pub record IsOther (word : List ℕ) : Type 0 where
@@ -99,7 +101,8 @@ names_none word other (Large o) medium is = none_given [] refl (o.seed, o.count,
 names_none word other (Sample asked) medium is = none_asked asked is.further
 names_none word other (Compare asked) medium is = none_asked asked is.further
 names_none word other Merge medium is = no_media is.further
-names_none word other Migrate medium is = no_target is.further
+names_none word other Migrate medium is = none_further is.further
+names_none word other Twin medium is = none_further is.further
 
 -- ---- a word with others behind it
 
@@ -139,9 +142,13 @@ module _ (medium word : List ℕ) (words : List (List ℕ)) where
   names_no_merge same none Merge is = none (record { word = refl; further = is.further; media = is.media })
   names_no_merge same none other is = omega (arith, ap number_of (sym is.word ∙ same))
 
-  names_no_migrate : word ≡ codes "migrate" → (IsNamed migrate_row medium (codes "migrate") words → ⊥) → NamesNone
-  names_no_migrate same none Migrate is = none (record { word = refl; further = is.further; media = is.media })
+  names_no_migrate : word ≡ codes "migrate" → ((IsOne words × AreMediaIf true medium words) → ⊥) → NamesNone
+  names_no_migrate same none Migrate is = none (is.further, is.media)
   names_no_migrate same none other is = omega (arith, ap number_of (sym is.word ∙ same))
+
+  names_no_twin : word ≡ codes "twin" → ((IsOne words × AreMediaIf true medium words) → ⊥) → NamesNone
+  names_no_twin same none Twin is = none (is.further, is.media)
+  names_no_twin same none other is = omega (arith, ap number_of (sym is.word ∙ same))
 
   -- words that ask for no sample name none
   pub no_sample : (found : Option Command) → word ≡ codes "sample" → IfNone found ((asked : Asked) → IsAsked words asked → ⊥) → IfNone found NamesNone
@@ -153,8 +160,17 @@ module _ (medium word : List ℕ) (words : List (List ℕ)) where
   pub no_merge : (found : Option Command) → word ≡ codes "merge" → IfNone found (IsNamed merge_row medium (codes "merge") words → ⊥) → IfNone found NamesNone
   no_merge found same none = none_found found (names_no_merge same) none
 
-  pub no_migrate : (found : Option Command) → word ≡ codes "migrate" → IfNone found (IsNamed migrate_row medium (codes "migrate") words → ⊥) → IfNone found NamesNone
+  pub no_migrate : (found : Option Command) → word ≡ codes "migrate" → IfNone found ((IsOne words × AreMediaIf true medium words) → ⊥) → IfNone found NamesNone
   no_migrate found same none = none_found found (names_no_migrate same) none
+
+  pub no_twin : (found : Option Command) → word ≡ codes "twin" → IfNone found ((IsOne words × AreMediaIf true medium words) → ⊥) → IfNone found NamesNone
+  no_twin found same none = none_found found (names_no_twin same) none
+
+  -- a command that one further medium names
+  pub named_one : (command : Command) (found : Option Command) → (IsOne words → AreMediaIf true medium words → IsNamed (row command) medium word words)
+      → IfSome found (λ c. (c ≡ command) × IsOne words × AreMediaIf true medium words) → IfSome found (λ c. IsNamed (row c) medium word words)
+  named_one command (Some c) so is = subst (λ c. IsNamed (row c) medium word words) (sym is.0) (so is.1 is.2)
+  named_one command None so is = tt
 
   pub no_large : {E : Type 0} (r : Result (Option Command) E) → word ≡ codes "large" → IfOk r (λ o. IfNone o (AreOptions words → ⊥)) → IfOk r (λ o. IfNone o NamesNone)
   no_large (Ok found) same none = none_found found (names_no_large same) none
@@ -176,6 +192,10 @@ pub few_media : (words : List (List ℕ)) (c : Command) → Forms words c → c 
 few_media words Merge forms is = let more = further_of words Merge forms in omega (arith, more.1.few, more.2)
 few_media words other forms is = absurd cc
 
-pub one_medium : (words : List (List ℕ)) (c : Command) → Forms words c → c ≡ Migrate → length words ≡ 4
-one_medium words Migrate forms is = let more = further_of words Migrate forms in omega (arith, more.1, more.2)
-one_medium words other forms is = absurd cc
+pub one_target : (words : List (List ℕ)) (c : Command) → Forms words c → c ≡ Migrate → length words ≡ 4
+one_target words Migrate forms is = let more = further_of words Migrate forms in omega (arith, more.1, more.2)
+one_target words other forms is = absurd cc
+
+pub one_second : (words : List (List ℕ)) (c : Command) → Forms words c → c ≡ Twin → length words ≡ 4
+one_second words Twin forms is = let more = further_of words Twin forms in omega (arith, more.1, more.2)
+one_second words other forms is = absurd cc

@@ -1,7 +1,7 @@
 -- The commands of the program, and the words that it is called with: a medium, an election, and a command.
 use Rattle.std.specs.Prelude.{◌≢◌, ℕ, List, ◌∷◌, Contains}
 use Rattle.ballot_store_cli.specs.declared.command.Command.{Command}
-use Rattle.ballot_store_cli.specs.declared.command.Command.TheVariants.{Build, Init, Session, Audit, Replay, Large, Sample, Compare, Merge, Migrate}
+use Rattle.ballot_store_cli.specs.declared.command.Command.TheVariants.{Build, Init, Session, Audit, Replay, Large, Sample, Compare, Merge, Migrate, Twin}
 use Rattle.medium_commands.specs.Audit.{audit_row}
 use Rattle.medium_commands.specs.Init.{init_row}
 use Rattle.merge_commands.specs.Merge.{merge_row}
@@ -13,6 +13,7 @@ use Rattle.script_commands.specs.Build.{build_row}
 use Rattle.script_commands.specs.Replay.{replay_row}
 use Rattle.session_commands.specs.Large.{large_row}
 use Rattle.session_commands.specs.Session.{session_row}
+use Rattle.twin_commands.specs.Twin.{twin_row}
 
 -- the row of a command
 abbrev pub row : Command → Row
@@ -26,6 +27,7 @@ row (Sample asked) = sample_row asked
 row (Compare asked) = compare_row asked
 row Merge = merge_row
 row Migrate = migrate_row
+row Twin = twin_row
 
 -- behind this word for the medium and those of some further media, a word may be that of one more
 pub record MayFollow (medium : List ℕ) (earlier : List (List ℕ)) (word : List ℕ) : Type 0 where

@@ -1,10 +1,9 @@
 ghost use Rattle.std.specs.List.{list_any};
-ghost use Rattle.std.specs.Prelude.{◌≡◌, ◌↔◌, ◌∷◌, [], IsTrue, ◌≤◌, IfErr, IfNone, IfOk, IfSome, bytes_eq, codes, length, map, string_bytes, true, ℕ, List};
+ghost use Rattle.std.specs.Prelude.{◌≡◌, ◌↔◌, [], IsTrue, ◌≤◌, IfErr, IfNone, IfOk, IfSome, bytes_eq, codes, length, map, string_bytes, true, ℕ, List};
 ghost use Rattle.ballot_store_cli.specs.Command.{Forms, FormNone, MayFollow, row};
 ghost use Rattle.large_options.specs.Options.{AreOptions};
 ghost use Rattle.merge_commands.specs.Merge.{merge_row};
-ghost use Rattle.migrate_commands.specs.Migrate.{migrate_row};
-ghost use Rattle.run_outcome.specs.Row.{AreMediaIf, IsNamed, IsPlain};
+ghost use Rattle.run_outcome.specs.Row.{AreMediaIf, IsNamed, IsOne, IsPlain};
 ghost use Rattle.sample_commands.specs.Asked.{IsAsked};
 ghost use Rattle.sample_commands.specs.declared.asked.Asked.{Asked};
 
@@ -34,6 +33,8 @@ pub enum Command {
     Merge,
     /// Make a further medium, of version 2, that of the ballots of an old one.
     Migrate,
+    /// Make two disks the medium of one set, and handle a script on both as a session does.
+    Twin,
     /// Handle a script that these options generate as a session does, and write the summary of its replies.
     Large(Options),
 }
@@ -143,15 +144,15 @@ fn merge_named(medium: &str, words: &[String]) -> Option<Command>
     }
 }
 
-/// The migration into this medium, if one word stands there and it is that of a further medium.
-fn migrate_named(medium: &str, words: &[String]) -> Option<Command>
-    ensures named { IfSome result
-        (λ c. IsNamed (row c) medium.now (codes "migrate") (map string_bytes words.now)) }
+/// This command, if there is one further word and it is that of a further medium.
+fn if_one_medium(medium: &str, words: &[String], command: Command) -> Option<Command>
+    ensures some { IfSome result (λ c. (c ≡ command)
+        × IsOne (map string_bytes words.now) × AreMediaIf true medium.now (map string_bytes words.now)) }
     ensures none { IfNone result
-        (¬ IsNamed migrate_row medium.now (codes "migrate") (map string_bytes words.now)) }
+        (¬ (IsOne (map string_bytes words.now) × AreMediaIf true medium.now (map string_bytes words.now))) }
 {
     if words.len() == 1 && are_media(medium, words) {
-        Some(Command::Migrate)
+        Some(command)
     } else {
         None
     }
@@ -177,7 +178,8 @@ fn named_with(
         "sample" => Ok(sample_named(words)),
         "compare" => Ok(compare_named(words)),
         "merge" => Ok(merge_named(medium, words)),
-        "migrate" => Ok(migrate_named(medium, words)),
+        "migrate" => Ok(if_one_medium(medium, words, Command::Migrate)),
+        "twin" => Ok(if_one_medium(medium, words, Command::Twin)),
         _ => Ok(None),
     }
 }

@@ -13,6 +13,7 @@ const FORMS: &[&str] = &[
     "compare DICE K <lines",
     "merge MORE ..",
     "migrate TARGET",
+    "twin SECOND <script",
     "replay <schedule",
 ];
 

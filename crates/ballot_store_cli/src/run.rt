@@ -1,5 +1,5 @@
-ghost use Rattle.std.specs.Prelude.{◌≡◌, ◌-◌, ◌≤◌, length, map, string_bytes};
-ghost use Rattle.ballot_store_cli.specs.Command.{row};
+ghost use Rattle.std.specs.Prelude.{◌≡◌, ◌-◌, ◌≤◌, All, is_some, length, map, string_bytes};
+ghost use Rattle.ballot_store_cli.specs.Command.{Forms, row};
 ghost use Rattle.ballot_store_cli.specs.Outcome.{Ends};
 ghost use Rattle.large_options.specs.declared.options.Options.{Options};
 ghost use Rattle.outside_io.specs.Outside.{input, output};
@@ -30,6 +30,7 @@ use session_commands::large::large;
 use session_commands::session::session;
 use std::alloc::Global;
 use std::thread::Threads;
+use twin_commands::twin::twin;
 
 /// Carries out the command that the words form, under the election that its source describes:
 ///
@@ -45,10 +46,12 @@ use std::thread::Threads;
 /// - `MEDIUM ELECTION merge MORE ..` makes the medium that of the union of its own set and those of further media, one to
 ///   eight;
 /// - `MEDIUM ELECTION migrate TARGET` makes an unused target, under an election of version 2, the medium of the ballots that
-///   the medium holds in version 1.
+///   the medium holds in version 1;
+/// - `MEDIUM ELECTION twin SECOND` makes two disks the medium of one set, and handles a script on both as a session does.
 ///
-/// The report has how many calls the disk had seen at each checkpoint that a session acknowledged, and how many ballots
-/// its last closed store held. `more` has a disk for each word after the third.
+/// The report has how many calls each disk had seen at each checkpoint that a session acknowledged, how many two disks had
+/// seen when they were a pair, and how many ballots the last closed store held. `more` has a disk for each word after the
+/// third. Of two disks that are to become a pair both have to tell their bytes, or neither.
 #[tactic(auto, using(crate::proofs::Runs::not_usage))]
 pub fn run<R: Threads + Sync, E: Source, S: Source, K: Sink, D: Disk, T: Turns>(
     rt: &R,
@@ -62,6 +65,8 @@ pub fn run<R: Threads + Sync, E: Source, S: Source, K: Sink, D: Disk, T: Turns>(
     turns: &T,
 ) -> (Status, Report)
     requires more { length more.old ≡ length words.now - 3 }
+    requires told { Forms (map string_bytes words.now) Command.Twin
+        → All (λ second. is_some (D.seen second) ≡ is_some (D.seen disk.old)) more.old }
     ensures ends { Ends (disk_model D.seen D.calls D.may_leave D.faults)
         (map string_bytes words.now) result.0 (reported result.1)
         (input E.left E.faults election.old) (input E.left E.faults election.new)
@@ -112,6 +117,9 @@ fn carry_out<R: Threads + Sync, S: Source, K: Sink, D: Disk, T: Turns>(
     requires election { IsElection election.now }
     requires more { command ≡ Command.Merge → length more.old ≤ 8 }
     requires target { command ≡ Command.Migrate → length more.old ≡ 1 }
+    requires second { command ≡ Command.Twin → length more.old ≡ 1 }
+    requires told { command ≡ Command.Twin
+        → All (λ second. is_some (D.seen second) ≡ is_some (D.seen disk.old)) more.old }
     requires report { reported report.old ≡ nothing_reported }
     ensures { CommandEnds (disk_model D.seen D.calls D.may_leave D.faults)
         (row command) election.now (ended result) (reported report.new)
@@ -128,6 +136,7 @@ fn carry_out<R: Threads + Sync, S: Source, K: Sink, D: Disk, T: Turns>(
         Command::Compare(asked) => compare(alloc, election, &asked, script, out, disk),
         Command::Merge => merge(alloc, election, out, disk, more),
         Command::Migrate => migrate(alloc, election, out, disk, more),
+        Command::Twin => twin(rt, alloc, election, script, out, disk, more, turns, report),
         Command::Large(options) => large(rt, alloc, options, election, out, disk, turns, report),
     }
 }

@@ -1,7 +1,7 @@
 //! Runs over stand-ins: each call fails in turn, memory is refused, workers are watched at their turns. What a user sees of
 //! the built program is a row of `tools/check_program`.
 
-ghost use Rattle.std.specs.Prelude.{None};
+ghost use Rattle.std.specs.Prelude.{◌≡◌, All, is_some, None};
 
 use crate::{Status, run};
 use ballot_record::LineWhy;
@@ -19,6 +19,7 @@ mod merging;
 mod migrating;
 mod rows;
 mod turns;
+mod twinning;
 
 // The election of the examples.
 const EXAMPLE: &[u8] =
@@ -198,6 +199,7 @@ where
     R: Threads + Sync + AllocGlobal + Abort,
     D: Disk,
     T: Turns,
+    requires { All (λ second. is_some (D.seen second) ≡ is_some (D.seen disk.old)) more.old }
 {
     let alloc = rt.alloc();
     let words = words_of(alloc, texts)?;

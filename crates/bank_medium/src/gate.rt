@@ -1,6 +1,6 @@
 //! The gates of the banks.
 
-ghost use Rattle.std.specs.Prelude.{◌≡◌, ◌↔◌, ◌≤◌, ℕ, List, [], ◌∷◌, length, Some, option_map, is_some, IsTrue, IfSome, IfOk, OnOk};
+ghost use Rattle.std.specs.Prelude.{◌≡◌, ◌↔◌, ◌≤◌, ℕ, List, [], ◌∷◌, length, Some, option_map, is_some, IsTrue, IfSome, IfOk, OnOk, OnErr};
 ghost use Rattle.std.specs.Option.{ForSome};
 ghost use Rattle.bank_medium.specs.Banks.{gate_of, HasMediumSize, HasOpen};
 ghost use Rattle.bank_medium.specs.declared.place.Bank.TheVariants.{A, B};
@@ -30,6 +30,7 @@ pub fn gates<D: Disk>(disk: &mut D, election: &Election) -> Result<(bool, bool),
     ensures later { D.calls disk.old ≤ D.calls disk.new }
     ensures fault { CountsFault result (D.faults disk.old) (D.faults disk.new) }
     ensures leads { D.leads_to disk.old disk.new }
+    ensures fails { OnErr result (D.fails_to disk.old disk.new) }
 {
     let mut gates = [0; 2];
     disk.read(gate_place(election, Bank::A), &mut gates)?;
@@ -49,6 +50,7 @@ pub fn close_gate<D: Disk>(disk: &mut D, election: &Election, bank: Bank) -> Res
     ensures later { D.calls disk.old ≤ D.calls disk.new }
     ensures fault { CountsFault result (D.faults disk.old) (D.faults disk.new) }
     ensures leads { D.leads_to disk.old disk.new }
+    ensures fails { OnErr result (D.fails_to disk.old disk.new) }
 {
     write_settled(disk, gate_place(election, bank), &[CLOSED])
 }
@@ -66,6 +68,7 @@ pub fn open_gate<D: Disk>(disk: &mut D, election: &Election, bank: Bank) -> Resu
     ensures later { D.calls disk.old ≤ D.calls disk.new }
     ensures fault { CountsFault result (D.faults disk.old) (D.faults disk.new) }
     ensures leads { D.leads_to disk.old disk.new }
+    ensures fails { OnErr result (D.fails_to disk.old disk.new) }
 {
     write_settled(disk, gate_place(election, bank), &[OPEN])
 }
@@ -83,6 +86,7 @@ pub fn open_both_gates<D: Disk>(disk: &mut D, election: &Election) -> Result<(),
     ensures later { D.calls disk.old ≤ D.calls disk.new }
     ensures fault { CountsFault result (D.faults disk.old) (D.faults disk.new) }
     ensures leads { D.leads_to disk.old disk.new }
+    ensures fails { OnErr result (D.fails_to disk.old disk.new) }
 {
     write_settled(disk, gate_place(election, Bank::A), &[OPEN, OPEN])
 }

@@ -31,6 +31,7 @@ pub fn read_page<D: Disk>(
     ensures later { D.calls disk.old ≤ D.calls disk.new }
     ensures fault { CountsFault result (D.faults disk.old) (D.faults disk.new) }
     ensures leads { D.leads_to disk.old disk.new }
+    ensures fails { OnErr result (D.fails_to disk.old disk.new) }
 {
     disk.read(bank_place(election, bank) + at as u64, out)
 }
@@ -58,6 +59,7 @@ pub fn write_page<D: Disk>(
     ensures later { D.calls disk.old ≤ D.calls disk.new }
     ensures fault { CountsFault result (D.faults disk.old) (D.faults disk.new) }
     ensures leads { D.leads_to disk.old disk.new }
+    ensures fails { OnErr result (D.fails_to disk.old disk.new) }
 {
     disk.write_at(bank_place(election, bank) + at as u64, bytes)
 }
@@ -73,6 +75,7 @@ pub fn settle<D: Disk>(disk: &mut D) -> Result<(), Failed>
     ensures later { D.calls disk.old ≤ D.calls disk.new }
     ensures fault { CountsFault result (D.faults disk.old) (D.faults disk.new) }
     ensures leads { D.leads_to disk.old disk.new }
+    ensures fails { OnErr result (D.fails_to disk.old disk.new) }
 {
     disk.sync()
 }
@@ -98,6 +101,7 @@ pub fn write_bank<D: Disk>(
     ensures later { D.calls disk.old ≤ D.calls disk.new }
     ensures fault { CountsFault result (D.faults disk.old) (D.faults disk.new) }
     ensures leads { D.leads_to disk.old disk.new }
+    ensures fails { OnErr result (D.fails_to disk.old disk.new) }
 {
     write_settled(disk, bank_place(election, bank), bytes)
 }

@@ -1,6 +1,6 @@
 //! A write to a settled disk, and the sync that settles it.
 
-ghost use Rattle.std.specs.Prelude.{◌≡◌, ◌≤◌, ℕ, List, length, Some, option_map, is_some, OnOk};
+ghost use Rattle.std.specs.Prelude.{◌≡◌, ◌≤◌, ℕ, List, length, Some, option_map, is_some, OnOk, OnErr};
 ghost use Rattle.std.specs.Option.{ForSome};
 ghost use Rattle.store_spec.specs.Disk.{overwritten, IsTorn, IsSettled, LeavesOnly};
 ghost use Rattle.store_spec.specs.Fault.{CountsFault};
@@ -21,6 +21,7 @@ pub(crate) fn write_settled<D: Disk>(disk: &mut D, at: u64, bytes: &[u8]) -> Res
     ensures later { D.calls disk.old ≤ D.calls disk.new }
     ensures fault { CountsFault result (D.faults disk.old) (D.faults disk.new) }
     ensures leads { D.leads_to disk.old disk.new }
+    ensures fails { OnErr result (D.fails_to disk.old disk.new) }
 {
     disk.write_at(at, bytes)?;
     disk.sync()

@@ -1,6 +1,6 @@
 //! The checkpoint: a medium comes to hold another set.
 
-ghost use Rattle.std.specs.Prelude.{◌≡◌, ◌≤◌, ◌⊎◌, ℕ, List, Some, is_some, OnOk};
+ghost use Rattle.std.specs.Prelude.{◌≡◌, ◌≤◌, ◌⊎◌, ℕ, List, Some, is_some, OnOk, OnErr};
 ghost use Rattle.std.specs.Option.{ForSome};
 ghost use Rattle.body_store.specs.Contents.{IsStored};
 ghost use Rattle.outside_io.specs.Told.{AsTold};
@@ -38,6 +38,7 @@ pub fn checkpoint<D: Disk>(
     ensures later { D.calls disk.old ≤ D.calls disk.new }
     ensures fault { CountsFault result (D.faults disk.old) (D.faults disk.new) }
     ensures leads { D.leads_to disk.old disk.new }
+    ensures fails { OnErr result (D.fails_to disk.old disk.new) }
 {
     let election = closed.election();
     let made = closed.image();

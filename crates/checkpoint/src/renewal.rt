@@ -1,6 +1,6 @@
 //! The renewal of one bank, page after page.
 
-ghost use Rattle.std.specs.Prelude.{◌≡◌, ◌+◌, ◌≤◌, ℕ, List, length, Some, option_map, is_some, OnOk};
+ghost use Rattle.std.specs.Prelude.{◌≡◌, ◌+◌, ◌≤◌, ℕ, List, length, Some, option_map, is_some, OnOk, OnErr};
 ghost use Rattle.std.specs.Option.{ForSome};
 ghost use Rattle.bank_medium.specs.Banks.{bank_named, place_of, HasMediumSize, HasOpen, LeavesUnread};
 ghost use Rattle.image_builder.specs.Page.{page_size};
@@ -40,6 +40,7 @@ fn renew_page<D: Disk>(
     ensures later { D.calls disk.old ≤ D.calls disk.new }
     ensures fault { CountsFault result (D.faults disk.old) (D.faults disk.new) }
     ensures leads { D.leads_to disk.old disk.new }
+    ensures fails { OnErr result (D.fails_to disk.old disk.new) }
 {
     read_page(disk, election, bank, at, found)?;
     if &found[..] == page {
@@ -70,6 +71,7 @@ fn write_pages<D: Disk>(
     ensures later { D.calls disk.old ≤ D.calls disk.new }
     ensures fault { CountsFault result (D.faults disk.old) (D.faults disk.new) }
     ensures leads { D.leads_to disk.old disk.new }
+    ensures fails { OnErr result (D.fails_to disk.old disk.new) }
 {
     let end = made.len();
     let mut at = 0;
@@ -106,6 +108,7 @@ pub fn fill_bank<D: Disk>(
     ensures later { D.calls disk.old ≤ D.calls disk.new }
     ensures fault { CountsFault result (D.faults disk.old) (D.faults disk.new) }
     ensures leads { D.leads_to disk.old disk.new }
+    ensures fails { OnErr result (D.fails_to disk.old disk.new) }
 {
     write_pages(disk, election, bank, made, found)?;
     settle(disk)?;
@@ -136,6 +139,7 @@ pub fn renew_bank<D: Disk>(
     ensures later { D.calls disk.old ≤ D.calls disk.new }
     ensures fault { CountsFault result (D.faults disk.old) (D.faults disk.new) }
     ensures leads { D.leads_to disk.old disk.new }
+    ensures fails { OnErr result (D.fails_to disk.old disk.new) }
 {
     close_gate(disk, election, bank)?;
     fill_bank(disk, election, bank, made, found)

@@ -26,13 +26,17 @@ pub trait Disk {
     /// disk ensures it of the states before and after.
     ghost leads_to: { Self → Self → Type 0 };
 
+    /// The same where the last call failed, and none before it.
+    ghost fails_to: { Self → Self → Type 0 };
+
     /// How many bytes there are.
     fn size(&mut self) -> Result<u64, Failed>
         ensures size { IfOk result (λ size. IfSome (seen self.old) (λ bytes. size ≡ length bytes)) }
         ensures same_bytes { seen self.new ≡ seen self.old }
         ensures crash_images { KeepsCrashImages calls may_leave self.old self.new }
         ensures fault { CountsFault result (faults self.old) (faults self.new) }
-        ensures leads { leads_to self.old self.new };
+        ensures leads { leads_to self.old self.new }
+        ensures fails { OnErr result (fails_to self.old self.new) };
 
     /// Reads as many bytes as `buf` has, from `at` on. After `Failed` nothing is said of `buf`.
     fn read(&mut self, at: u64, buf: &mut [u8]) -> Result<(), Failed>
@@ -42,7 +46,8 @@ pub trait Disk {
         ensures same_bytes { seen self.new ≡ seen self.old }
         ensures crash_images { KeepsCrashImages calls may_leave self.old self.new }
         ensures fault { CountsFault result (faults self.old) (faults self.new) }
-        ensures leads { leads_to self.old self.new };
+        ensures leads { leads_to self.old self.new }
+        ensures fails { OnErr result (fails_to self.old self.new) };
 
     /// Writes over what is there, and past the end. Until a sync a crash may leave any bytes in the range, and any
     /// size between the old and the new. After `Failed` a read may give such bytes too.
@@ -56,7 +61,8 @@ pub trait Disk {
         ensures any_bytes { OnOk result
             (TearsExactly calls may_leave at (length bytes.now) self.old self.new) }
         ensures fault { CountsFault result (faults self.old) (faults self.new) }
-        ensures leads { leads_to self.old self.new };
+        ensures leads { leads_to self.old self.new }
+        ensures fails { OnErr result (fails_to self.old self.new) };
 
     /// Once it has succeeded, a crash can leave only what a read gives. After `Failed` nothing is safe, and a read may
     /// give whatever a crash could have left.
@@ -68,7 +74,8 @@ pub trait Disk {
         ensures settled { OnOk result (IsSettled seen calls may_leave self.new) }
         ensures unsettled { OnErr result (KeepsCrashImages calls may_leave self.old self.new) }
         ensures fault { CountsFault result (faults self.old) (faults self.new) }
-        ensures leads { leads_to self.old self.new };
+        ensures leads { leads_to self.old self.new }
+        ensures fails { OnErr result (fails_to self.old self.new) };
 
     /// How many calls of the four above were made. It stays at 2^64 - 1.
     fn calls(&self) -> u64
@@ -95,4 +102,8 @@ pub trait Disk {
     /// Calls that follow others lead on from where those led.
     ghost leads_on: { (old mid new : Self) → leads_to old mid → leads_to mid new
         → leads_to old new };
+
+    /// A call that failed behind calls of which none did is one that failed from where those began.
+    ghost fails_on: { (old mid new : Self) → leads_to old mid → faults mid ≡ faults old
+        → fails_to mid new → fails_to old new };
 }

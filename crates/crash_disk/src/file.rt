@@ -294,6 +294,8 @@ where
 
     ghost leads_to = { λ _ _. Unit {0} };
 
+    ghost fails_to = { λ _ _. Unit {0} };
+
     ghost counted_calls = { λ disk. disk.calls.within };
 
     ghost counted_faults = { λ disk. disk.faults.within };
@@ -305,6 +307,8 @@ where
     ghost leads_to_itself = { λ _. tt };
 
     ghost leads_on = { λ _ _ _ _ _. tt };
+
+    ghost fails_on = { λ _ _ _ _ _ _. tt };
 
     fn size(&mut self) -> Result<u64, Failed> {
         let outcome = self.find_size(Hold::Shared);

@@ -159,6 +159,8 @@ impl<W: Failing + Drop> Disk for RecordedDisk<W> {
 
     ghost leads_to = { λ _ _. Unit {0} };
 
+    ghost fails_to = { λ _ _. Unit {0} };
+
     ghost counted_calls = { λ disk. disk.recording.counted_calls };
 
     ghost counted_faults = { λ disk. disk.recording.counted_faults };
@@ -170,6 +172,8 @@ impl<W: Failing + Drop> Disk for RecordedDisk<W> {
     ghost leads_to_itself = { λ _. tt };
 
     ghost leads_on = { λ _ _ _ _ _. tt };
+
+    ghost fails_on = { λ _ _ _ _ _ _. tt };
 
     fn size(&mut self) -> Result<u64, Failed>
         ensures passes { is_ok result ≡ passes_next W.fails self.old }

@@ -38,6 +38,8 @@ impl Disk for SureDisk {
 
     ghost leads_to = { λ _ _. Unit {0} };
 
+    ghost fails_to = { λ _ _. Unit {0} };
+
     ghost counted_calls = { λ disk. disk.calls.within };
 
     ghost counted_faults = { λ _. Prim.omega arith };
@@ -49,6 +51,8 @@ impl Disk for SureDisk {
     ghost leads_to_itself = { λ _. tt };
 
     ghost leads_on = { λ _ _ _ _ _. tt };
+
+    ghost fails_on = { λ _ _ _ _ _ _. tt };
 
     fn size(&mut self) -> Result<u64, Failed> {
         self.calls.add_one();

@@ -7,7 +7,7 @@ use Rattle.medium_commands.proofs.InitLaws.{InitDecides, one_init}
 use Rattle.medium_commands.proofs.Refusing.{HoldsSome, Refuses, not_both, one_refused, refuses}
 use Rattle.migrate_commands.proofs.Migrated.{IsRefusal, is_refusal}
 use Rattle.migrate_commands.proofs.OldForm.{form_valid}
-use Rattle.migrate_commands.specs.Migrate.{FromTo, HoldsOld, IsUnusedTarget, MigrateEnds, MigrateTells, MigratesNone, MigratesNot, migrate_row, migrate_status}
+use Rattle.migrate_commands.specs.Migrate.{HoldsOld, IsUnusedTarget, MigrateEnds, MigrateTells, MigratesNone, MigratesNot, migrate_row, migrate_status}
 use Rattle.migrate_medium.specs.Migrating.{OldHolds}
 use Rattle.migrate_medium.specs.declared.fault.MigrateFault.{MigrateFault}
 use Rattle.migrate_medium.specs.declared.fault.MigrateFault.TheVariants as faults
@@ -16,7 +16,7 @@ use Rattle.recovery.specs.Refused.{IsRefusedMedium}
 use Rattle.recovery.specs.declared.fault.RecoverFault.{RecoverFault}
 use Rattle.recovery.specs.declared.fault.RecoverFault.TheVariants as recover
 use Rattle.run_outcome.proofs.Laws.{Laws, at_told, not_risen}
-use Rattle.run_outcome.specs.Row.{Content, NothingFailed, Tells}
+use Rattle.run_outcome.specs.Row.{Content, NothingFailed, OfOne, Tells}
 use Rattle.run_outcome.specs.Status.{IsDecided}
 use Rattle.run_outcome.specs.World.{IsSteady, Reported, World}
 use Rattle.run_outcome.specs.declared.status.Status.{Status}
@@ -133,7 +133,7 @@ module _ {D : Type 0} (model : DiskModel D) (e : Election) (from since before af
 
 migrate_caused : {S K D : Type 0} (model : DiskModel D) (e : Election) (a : Status) (before after : World S K D) (more now : List D) (content : Content) (others : List (List ℕ)) → model.seen before.disk ≡ Some content.disk → content.more ≡ others
     → AllZip (λ disk told. model.seen disk ≡ Some told) more others → IsDecided a
-    → FromTo (MigrateEnds model e a before.streams.sink after.streams.sink before.disk after.disk) more now → MigrateDecides e content a
+    → OfOne (MigrateEnds model e a before.streams.sink after.streams.sink before.disk after.disk) more now → MigrateDecides e content a
 migrate_caused model e a before after (old ∷ []) (new ∷ []) content (target ∷ []) reads only each is ends =
     tells_decides model e before.disk after.disk old new content target reads only each.0 a before.streams.sink after.streams.sink is ends.tells
 migrate_caused model e a before after (old ∷ []) (new ∷ []) content [] reads only each is ends = absurd each
@@ -162,7 +162,7 @@ module _ {D : Type 0} (model : DiskModel D) (e : Election) (from since before af
 
 migrate_settled : {S K D : Type 0} (model : DiskModel D) (e : Election) (a : Status) (before after : World S K D) (more now : List D) → IsSteady before.streams.sink.faults after.streams.sink.faults
     → IsSteady (model.faults before.disk) (model.faults after.disk) → AllZip (λ old new. IsSteady (model.faults old) (model.faults new)) more now
-    → FromTo (MigrateEnds model e a before.streams.sink after.streams.sink before.disk after.disk) more now → IsDecided a ⊎ (a ≡ status.Memory)
+    → OfOne (MigrateEnds model e a before.streams.sink after.streams.sink before.disk after.disk) more now → IsDecided a ⊎ (a ≡ status.Memory)
 migrate_settled model e a before after (old ∷ []) (new ∷ []) sink disk each ends =
     tells_settled model e before.disk after.disk old new disk each.0 a before.streams.sink after.streams.sink sink ends.tells
 migrate_settled model e a before after more now sink disk each ends = absurd (assumption ends)
@@ -173,7 +173,7 @@ served_decides : (e : Election) (content : Content) (more : List (List ℕ)) →
 served_decides e content (target ∷ []) only set old unused = by_target e content target status.Ok only old.0 (set, old.1) unused
 served_decides e content more only set old unused = absurd (assumption unused)
 
-not_usage : {K D : Type 0} (model : DiskModel D) (e : Election) (old new : Output K) (from since : D) (more now : List D) → FromTo (MigrateEnds model e status.Usage old new from since) more now → ⊥
+not_usage : {K D : Type 0} (model : DiskModel D) (e : Election) (old new : Output K) (from since : D) (more now : List D) → OfOne (MigrateEnds model e status.Usage old new from since) more now → ⊥
 not_usage model e old new from since (before ∷ []) (after ∷ []) ends = subst IsRefusal (sym ends.tells.0.1) (is_refusal ends.tells.0.0)
 not_usage model e old new from since more now ends = absurd (assumption ends)
 

@@ -1,6 +1,6 @@
 -- What the command `migrate` makes of an old medium and of a target. `old` and `new` are the sink before and after, `from`
 -- and `since` the disk of the old medium at the start and at the end, and `before` and `after` that of the target.
-use Rattle.std.specs.Prelude.{◌≡◌, ◌≢◌, ◌⊎◌, ℕ, List, [], ◌∷◌, codes, length, Some, is_some, true, false}
+use Rattle.std.specs.Prelude.{◌≡◌, ◌≢◌, ◌⊎◌, ℕ, List, [], ◌∷◌, codes, Some, is_some, true, false}
 use Rattle.medium_commands.specs.Refused.{refused_status}
 use Rattle.migrate_medium.specs.Migrating.{IsSpared, MayHold, MigrateRefuses, Migrates}
 use Rattle.migrate_medium.specs.declared.fault.MigrateFault.{MigrateFault}
@@ -9,7 +9,7 @@ use Rattle.outside_io.specs.Outside.{Output}
 use Rattle.outside_io.specs.Stream.{TakesAll, TakesSome}
 use Rattle.recovery.specs.ReadsOnly.{WritesNothing}
 use Rattle.recovery.specs.declared.fault.RecoverFault.TheVariants as recover
-use Rattle.run_outcome.specs.Row.{Content, EndsWell, Row}
+use Rattle.run_outcome.specs.Row.{Content, EndsWell, IsOne, OfOne, Row}
 use Rattle.run_outcome.specs.World.{Reported, World}
 use Rattle.run_outcome.specs.declared.status.Status.{Status}
 use Rattle.run_outcome.specs.declared.status.Status.TheVariants as status
@@ -86,15 +86,6 @@ pub record MigrateEnds {K D : Type 0} (model : DiskModel D) (e : Election) (stat
 
 -- ---- the row
 
--- one target
-abbrev pub IsOne : List (List ℕ) → Type 0
-IsOne words = length words ≡ 1
-
--- this is so of the one disk of a list, before and after
-abbrev pub FromTo : {D : Type 0} → (D → D → Type 0) → List D → List D → Type 0
-FromTo So (before ∷ []) (after ∷ []) = So before after
-FromTo So more now = ⊥
-
 -- the target is unused
 abbrev pub IsUnusedTarget : Election → List (List ℕ) → Type 0
 IsUnusedTarget e (target ∷ []) = IsUnused e target
@@ -110,7 +101,7 @@ MayMigrate e content = ((set : List Ballot) × HoldsOld e content.disk set) × I
 
 abbrev migrate_ends : {S K D : Type 0} → DiskModel D → Election → Status → Reported → World S K D → World S K D → Type 0
 migrate_ends model e status report before after =
-    FromTo (MigrateEnds model e status before.streams.sink after.streams.sink before.disk after.disk) before.more after.more
+    OfOne (MigrateEnds model e status before.streams.sink after.streams.sink before.disk after.disk) before.more after.more
 
 abbrev pub migrate_row : Row
 migrate_row = record {

@@ -1,8 +1,9 @@
 //! The command `migrate`: an unused medium becomes that of version 2 with the ballots of an old one.
 
-ghost use Rattle.migrate_commands.specs.Migrate.{FillsTarget, FromTo, IsMigrated, MigrateEnds, MigratesNone, migrate_status, migrated_text};
+ghost use Rattle.migrate_commands.specs.Migrate.{FillsTarget, IsMigrated, MigrateEnds, MigratesNone, migrate_status, migrated_text};
 ghost use Rattle.outside_io.specs.Outside.{output};
 ghost use Rattle.recovery.specs.ReadsOnly.{WritesNothing};
+ghost use Rattle.run_outcome.specs.Row.{OfOne};
 ghost use Rattle.run_outcome.specs.Status.{ended};
 ghost use Rattle.std.specs.Prelude.{◌≡◌, IfErr, IfOk, is_some, length};
 ghost use Rattle.store_spec.specs.Disk.{disk_model};
@@ -86,7 +87,7 @@ pub fn migrate<K: Sink, D: Disk>(
     more: &mut [D],
 ) -> Result<(), Status>
     requires { length more.old ≡ 1 }
-    ensures { FromTo (MigrateEnds (disk_model D.seen D.calls D.may_leave D.faults) election.now (ended result)
+    ensures { OfOne (MigrateEnds (disk_model D.seen D.calls D.may_leave D.faults) election.now (ended result)
         (output K.taken K.faults out.old) (output K.taken K.faults out.new)
         disk.old disk.new) more.old more.new }
 {

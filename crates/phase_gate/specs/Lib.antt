@@ -1,4 +1,5 @@
 pub mod Around
+pub mod Beside
 pub mod Checkpointed
 pub mod Gate
 pub mod LineEnds

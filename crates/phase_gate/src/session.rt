@@ -1,6 +1,6 @@
 //! A session: one line after another.
 
-ghost use Rattle.std.specs.Prelude.{◌≡◌, ◌∷◌, [], ℕ, List, IfErr, IfOk, OnErr, OnOk, Some};
+ghost use Rattle.std.specs.Prelude.{◌≡◌, ◌∷◌, [], ℕ, List, IfErr, IfOk, OnErr, OnOk, Some, IsErrOf};
 ghost use Rattle.outside_io.specs.Outside.{output};
 ghost use Rattle.phase_gate.specs.Around.{around};
 ghost use Rattle.phase_gate.specs.Checkpointed.{Acknowledges, IsMediumNow, NotAcknowledged};
@@ -117,7 +117,10 @@ impl Session {
             (around (output K.taken K.faults out.new) disk.new report.new) }
         ensures election { IfOk result (λ session. session.election ≡ self.election) }
         ensures telling { IfOk result (λ session. session.telling ≡ self.telling) }
+        ensures others { report.new.others ≡ report.old.others }
+        ensures begun { report.new.begun ≡ report.old.begun }
         ensures leads { D.leads_to disk.old disk.new }
+        ensures fails { IsErrOf result SessionFault.DiskFault → D.fails_to disk.old disk.new }
     {
         let Session {
             gate,
@@ -169,7 +172,10 @@ fn prepare<D: Disk>(
         gate.now.closed.election gate.now.closed.ballots disk.old disk.new fault) }
     ensures marks { OnErr result (report.new.marks.items ≡ report.old.marks.items) }
     ensures held { report.new.held ≡ report.old.held }
+    ensures others { report.new.others ≡ report.old.others }
+    ensures begun { report.new.begun ≡ report.old.begun }
     ensures leads { D.leads_to disk.old disk.new }
+    ensures fails { IsErrOf result SessionFault.DiskFault → D.fails_to disk.old disk.new }
 {
     match task {
         Task::Acknowledge => acknowledge(gate, disk, scratch, report),
@@ -195,7 +201,10 @@ fn acknowledge<D: Disk>(
         gate.now.closed.election gate.now.closed.ballots disk.old disk.new) }
     ensures marks { OnErr result (report.new.marks.items ≡ report.old.marks.items) }
     ensures held { report.new.held ≡ report.old.held }
+    ensures others { report.new.others ≡ report.old.others }
+    ensures begun { report.new.begun ≡ report.old.begun }
     ensures leads { D.leads_to disk.old disk.new }
+    ensures fails { IsErrOf result SessionFault.DiskFault → D.fails_to disk.old disk.new }
 {
     if report.marks.reserve(1).is_err() {
         return Err(SessionFault::Memory);

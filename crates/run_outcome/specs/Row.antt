@@ -1,5 +1,5 @@
 -- What a command is, in one row.
-use Rattle.std.specs.Prelude.{◌≡◌, ◌≢◌, ℕ, Bool, true, false, List, [], ◌∷◌, All, AllPairs, Option, Some}
+use Rattle.std.specs.Prelude.{◌≡◌, ◌≢◌, ℕ, Bool, true, false, List, [], ◌∷◌, All, AllPairs, length, Option, Some}
 use Rattle.std.specs.List.{AllZip}
 use Rattle.run_outcome.specs.World.{IsSteady, Reported, World, nothing_reported}
 use Rattle.run_outcome.specs.declared.status.Status.{Status}
@@ -88,6 +88,15 @@ pub record Row : Type 1 where
 -- a command takes no further words
 abbrev pub TakesNone : List (List ℕ) → Type 0
 TakesNone words = words ≡ []
+
+-- a command takes one further word, that of a medium
+abbrev pub IsOne : List (List ℕ) → Type 0
+IsOne words = length words ≡ 1
+
+-- this is so of the only further disk, before and after
+abbrev pub OfOne : {D : Type 0} → (D → D → Type 0) → List D → List D → Type 0
+OfOne So (before ∷ []) (after ∷ []) = So before after
+OfOne So more now = ⊥
 
 -- a command that was carried out ends well
 abbrev pub EndsWell : Election → Content → Status → Type 0

@@ -1,14 +1,16 @@
 -- A generated script that was handled as a session, and its result.
-use Rattle.std.proofs.Common.{◌≡◌, ◌<◌, ◌^◌, ℕ, List, [], ◌++◌, append-nil, length, Some, Result, Ok, Err, inr, refl, ap, sym, subst, ◌∙◌}
+use Rattle.std.proofs.Common.{◌≡◌, ◌<◌, ◌^◌, ℕ, List, [], ◌++◌, append-nil, length, map, None, Some, Result, Ok, Err, inr, refl, ap, sym, subst, ◌∙◌}
 use Rattle.session_commands.specs.Large.{HasResult, LargeEnds}
-use Rattle.session_commands.specs.Session.{run_status, with_report}
+use Rattle.session_commands.specs.Session.{reported, run_status, with_report}
 use Rattle.run_outcome.specs.Status.{ended_as}
-use Rattle.run_outcome.specs.World.{Reported, nothing_reported}
+use Rattle.run_outcome.specs.World.{IsAlone, Reported, nothing_reported}
 use Rattle.run_outcome.specs.declared.status.Status.TheVariants as status
 use Rattle.large_options.specs.declared.options.Options.{Options}
 use Rattle.outside_io.proofs.Told.{told_at}
 use Rattle.outside_io.specs.Outside.{Input, Output}
 use Rattle.outside_io.specs.Stream.{TakesAll}
+use Rattle.phase_gate.specs.Beside.{AreBeside, calls_beside}
+use Rattle.phase_gate.specs.declared.report.Report.{Report}
 use Rattle.script_lines.specs.Generated.{generated_text}
 use Rattle.script_lines.specs.declared.generated_script.GeneratedScript.{GeneratedScript}
 use Rattle.session_laws.proofs.GeneratedLines.{text_run}
@@ -61,9 +63,9 @@ ended_result model e o source rest (Ok done) report old new before after electio
 ended_result model e o source rest (Err fault) report old new before after election small tab told ends is = absurd (fault_told fault is)
 
 pub large_played : {K D : Type 0} (model : DiskModel D) (e : Election) (o : Options) (source rest : Input GeneratedScript) (answer : Result (Unit {0}) RunFault) (was report : Reported) (old new : Output K) (before after : D) → IsElection e → o.seed < 2 ^ 32 → IsTab o.tabs
-    → source.left ≡ Some (generated_text e o.seed o.count o.tabs) → source.faults ≡ 0 → rest.faults ≡ 0 → was ≡ nothing_reported
+    → source.left ≡ Some (generated_text e o.seed o.count o.tabs) → source.faults ≡ 0 → rest.faults ≡ 0 → was ≡ nothing_reported → IsAlone report
     → SessionEnds model summary_of e answer source rest (with_report old before was) (with_report new after report) → LargeEnds model e o (ended_as run_status answer) report old new before after
-large_played model e o source rest answer was report old new before after election small tab told first last nothing handled =
+large_played model e o source rest answer was report old new before after election small tab told first last nothing alone handled =
     let ends = subst (λ (r : Reported). SessionEnds model summary_of e answer source rest (with_report old before r) (with_report new after report)) nothing handled in
     inr (record {
       answer = answer;
@@ -73,5 +75,15 @@ large_played model e o source rest answer was report old new before after electi
       script = told;
       sure = (first, last);
       ends = ends;
+      alone = alone;
       result = ended_result model e o source rest answer report old new before after election small tab told ends;
     })
+
+-- a session that began with no second disk reports none
+pub reports_alone : (old new : Report) → reported old ≡ nothing_reported → AreBeside new.begun new.marks.items new.others.items → new.begun ≡ old.begun → IsAlone (reported new)
+reports_alone old new nothing beside same =
+    let none : new.begun ≡ None = same ∙ ap (λ (r : Reported). r.begun) nothing in
+    record {
+      others = subst (λ begun. map (λ list. list.items) new.others.items ≡ map (calls_beside begun) new.marks.items) none beside;
+      begun = none;
+    }

@@ -130,10 +130,10 @@ pub session_laws : Laws session_row
 session_laws = record {
   Cause = λ e content. SessionDecides e content.script content.disk;
   caused = λ model e a report before after content tells decided ends.
-      answer_decides model (λ text. text) e ends.answer a before.streams.script after.streams.script _ _ content.script content.disk tells.script tells.disk decided ends.told ends.ends;
+      answer_decides model (λ text. text) e ends.0.answer a before.streams.script after.streams.script _ _ content.script content.disk tells.script tells.disk decided ends.0.told ends.0.ends;
   one = λ e content a b valid x y. one_session e content.script content.disk a b valid x y;
   settled = λ model e a report before after none ends.
-      settled_as a (ended_as run_status ends.answer) ends.told (answer_settled model (λ text. text) e ends.answer before.streams.script after.streams.script _ _ none.script none.sink none.disk ends.ends);
+      settled_as a (ended_as run_status ends.0.answer) ends.0.told (answer_settled model (λ text. text) e ends.0.answer before.streams.script after.streams.script _ _ none.script none.sink none.disk ends.0.ends);
   served = λ e content a words valid none has decides. one_session e content.script content.disk a status.Ok valid decides (inl (refl, has.0, has.1));
-  no_usage = λ model e report before after ends. never_usage ends.answer ends.told;
+  no_usage = λ model e report before after ends. never_usage ends.0.answer ends.0.told;
 }

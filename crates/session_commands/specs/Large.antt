@@ -3,7 +3,7 @@
 use Rattle.std.specs.Prelude.{◌≡◌, ◌⊎◌, List, [], ◌∷◌, length, IfSome, Some, Result, codes, true, false}
 use Rattle.run_outcome.specs.Row.{Content, EndsWell, Row}
 use Rattle.run_outcome.specs.Status.{ended_as}
-use Rattle.run_outcome.specs.World.{Reported, World, nothing_reported}
+use Rattle.run_outcome.specs.World.{IsAlone, Reported, World, nothing_reported}
 use Rattle.session_commands.specs.Session.{HoldsSome, run_status, with_report}
 use Rattle.run_outcome.specs.declared.status.Status.{Status}
 use Rattle.run_outcome.specs.declared.status.Status.TheVariants.{Ok, Memory}
@@ -45,6 +45,7 @@ pub record PlaysGenerated {K D : Type 0} (model : DiskModel D) (e : Election) (o
   pub script : source.left ≡ Some (generated_text e o.seed o.count o.tabs)
   pub sure : (source.faults ≡ 0) × (rest.faults ≡ 0)
   pub ends : SessionEnds model summary_of e answer source rest (with_report old before nothing_reported) (with_report new after report)
+  pub alone : IsAlone report
   pub result : status ≡ Ok → HasResult model e o report old new before after
 
 -- All that a run of `large` promises under an election. Where there was no memory for the generated script, all is left

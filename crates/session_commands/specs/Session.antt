@@ -1,11 +1,11 @@
 -- What the command `session` makes of a script and a medium.
-use Rattle.std.specs.Prelude.{◌≡◌, ℕ, ◌≤◌, List, Result, codes, length, true, false}
+use Rattle.std.specs.Prelude.{◌≡◌, ℕ, ◌≤◌, List, Result, codes, length, map, true, false}
 use Rattle.outside_io.specs.Outside.{Input, Output}
 use Rattle.phase_gate.specs.Around.{Around}
 use Rattle.phase_gate.specs.declared.report.Report.{Report}
 use Rattle.run_outcome.specs.Row.{Content, EndsWell, Row, TakesNone}
 use Rattle.run_outcome.specs.Status.{ended_as}
-use Rattle.run_outcome.specs.World.{Reported, World, nothing_reported}
+use Rattle.run_outcome.specs.World.{IsAlone, Reported, World, nothing_reported}
 use Rattle.run_outcome.specs.declared.status.Status.{Status}
 use Rattle.run_outcome.specs.declared.status.Status.TheVariants as status
 use Rattle.run_outcome.specs.declared.status.Which.TheVariants as which
@@ -20,7 +20,12 @@ use Rattle.store_spec.specs.Medium.{HoldsSet}
 
 -- the report of the code, seen as what a run reports
 abbrev pub reported : Report → Reported
-reported report = record { marks = report.marks.items; held = report.held }
+reported report = record {
+  marks = report.marks.items;
+  others = map (λ list. list.items) report.others.items;
+  begun = report.begun;
+  held = report.held;
+}
 
 -- the sink, the disk and the report
 abbrev pub with_report : {K D : Type 0} → Output K → D → Reported → Around K D
@@ -55,6 +60,7 @@ abbrev session_ends : {S K D : Type 0} → DiskModel D → Election → Status �
 session_ends model e status report before after =
     SessionRunEnds model e status before.streams.script after.streams.script
     (with_report before.streams.sink before.disk nothing_reported) (with_report after.streams.sink after.disk report)
+    × IsAlone report
 
 abbrev pub session_row : Row
 session_row = record {

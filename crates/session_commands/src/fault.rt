@@ -1,3 +1,5 @@
+//! The faults of a session, as statuses.
+
 ghost use Rattle.session_commands.specs.Session.{run_status};
 ghost use Rattle.std.specs.Prelude.{◌≡◌};
 

@@ -1,6 +1,6 @@
 //! The commands that run a session: on a script, or on one that is generated.
 #![tactic(auto)]
 
-mod fault;
+pub mod fault;
 pub mod large;
 pub mod session;

@@ -2,7 +2,7 @@
 
 ghost use Rattle.outside_io.specs.Outside.{input, output};
 ghost use Rattle.run_outcome.specs.Status.{ended};
-ghost use Rattle.run_outcome.specs.World.{nothing_reported};
+ghost use Rattle.run_outcome.specs.World.{IsAlone, nothing_reported};
 ghost use Rattle.session_commands.specs.Session.{SessionRunEnds, reported, with_report};
 ghost use Rattle.std.specs.Prelude.{◌≡◌};
 ghost use Rattle.store_spec.specs.Disk.{disk_model};
@@ -31,10 +31,11 @@ pub fn session<R: Threads + Sync, S: Source, K: Sink, D: Disk, T: Turns>(
 ) -> Result<(), Status>
     requires election { IsElection election.now }
     requires report { reported report.old ≡ nothing_reported }
-    ensures { SessionRunEnds (disk_model D.seen D.calls D.may_leave D.faults) election.now (ended result)
+    ensures ends { SessionRunEnds (disk_model D.seen D.calls D.may_leave D.faults) election.now (ended result)
         (input S.left S.faults script.old) (input S.left S.faults script.new)
         (with_report (output K.taken K.faults out.old) disk.old nothing_reported)
         (with_report (output K.taken K.faults out.new) disk.new (reported report.new)) }
+    ensures alone { IsAlone (reported report.new) }
 {
     match run_session(
         rt,

@@ -15,10 +15,10 @@ use Rattle.session_run.proofs.Acknowledging.{acknowledged_then, marks_then, unch
 use Rattle.session_run.proofs.Beginning.{takes_none}
 use Rattle.session_run.proofs.SoFar.{IsHanded, SoFar, answers_handed, nothing_says, taken_then}
 use Rattle.session_run.proofs.SoFar.IsHanded.{whole, wide}
-use Rattle.session_run.specs.Ends.{Begun, HandlingEnds, HasBegun, IsDiskFailed, IsInterrupted, OfScript, StopsBehind}
+use Rattle.session_run.specs.Ends.{BegunWith, HandlingEnds, HasBegun, IsDiskFailed, IsInterrupted, OfScript, StopsBehind, Tried}
 use Rattle.session_run.specs.Ends.ComesNext.{to_end, to_line}
 use Rattle.session_run.specs.Faults.{line_fault, session_fault}
-use Rattle.session_run.specs.History.{AreMarks, LosesNothing, LosesNothingOnceSynced, Wrote, written_by}
+use Rattle.session_run.specs.History.{Wrote, written_by}
 use Rattle.session_run.specs.declared.fault.RunFault.{RunFault}
 use Rattle.store_spec.specs.Ballot.{Ballot}
 use Rattle.store_spec.specs.Disk.{DiskModel}
@@ -39,18 +39,21 @@ module _ {K D : Type 0} (model : DiskModel D) (tell : List ℕ → List ℕ) (e 
         (so_far : SoFar model tell e set lines state index before mid) (answer : Result (Unit {0}) RunFault)
         (old new : Input S)
         → HandlingEnds model tell e set lines so_far.effects state answer old new before now
-        → Begun model tell e answer old new before now
-    began lines state index mid now so_far answer old new ends = record {
-      set = set;
-      held = starts.held;
-      legal = starts.legal;
-      within_limit = starts.within_limit;
-      lines = lines;
-      effects = so_far.effects;
-      state = state;
-      plays = so_far.plays;
-      ends = ends;
-    }
+        → BegunWith model tell e set answer old new before now
+    began lines state index mid now so_far answer old new ends = (
+      record {
+        set = set;
+        held = starts.held;
+        legal = starts.legal;
+        within_limit = starts.within_limit;
+        lines = lines;
+        effects = so_far.effects;
+        state = state;
+        plays = so_far.plays;
+        ends = ends;
+      },
+      refl,
+    )
 
     module _ (lines : List (Option (List ℕ))) (state : State) (index : ℕ) (mid : Around K D)
         (so_far : SoFar model tell e set lines state index before mid) where
@@ -70,7 +73,7 @@ module _ {K D : Type 0} (model : DiskModel D) (tell : List ℕ → List ℕ) (e 
       pub played_out : {S : Type 0} (old new : Input S) (sink : Output K)
           → OfScript old new (λ text left. ReadLines ReadOut text left lines) → new.faults ≡ old.faults
           → LastEnds tell state.phase (Ok tt) mid.sink sink
-          → Begun model tell e (Ok tt) old new before (with_sink mid sink)
+          → BegunWith model tell e set (Ok tt) old new before (with_sink mid sink)
       played_out old new sink read steady last =
           began lines state index mid (with_sink mid sink) so_far (Ok tt) old new (
             read,
@@ -84,7 +87,7 @@ module _ {K D : Type 0} (model : DiskModel D) (tell : List ℕ → List ℕ) (e 
       pub cut_off : {S : Type 0} (old new : Input S) (sink : Output K) (why : SessionFault)
           → OfScript old new (λ text left. ReadLines ReadOut text left lines) → new.faults ≡ old.faults
           → LastEnds tell state.phase (Err why) mid.sink sink
-          → Begun model tell e (Err (session_fault why)) old new before (with_sink mid sink)
+          → BegunWith model tell e set (Err (session_fault why)) old new before (with_sink mid sink)
       cut_off old new sink session.DiskFault read steady last = absurd last
       cut_off old new sink session.WriteFault read steady last =
           began lines state index mid (with_sink mid sink) so_far (Err (session_fault session.WriteFault)) old new
@@ -114,13 +117,13 @@ module _ {K D : Type 0} (model : DiskModel D) (tell : List ℕ → List ℕ) (e 
       -- no further line came
       pub too_much : {S : Type 0} (old new : Input S)
           → OfScript old new (λ text left. ReadLines TooMuch text left lines) → new.faults ≡ old.faults
-          → Begun model tell e (Err (line_fault line.TooLong)) old new before mid
+          → BegunWith model tell e set (Err (line_fault line.TooLong)) old new before mid
       too_much old new read steady =
           began lines state index mid mid so_far (Err (line_fault line.TooLong)) old new
           (read, wrote [] [] mid (takes_none mid.sink.taken) (refl, refl), so_far.held, steady, so_far.no_fault)
 
       pub unread : {S : Type 0} (old new : Input S) → OfScript old new (λ text left. ReadLines Faulted text left lines)
-          → Rose old.faults new.faults → Begun model tell e (Err (line_fault line.ReadFault)) old new before mid
+          → Rose old.faults new.faults → BegunWith model tell e set (Err (line_fault line.ReadFault)) old new before mid
       unread old new read rose =
           began lines state index mid mid so_far (Err (line_fault line.ReadFault)) old new
           (read, wrote [] [] mid (takes_none mid.sink.taken) (refl, refl), so_far.held, rose, so_far.no_fault)
@@ -148,26 +151,26 @@ module _ {K D : Type 0} (model : DiskModel D) (tell : List ℕ → List ℕ) (e 
         unmade : IsUncheckpointed model e state bytes mid now
             → IsDiskFailed model tell e set lines so_far.effects state old new before now
         unmade failed = record {
-          line = bytes;
-          read = subst (λ l. OfScript old new (StopsBehind (lines ++ l ∷ [])))
-              (handed_whole line bytes handed failed.says) read;
-          says = failed.says;
-          closed = failed.closed;
-          taken = subst (λ sink. TakesAll before.sink.taken (written_by tell so_far.effects) sink)
-              (ap (λ (s : Output K). s.taken) (sym failed.sink)) so_far.taken;
-          held = failed.held ∙ so_far.held;
-          told = failed.fails.told ∙ so_far.acknowledged.told;
-          marks = subst (λ marks. AreMarks (model.calls before.disk) marks (acknowledged_in so_far.effects)
-              (model.calls now.disk)) (sym failed.marks)
-              (marks_then model e election set (acknowledged_in so_far.effects) before.disk mid.disk mid.marks
-              so_far.acknowledged now.disk failed.fails.later);
-          crashes = subst (λ marks. LosesNothing model e set before.disk now.disk marks (acknowledged_in so_far.effects)
-              (state.set ∷ [])) (sym failed.marks) (uncheckpointed model e election set (acknowledged_in so_far.effects)
-              before.disk mid.disk mid.marks so_far.acknowledged state.set now.disk failed.fails);
-          once_synced = subst (λ marks. LosesNothingOnceSynced model e set before.disk now.disk marks
-              (acknowledged_in so_far.effects) (state.set ∷ [])) (sym failed.marks)
-              (uncheckpointed_synced model e election set (acknowledged_in so_far.effects) before.disk mid.disk mid.marks
-              so_far.acknowledged state.set now.disk failed.fails);
+          stops = record {
+            line = bytes;
+            read = subst (λ l. OfScript old new (StopsBehind (lines ++ l ∷ [])))
+                (handed_whole line bytes handed failed.says) read;
+            says = failed.says;
+            closed = failed.closed;
+            taken = subst (λ sink. TakesAll before.sink.taken (written_by tell so_far.effects) sink)
+                (ap (λ (s : Output K). s.taken) (sym failed.sink)) so_far.taken;
+            held = failed.held ∙ so_far.held;
+          };
+          tried = subst (λ marks. Tried model e set before.disk now.disk marks (acknowledged_in so_far.effects) state.set)
+              (sym failed.marks) (record {
+                told = failed.fails.told ∙ so_far.acknowledged.told;
+                marked = marks_then model e election set (acknowledged_in so_far.effects) before.disk mid.disk mid.marks
+                    so_far.acknowledged now.disk failed.fails.later;
+                crashes = uncheckpointed model e election set (acknowledged_in so_far.effects) before.disk mid.disk mid.marks
+                    so_far.acknowledged state.set now.disk failed.fails;
+                once_synced = uncheckpointed_synced model e election set (acknowledged_in so_far.effects) before.disk mid.disk
+                    mid.marks so_far.acknowledged state.set now.disk failed.fails;
+              });
           rose = subst (λ n. Rose n (model.faults now.disk)) so_far.acknowledged.no_fault failed.fails.rose;
         }
           where
@@ -177,7 +180,7 @@ module _ {K D : Type 0} (model : DiskModel D) (tell : List ℕ → List ℕ) (e 
             handed_whole _ _ wide says = absurd (nothing_says e Checkpoint says)
 
         pub line_failed : (why : SessionFault) → LineEnds model tell e (index + 1) state bytes (Err why) mid now
-            → Begun model tell e (Err (session_fault why)) old new before now
+            → BegunWith model tell e set (Err (session_fault why)) old new before now
         line_failed session.DiskFault failed =
             began lines state index mid now so_far (Err (session_fault session.DiskFault)) old new
             (unmade failed, steady, ap (λ (s : Output K). s.faults) failed.sink ∙ so_far.no_fault)

@@ -104,7 +104,7 @@ went_on {S} {K} model tell_own tell own e state answer old new mid after set bef
     of_both answer (subst (λ (e : Election). HasBegun model e set state before mid
     → Begun model tell e answer old new before after) same
     (subst (λ (tell : List ℕ → List ℕ). HasBegun model own set state before mid
-    → Begun model tell own answer old new before after) told (goes set before)) starts)
+    → Begun model tell own answer old new before after) told (λ starts. (goes set before starts).0)) starts)
   where
     of_both : (answer : Result (Unit {0}) RunFault) → Begun model tell e answer old new before after
         → SessionEnds model tell e answer old new before after

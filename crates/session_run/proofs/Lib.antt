@@ -2,6 +2,7 @@ pub mod Acknowledging
 pub mod Beginning
 pub mod Ending
 pub mod Going
+pub mod Marks
 pub mod Plays
 pub mod Queued
 pub mod SoFar

@@ -81,21 +81,30 @@ pub record IsInterrupted {S K D : Type 0} (model : DiskModel D) (tell : List ℕ
   pub count : ℕ
   pub wrote : Wrote model tell e set effects (take count (tell reply)) more before after
 
--- the next line is a checkpoint, and the disk failed at it
-pub record IsDiskFailed {S K D : Type 0} (model : DiskModel D) (tell : List ℕ → List ℕ) (e : Election)
-    (set : List Ballot) (lines : List (Option (List ℕ))) (effects : List Effect) (state : State) (old new : Input S)
-    (before after : Around K D) : Type 0 where
+-- the next line is a checkpoint, and nothing is written of it
+pub record IsAtCheckpoint {S K D : Type 0} (tell : List ℕ → List ℕ) (e : Election) (lines : List (Option (List ℕ)))
+    (effects : List Effect) (state : State) (old new : Input S) (before after : Around K D) : Type 0 where
   pub line : List ℕ
   pub read : OfScript old new (StopsBehind (lines ++ Some line ∷ []))
   pub says : Says e line Checkpoint
   pub closed : state.phase ≡ Closed
   pub taken : TakesAll before.sink.taken (written_by tell effects) after.sink.taken
   pub held : after.held ≡ length state.set
-  pub told : is_some (model.seen after.disk) ≡ is_some (model.seen before.disk)
-  pub marks : AreMarks (model.calls before.disk) after.marks (acknowledged_in effects) (model.calls after.disk)
-  pub crashes : LosesNothing model e set before.disk after.disk after.marks (acknowledged_in effects) (state.set ∷ [])
-  pub once_synced : LosesNothingOnceSynced model e set before.disk after.disk after.marks (acknowledged_in effects)
-      (state.set ∷ [])
+
+-- these sets were acknowledged at these marks, and one more was tried, in vain
+pub record Tried {D : Type 0} (model : DiskModel D) (e : Election) (set : List Ballot) (before after : D)
+    (marks : List ℕ) (acknowledged : List (List Ballot)) (tried : List Ballot) : Type 0 where
+  pub told : is_some (model.seen after) ≡ is_some (model.seen before)
+  pub marked : AreMarks (model.calls before) marks acknowledged (model.calls after)
+  pub crashes : LosesNothing model e set before after marks acknowledged (tried ∷ [])
+  pub once_synced : LosesNothingOnceSynced model e set before after marks acknowledged (tried ∷ [])
+
+-- the next line is a checkpoint, and the disk failed at it
+pub record IsDiskFailed {S K D : Type 0} (model : DiskModel D) (tell : List ℕ → List ℕ) (e : Election)
+    (set : List Ballot) (lines : List (Option (List ℕ))) (effects : List Effect) (state : State) (old new : Input S)
+    (before after : Around K D) : Type 0 where
+  pub stops : IsAtCheckpoint tell e lines effects state old new before after
+  pub tried : Tried model e set before.disk after.disk after.marks (acknowledged_in effects) state.set
   pub rose : Rose (model.faults before.disk) (model.faults after.disk)
 
 -- how the handling of lines ended, once these were handled, where `tell` says what is told of a reply
@@ -140,6 +149,12 @@ pub record Begun {S K D : Type 0} (model : DiskModel D) (tell : List ℕ → Lis
   pub plays : Plays e 1 (begun set) lines effects state
   pub ends : HandlingEnds model tell e set lines effects state answer old new before after
 
+-- It began with this set.
+abbrev pub BegunWith : {S K D : Type 0} → DiskModel D → (List ℕ → List ℕ) → Election → List Ballot
+    → Result (Unit {0}) RunFault → Input S → Input S → Around K D → Around K D → Type 0
+BegunWith model tell e set answer old new before after =
+    (one : Begun model tell e answer old new before after) × (one.set ≡ set)
+
 -- ---- a session that has just begun
 
 -- The recovery of a medium has handed out this set, in this state of a session, and no line was handled yet.
@@ -157,7 +172,7 @@ pub record HasBegun {K D : Type 0} (model : DiskModel D) (e : Election) (set : L
 abbrev pub GoesOn : {S K D : Type 0} → DiskModel D → (List ℕ → List ℕ) → Election → State
     → Result (Unit {0}) RunFault → Input S → Input S → Around K D → Around K D → Type 0
 GoesOn {K} {D} model tell e state answer old new now after = (set : List Ballot) (before : Around K D)
-    → HasBegun model e set state before now → Begun model tell e answer old new before after
+    → HasBegun model e set state before now → BegunWith model tell e set answer old new before after
 
 -- ---- both
 

@@ -1,5 +1,5 @@
 -- What a session has done so far.
-use Rattle.std.specs.Prelude.{◌≡◌, ◌+◌, ◌<◌, ◌≤◌, ℕ, List, [], ◌∷◌, ◌++◌, flat_map, Some, is_some}
+use Rattle.std.specs.Prelude.{◌≡◌, ◌+◌, ◌<◌, ◌≤◌, ℕ, List, [], ◌∷◌, ◌++◌, All, flat_map, Some, is_some}
 use Rattle.outside_io.specs.Stream.{TakesAll}
 use Rattle.phase_gate.specs.Around.{Around}
 use Rattle.phase_gate.specs.Checkpointed.{IsMediumNow}
@@ -76,3 +76,18 @@ pub record Wrote {K D : Type 0} (model : DiskModel D) (tell : List ℕ → List 
     (effects : List Effect) (rest : List ℕ) (more : List (List Ballot)) (before after : Around K D) : Type 0 where
   pub taken : TakesAll before.sink.taken (written_by tell effects ++ rest) after.sink.taken
   pub acknowledged : Acknowledged model e set (acknowledged_in effects ++ more) before.disk after.disk after.marks
+
+-- ---- marks and faults
+
+-- no call failed, and all marks were made by now
+pub record Stands {D : Type 0} (model : DiskModel D) (start now : D) (marks : List ℕ) : Type 0 where
+  pub steady : model.faults now ≡ model.faults start
+  pub marked : All (λ mark. mark ≤ model.calls now) marks
+
+-- so it was at a moment from which calls led on, the last of which may have failed
+pub record Stood {D : Type 0} (model : DiskModel D) (leads_to : D → D → Type 0) (start now : D) (marks : List ℕ)
+    : Type 0 where
+  pub mid : D
+  pub before : leads_to start mid
+  pub stands : Stands model start mid marks
+  pub after : leads_to mid now

@@ -13,12 +13,12 @@ module _ {A B T : Type 0} (one : DiskModel A) (one_leads : A → A → Type 0) (
   leaves t = twin_leaves one.calls one.may_leave two.calls two.may_leave (view t)
 
   -- an image of either disk is one of the twin
-  first-left : (t : T) (m : ℕ) (c : List ℕ) → m ≤ after_calls (one.calls (view t).first) → one.may_leave (view t).first m c → leaves t m c
+  pub first-left : (t : T) (m : ℕ) (c : List ℕ) → m ≤ after_calls (one.calls (view t).first) → one.may_leave (view t).first m c → leaves t m c
   first-left t m c le left =
       let is : m ≡ min m (after_calls (one.calls (view t).first)) = omega arith in
       inr (inl (subst (λ k. one.may_leave (view t).first k c) is left))
 
-  second-left : (t : T) (m k : ℕ) (c : List ℕ) → k ≤ after_calls (two.calls (view t).second) → second_moment (view t) m ≡ k → two.may_leave (view t).second k c → leaves t m c
+  pub second-left : (t : T) (m k : ℕ) (c : List ℕ) → k ≤ after_calls (two.calls (view t).second) → second_moment (view t) m ≡ k → two.may_leave (view t).second k c → leaves t m c
   second-left t m k c le at left =
       let is : k ≡ min (second_moment (view t) m) (after_calls (two.calls (view t).second)) = omega arith in
       inr (inr (subst (λ j. two.may_leave (view t).second j c) is left))

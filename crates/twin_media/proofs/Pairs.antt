@@ -1,5 +1,5 @@
 -- Two disks that were found to hold this or that become a pair.
-use Rattle.std.proofs.Common.{◌≡◌, ℕ, ◌<◌, inr, ⊎_elim, List, Option, Some, None, sym, subst}
+use Rattle.std.proofs.Common.{◌≡◌, ℕ, ◌<◌, ⊎_elim, List, Option, Some, None, sym, subst}
 use Rattle.std.specs.Prelude.{◌≢◌, IfSome}
 use Rattle.outside_io.proofs.Told.{told_holds}
 use Rattle.store_spec.specs.Ballot.{Ballot}
@@ -9,7 +9,7 @@ use Rattle.store_spec.specs.Fault.{last_count}
 use Rattle.store_spec.specs.Medium.{HoldsSet}
 use Rattle.twin_media.proofs.Kept.{held_holds, kept_once}
 use Rattle.twin_media.specs.Finding.{HasFound}
-use Rattle.twin_media.specs.Pairing.{AreCompared, IsKeptOr, IsPaired, IsPairSet, PairLeaves}
+use Rattle.twin_media.specs.Pairing.{AreCompared, BothKept, IsKeptOr, IsPaired, IsPairSet}
 use Rattle.twin_media.specs.declared.finding.Held.{Held}
 use Rattle.twin_media.specs.declared.pairing.Paired.{Paired}
 use Rattle.twin_media.specs.declared.pairing.Paired.TheVariants.{Equal, Differed, FirstRestored, SecondRestored}
@@ -46,18 +46,17 @@ module _ (e : Election) (one two : List ℕ) (found other_found : Option Held) (
 -- ---- both were looked at, and then made the medium of the set
 
 module _ {A B : Type 0} (first : DiskModel A) (second : DiskModel B) (e : Election) (old mid new : A) (before looked after : B) (found other_found : Option Held) (set : List Ballot) where
-  pub both_leave : (one two : List ℕ) → first.seen old ≡ Some one → second.seen before ≡ Some two
+  pub both_kept : (one two : List ℕ) → first.seen old ≡ Some one → second.seen before ≡ Some two
       → IfSome (first.seen old) (HasFound e found) → IfSome (second.seen before) (HasFound e other_found)
       → (HasFound e found one → HasFound e other_found two → IsPairSet e one two set)
       → (first.calls mid < last_count → first.calls old < first.calls mid) → (second.calls looked < last_count → second.calls before < second.calls looked)
       → LeavesOnlyOnceSynced first.calls first.may_leave old mid (λ image. image ≡ one) → LeavesOnlyOnceSynced second.calls second.may_leave before looked (λ image. image ≡ two)
       → LeavesOnly first.calls first.may_leave mid new (IsKeptOr e (λ other. other ≡ set) one) → LeavesOnly second.calls second.may_leave looked after (IsKeptOr e (λ other. other ≡ set) two)
-      → PairLeaves first second e one two old new before after
-  both_leave one two sees sees_two has has_other pair called called_two synced synced_two made made_two =
+      → BothKept first second e one two old new before after
+  both_kept one two sees sees_two has has_other pair called called_two synced synced_two made made_two =
       let here = told_holds (HasFound e found) one sees has in
       let there = told_holds (HasFound e other_found) two sees_two has_other in
-      let is : (other : List Ballot) → other ≡ set → IsPairSet e one two other = λ other same. subst (IsPairSet e one two) (sym same) (pair here there) in
-      inr (inr (
+      let is : (other : List Ballot) → other ≡ set → IsPairSet e one two other = λ other same. subst (IsPairSet e one two) (sym same) (pair here there) in (
         kept_once first.calls first.may_leave e one found (λ other. other ≡ set) (IsPairSet e one two) old mid new here is called synced made,
         kept_once second.calls second.may_leave e two other_found (λ other. other ≡ set) (IsPairSet e one two) before looked after there is called_two synced_two made_two,
-      ))
+      )

@@ -22,4 +22,4 @@ pub record IsInStep (first_calls second_calls first_begun second_begun passed ca
 abbrev pub IsRefused : Option ℕ → Option ℕ → ℕ → ℕ → Type 0
 IsRefused old new first_calls second_calls =
     (IsSome old × (new ≡ old))
-    ⊎ ((old ≡ None) × (((new ≡ Some 0) × (first_calls ≡ last_count)) ⊎ ((new ≡ Some 1) × (second_calls ≡ last_count))))
+    ⊎ ((old ≡ None) × (((new ≡ Some 0) × (last_count ≤ first_calls + 2)) ⊎ ((new ≡ Some 1) × (last_count ≤ second_calls + 2))))

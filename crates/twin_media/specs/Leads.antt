@@ -1,5 +1,5 @@
 -- What calls on a disk over two disks lead to, for whoever gets the two disks back.
-use Rattle.std.specs.Prelude.{◌≡◌, ◌↔◌, ◌⊎◌, ℕ, ◌<◌, ◌≤◌, List, Some, None, is_some, IsSome}
+use Rattle.std.specs.Prelude.{◌≡◌, ◌↔◌, ◌⊎◌, ℕ, ◌+◌, ◌<◌, ◌≤◌, List, Some, None, is_some, IsSome}
 use Rattle.store_spec.specs.Fault.{last_count, Rose}
 use Rattle.store_spec.specs.Disk.{DiskModel, after_calls}
 use Rattle.twin_media.specs.State.{TwinState}
@@ -13,9 +13,9 @@ pub record SideLeads {D : Type 0} (disk : DiskModel D) (leads_to : D → D → T
   pub faults : disk.faults old ≤ disk.faults new
   pub told : is_some (disk.seen new) ≡ is_some (disk.seen old)
 
--- one of the two disks counts as the one that failed: it counted a fault, or it can count no more calls
+-- one of the two disks counts as the one that failed: it counted a fault, or its count of calls is at its end
 abbrev pub IsBlamed : {D : Type 0} → DiskModel D → D → D → Type 0
-IsBlamed disk old new = Rose (disk.faults old) (disk.faults new) ⊎ (disk.calls new ≡ last_count)
+IsBlamed disk old new = Rose (disk.faults old) (disk.faults new) ⊎ (last_count ≤ disk.calls new + 2)
 
 -- From one state to a later one: each disk by itself, and which of them failed. A disk failed since where the twin
 -- counted a fault. After a call that failed both disks stay as they are.
@@ -31,5 +31,11 @@ pub record TwinLeads {A B : Type 0} (one : DiskModel A) (one_leads : A → A →
   pub no_fault : new.failed ≡ None → new.faults ≡ old.faults
   pub none_failed : new.faults ≡ old.faults → new.failed ≡ old.failed
   pub steady : new.failed ≡ None → (one.faults new.first ≡ one.faults old.first) × (two.faults new.second ≡ two.faults old.second)
+  pub passed : old.passed ≤ new.passed
+  pub counts : old.passed + 1 < last_count → new.passed + 1 < last_count
   pub first_failed : old.failed ≡ None → new.failed ≡ Some 0 → IsBlamed one old.first new.first
   pub second_failed : old.failed ≡ None → new.failed ≡ Some 1 → IsBlamed two old.second new.second
+
+-- The same where the last call failed, and none before it: the twin counted that one alone beyond those that passed.
+abbrev pub TwinFails : {A B : Type 0} → TwinState A B → TwinState A B → Type 0
+TwinFails old new = old.failed ≡ None → new.calls ≤ new.passed + 1

@@ -94,6 +94,12 @@ IsKeptOr e IsNew bytes image =
     (IsUnused e bytes × IsUnused e image)
     ⊎ (HoldsSetOf e bytes image ⊎ ((set : List Ballot) × IsNew set × HoldsSet e image set))
 
+-- Both were synced, and from then on each keeps what it held, or holds the set of the pair.
+abbrev pub BothKept : {A B : Type 0} → DiskModel A → DiskModel B → Election → List ℕ → List ℕ → A → A → B → B → Type 0
+BothKept first second e one two old new old_second new_second =
+    LeavesOnlyOnceSynced first.calls first.may_leave old new (IsKeptOr e (IsPairSet e one two) one)
+    × LeavesOnlyOnceSynced second.calls second.may_leave old_second new_second (IsKeptOr e (IsPairSet e one two) two)
+
 -- What a crash leaves of both disks. The first is synced first: where that fails, nothing more is called. Then the second
 -- is: where that fails, or a disk is refused, neither is written. Where both succeeded, each disk keeps what it held, or
 -- holds the set of the pair.
@@ -102,5 +108,4 @@ PairLeaves first second e one two old new old_second new_second =
     (KeepsCrashImages first.calls first.may_leave old new × (new_second ≡ old_second))
     ⊎ ((LeavesOnlyOnceSynced first.calls first.may_leave old new (λ image. image ≡ one)
     × ((new_second ≡ old_second) ⊎ SyncsFirst second.calls second.may_leave old_second new_second (λ image. image ≡ two)))
-    ⊎ (LeavesOnlyOnceSynced first.calls first.may_leave old new (IsKeptOr e (IsPairSet e one two) one)
-    × LeavesOnlyOnceSynced second.calls second.may_leave old_second new_second (IsKeptOr e (IsPairSet e one two) two)))
+    ⊎ BothKept first second e one two old new old_second new_second)

@@ -1,11 +1,11 @@
 -- The laws of a disk over two disks. A type's members may cite no proofs of their own crate, so what proves these laws
 -- stands here, and nothing else.
-use Rattle.std.proofs.Common.{◌≡◌, ℕ, ◌≤◌, min, List, Option, Some, None, refl, sym, ◌∙◌, subst, inl, inr, arith, ⊎_elim}
+use Rattle.std.proofs.Common.{◌≡◌, ℕ, ◌+◌, ◌≤◌, min, List, Option, Some, None, refl, sym, ◌∙◌, subst, inl, inr, arith, ⊎_elim}
 use Rattle.std.specs.Prelude.{◌⊎◌, is_some, IsSome}
 use Rattle.store_spec.specs.Fault.{last_count, Rose}
 use Rattle.store_spec.specs.Disk.{DiskModel, after_calls, leaves_now}
 use Rattle.twin_media.specs.State.{TwinState, twin_leaves}
-use Rattle.twin_media.specs.Leads.{SideLeads, IsBlamed, TwinLeads}
+use Rattle.twin_media.specs.Leads.{SideLeads, IsBlamed, TwinFails, TwinLeads}
 
 none-or-some : (failed : Option ℕ) → (failed ≡ None) ⊎ IsSome failed
 none-or-some None = inl refl
@@ -54,6 +54,8 @@ module _ {A B : Type 0} (first : DiskModel A) (first_leads : A → A → Type 0)
     no_fault = λ none. refl;
     none_failed = λ same. refl;
     steady = λ none. (refl, refl);
+    passed = omega arith;
+    counts = λ below. below;
     first_failed = λ none some. absurd (cc);
     second_failed = λ none some. absurd (cc);
   }
@@ -86,17 +88,23 @@ module _ {A B : Type 0} (first : DiskModel A) (first_leads : A → A → Type 0)
             let before : mid.faults ≡ old.faults = omega (arith, one.later, two.later) in
             two.none_failed after ∙ one.none_failed before;
         steady = λ none. let before = none-before mid new two none in ((two.steady none).0 ∙ (one.steady before).0, (two.steady none).1 ∙ (one.steady before).1);
+        passed = omega (arith, one.passed, two.passed);
+        counts = λ below. two.counts (one.counts below);
         first_failed = λ none some.
             ⊎_elim
-            (λ (passed : mid.failed ≡ None). subst (λ n. Rose n (first.faults new.first) ⊎ (first.calls new.first ≡ last_count)) (one.steady passed).0 (two.first_failed passed some))
+            (λ (passed : mid.failed ≡ None). subst (λ n. Rose n (first.faults new.first) ⊎ (last_count ≤ first.calls new.first + 2)) (one.steady passed).0 (two.first_failed passed some))
             (λ (failed : IsSome mid.failed). subst (λ d. IsBlamed first old.first d) (sym (two.stays failed).0) (one.first_failed none (sym (two.stays failed).2 ∙ some)))
             (none-or-some mid.failed);
         second_failed = λ none some.
             ⊎_elim
-            (λ (passed : mid.failed ≡ None). subst (λ n. Rose n (second.faults new.second) ⊎ (second.calls new.second ≡ last_count)) (one.steady passed).1 (two.second_failed passed some))
+            (λ (passed : mid.failed ≡ None). subst (λ n. Rose n (second.faults new.second) ⊎ (last_count ≤ second.calls new.second + 2)) (one.steady passed).1 (two.second_failed passed some))
             (λ (failed : IsSome mid.failed). subst (λ d. IsBlamed second old.second d) (sym (two.stays failed).1) (one.second_failed none (sym (two.stays failed).2 ∙ some)))
             (none-or-some mid.failed);
       }
+
+  -- a call that failed behind calls of which none did
+  pub twin-fails : (old mid new : TwinState A B) → TwinLeads first first_leads second second_leads old mid → mid.faults ≡ old.faults → TwinFails mid new → TwinFails old new
+  twin-fails old mid new leads same fails none = fails (leads.none_failed same ∙ none)
 
 -- ---- what is seen, and what a crash leaves
 

@@ -139,6 +139,7 @@ fn mend<D: Disk>(
     ensures any_moment { (bytes : List ℕ) → D.seen disk.old ≡ Some bytes
         → LeavesOnly D.calls D.may_leave disk.old disk.new
         (λ image. HoldsSet election.now image held.now.store.ballots) }
+    ensures later { D.calls disk.old ≤ D.calls disk.new }
     ensures fault { CountsFault result (D.faults disk.old) (D.faults disk.new) }
     ensures leads { D.leads_to disk.old disk.new }
 {
@@ -167,6 +168,7 @@ fn renew<D: Disk>(
     ensures any_moment { (bytes : List ℕ) → D.seen disk.old ≡ Some bytes
         → LeavesOnly D.calls D.may_leave disk.old disk.new
         (IsKeptOr election.now (λ set. set ≡ store.now.ballots) bytes) }
+    ensures later { D.calls disk.old ≤ D.calls disk.new }
     ensures fault { CountsFault result (D.faults disk.old) (D.faults disk.new) }
     ensures leads { D.leads_to disk.old disk.new }
 {
@@ -196,6 +198,7 @@ pub(crate) fn make<D: Disk>(
     ensures any_moment { (bytes : List ℕ) → D.seen disk.old ≡ Some bytes
         → LeavesOnly D.calls D.may_leave disk.old disk.new
         (IsKeptOr election.now (λ set. set ≡ store.now.ballots) bytes) }
+    ensures later { D.calls disk.old ≤ D.calls disk.new }
     ensures fault { CountsFault result (D.faults disk.old) (D.faults disk.new) }
     ensures leads { D.leads_to disk.old disk.new }
 {

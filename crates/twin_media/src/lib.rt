@@ -8,4 +8,4 @@ mod twin;
 
 pub use fault::{DiskWhy, FirstWhy, PairFault, SecondWhy};
 pub use pairing::{Paired, pair};
-pub use twin::Twin;
+pub use twin::{LAST_MADE, Twin};

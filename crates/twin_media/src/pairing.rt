@@ -1,15 +1,15 @@
 //! Two disks become a pair.
 
-ghost use Rattle.std.specs.Prelude.{◌≡◌, ◌≢◌, ℕ, List, Some, is_some, IfErr, IfOk, IfSome, IsErrOf, OnOk};
+ghost use Rattle.std.specs.Prelude.{◌≡◌, ◌≢◌, ◌<◌, ◌≤◌, ℕ, List, Some, is_some, IfErr, IfOk, IfSome, IsErrOf, OnOk};
 ghost use Rattle.std.specs.Option.{ForSome};
 ghost use Rattle.body_store.specs.Contents.{IsStored};
 ghost use Rattle.outside_io.specs.Told.{AsTold};
 ghost use Rattle.store_spec.specs.Ballot.{Ballot};
 ghost use Rattle.store_spec.specs.Disk.{disk_model, IsSettled, LeavesOnly, LeavesOnlyOnceSynced};
-ghost use Rattle.store_spec.specs.Fault.{CountsFaultIf};
+ghost use Rattle.store_spec.specs.Fault.{last_count, CountsFaultIf};
 ghost use Rattle.store_spec.specs.Medium.{IsMediumOf};
 ghost use Rattle.twin_media.specs.Finding.{IsFound, IsOf};
-ghost use Rattle.twin_media.specs.Pairing.{AreCompared, IsKeptOr, IsPaired, IsPairSet, IsUnwrittenPair, MakeRefuses, PairLeaves, PairRefuses};
+ghost use Rattle.twin_media.specs.Pairing.{AreCompared, BothKept, IsKeptOr, IsPaired, IsPairSet, IsUnwrittenPair, MakeRefuses, PairLeaves, PairRefuses};
 
 use crate::fault::PairFault;
 use crate::finding::{Held, find, make, same_set};
@@ -78,6 +78,8 @@ fn make_both<A: Disk, B: Disk>(
     ensures refused { IfErr result (MakeRefuses
         (disk_model A.seen A.calls A.may_leave A.faults)
         (disk_model B.seen B.calls B.may_leave B.faults) first.old first.new second.old second.new) }
+    ensures first_later { A.calls first.old ≤ A.calls first.new }
+    ensures second_later { B.calls second.old ≤ B.calls second.new }
     ensures first_fault { CountsFaultIf (IsErrOf result PairFault.FirstFault)
         (A.faults first.old) (A.faults first.new) }
     ensures second_fault { CountsFaultIf (IsErrOf result PairFault.SecondFault)
@@ -130,6 +132,15 @@ pub fn pair<A: Disk, B: Disk>(
         (disk_model A.seen A.calls A.may_leave A.faults)
         (disk_model B.seen B.calls B.may_leave B.faults)
         election.now one two first.old first.new second.old second.new }
+    ensures once_synced { OnOk result ((one two : List ℕ)
+        → A.seen first.old ≡ Some one → B.seen second.old ≡ Some two → BothKept
+        (disk_model A.seen A.calls A.may_leave A.faults)
+        (disk_model B.seen B.calls B.may_leave B.faults)
+        election.now one two first.old first.new second.old second.new) }
+    ensures first_called { OnOk result
+        (A.calls first.new < last_count → A.calls first.old < A.calls first.new) }
+    ensures second_called { OnOk result
+        (B.calls second.new < last_count → B.calls second.old < B.calls second.new) }
     ensures first_fault { CountsFaultIf (IsErrOf result PairFault.FirstFault)
         (A.faults first.old) (A.faults first.new) }
     ensures second_fault { CountsFaultIf (IsErrOf result PairFault.SecondFault)

@@ -1,6 +1,6 @@
 //! A disk over two disks, which stops at its first call that fails.
 
-ghost use Rattle.std.specs.Prelude.{◌≡◌, ℕ, ◌+◌, ◌≤◌, ◌<◌, Option, None, Some, is_some, OnOk, OnErr};
+ghost use Rattle.std.specs.Prelude.{◌≡◌, ◌↔◌, ◌⊎◌, ℕ, ◌+◌, ◌≤◌, ◌<◌, Option, None, Some, is_some, IsTrue, OnOk, OnErr};
 ghost use Rattle.std.specs.Option.{ForSome};
 ghost use Rattle.std.proofs.Props.{props};
 ghost use Rattle.store_spec.specs.Fault.{last_count, next_count, Rose};
@@ -15,6 +15,10 @@ const FIRST: u32 = 0;
 
 /// Which of two disks: the second.
 const SECOND: u32 = 1;
+
+/// Where a disk's count of calls stands here, no further call is made on it, so that no count comes to its last value,
+/// which would stand for many moments: not that of a disk, nor the twin's with the call that fails for it.
+pub const LAST_MADE: u64 = u64::MAX - 2;
 
 /// A disk over two disks. Each call is made on both, and where none failed both give the same bytes. After its first
 /// call that failed it calls neither.
@@ -51,6 +55,7 @@ impl<'a, A: Disk, B: Disk> Twin<'a, A, B> {
         ensures second { result.second ≡ second.entry }
         ensures first_begun { result.first_begun ≡ A.calls first.old }
         ensures second_begun { result.second_begun ≡ B.calls second.old }
+        ensures passed { result.passed ≡ A.calls first.old }
         ensures failed { result.failed ≡ None }
         ensures calls { result.calls ≡ A.calls first.old }
         ensures faults { count_of result.faults ≡ 0 }
@@ -72,13 +77,21 @@ impl<'a, A: Disk, B: Disk> Twin<'a, A, B> {
     }
 
     /// The disk that failed first, 0 for the first and 1 for the second. A disk whose count of calls stands at its last
-    /// value counts as one that failed.
+    /// value, or up to two before it, counts as one that failed.
     pub fn failed(&self) -> Option<u32>
         ensures failed { result ≡ self.now.failed }
         ensures none { result ≡ None → count_of self.now.faults ≡ 0 }
         ensures named { ForSome result (λ disk. disk ≤ 1) }
     {
         self.failed
+    }
+
+    /// Whether the count of calls of one of the disks is at its end, so that no further call is made on either.
+    pub fn is_counted_out(&self) -> bool
+        ensures { IsTrue result ↔ ((last_count ≤ A.calls self.now.first.now + 2)
+            ⊎ (last_count ≤ B.calls self.now.second.now + 2)) }
+    {
+        self.first.calls() >= LAST_MADE || self.second.calls() >= LAST_MADE
     }
 
     /// The second disk's count of calls.
@@ -103,6 +116,7 @@ impl<'a, A: Disk, B: Disk> Twin<'a, A, B> {
         ensures none { OnOk result (self.old.failed ≡ None) }
         ensures first_counts { OnOk result (A.calls self.old.first.now < last_count) }
         ensures second_counts { OnOk result (B.calls self.old.second.now < last_count) }
+        ensures first_goes_on { OnOk result (A.calls self.old.first.now + 2 < last_count) }
         ensures under_way { OnOk result (self.new.failed ≡ Some disk) }
         ensures no_fault { OnOk result (self.new.faults ≡ self.old.faults) }
         ensures refused { OnErr result (IsRefused self.old.failed self.new.failed
@@ -112,9 +126,9 @@ impl<'a, A: Disk, B: Disk> Twin<'a, A, B> {
     {
         self.calls = self.calls.saturating_add(1);
         if self.failed.is_none() {
-            if self.first.calls() == u64::MAX {
+            if self.first.calls() >= LAST_MADE {
                 self.failed = Some(FIRST);
-            } else if self.second.calls() == u64::MAX {
+            } else if self.second.calls() >= LAST_MADE {
                 self.failed = Some(SECOND);
             } else {
                 self.failed = Some(disk);
@@ -149,8 +163,8 @@ impl<'a, A: Disk, B: Disk> Twin<'a, A, B> {
 impl<'a, A: Disk, B: Disk> Disk for Twin<'a, A, B> {
     ghost use Rattle.store_spec.specs.Disk.{disk_model};
     ghost use Rattle.twin_media.specs.State.{twin_leaves};
-    ghost use Rattle.twin_media.specs.Leads.{TwinLeads};
-    ghost use Rattle.twin_media.specs.TwinLaws.{twin-itself, twin-on, twin-image, twin-told};
+    ghost use Rattle.twin_media.specs.Leads.{TwinFails, TwinLeads};
+    ghost use Rattle.twin_media.specs.TwinLaws.{twin-itself, twin-on, twin-fails, twin-image, twin-told};
     ghost use Rattle.twin_media.specs.Views.{state_of};
 
     ghost seen = { λ twin. A.seen twin.first.now };
@@ -165,6 +179,8 @@ impl<'a, A: Disk, B: Disk> Disk for Twin<'a, A, B> {
         (disk_model A.seen A.calls A.may_leave A.faults) A.leads_to
         (disk_model B.seen B.calls B.may_leave B.faults) B.leads_to
         (state_of old) (state_of new) };
+
+    ghost fails_to = { λ old new. TwinFails (state_of old) (state_of new) };
 
     ghost counted_calls = { λ twin. twin.within };
 
@@ -188,6 +204,11 @@ impl<'a, A: Disk, B: Disk> Disk for Twin<'a, A, B> {
         (disk_model A.seen A.calls A.may_leave A.faults) A.leads_to
         (disk_model B.seen B.calls B.may_leave B.faults) B.leads_to
         A.leads_on B.leads_on (state_of old) (state_of mid) (state_of new) one two };
+
+    ghost fails_on = { λ old mid new lead same fails. twin-fails
+        (disk_model A.seen A.calls A.may_leave A.faults) A.leads_to
+        (disk_model B.seen B.calls B.may_leave B.faults) B.leads_to
+        (state_of old) (state_of mid) (state_of new) lead same fails };
 
     fn size(&mut self) -> Result<u64, Failed> {
         self.begin(FIRST)?;

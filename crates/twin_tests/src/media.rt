@@ -73,7 +73,7 @@ fn put(bytes: &mut [u8], place: usize, patch: &[u8])
 }
 
 /// The bank of a set.
-pub fn bank_of(set: Set) -> [u8; 304] {
+pub(crate) fn bank_of(set: Set) -> [u8; 304] {
     let mut bank = [0; 304];
     put(&mut bank, 0, &HEADER);
     if set != Set::Empty {
@@ -99,7 +99,7 @@ fn banks_and_gates(set: Set, gates: &[u8; 2]) -> [u8; 610] {
 }
 
 /// The medium of a set.
-pub fn medium_of(set: Set) -> [u8; 610] {
+pub(crate) fn medium_of(set: Set) -> [u8; 610] {
     banks_and_gates(set, &OPEN)
 }
 
@@ -205,7 +205,7 @@ const EDITS: [Edit; 20] = [
 ];
 
 /// The kind that an edit makes. A byte behind the medium's is 0.
-pub fn kind_of(rt: &impl Abort, alloc: Global, edit: &Edit) -> Result<Kind, Fail> {
+pub(crate) fn kind_of(rt: &impl Abort, alloc: Global, edit: &Edit) -> Result<Kind, Fail> {
     let (set, gates, (place, byte, count), size, found) = *edit;
     let mut medium = banks_and_gates(set, &gates);
     assert!(rt; place <= 610 && count <= 610 - place);
@@ -216,7 +216,7 @@ pub fn kind_of(rt: &impl Abort, alloc: Global, edit: &Edit) -> Result<Kind, Fail
 }
 
 /// A disk with these bytes, of which this call is to fail; none does at 0.
-pub fn disk_of(
+pub(crate) fn disk_of(
     rt: &impl Abort,
     alloc: Global,
     bytes: &[u8],
@@ -253,7 +253,7 @@ fn held_inside(calls: u64, gate: Option<&u8>) -> Found {
 }
 
 /// What a stop after so many calls of a disk, or inside the next one, leaves.
-pub fn stopped(
+pub(crate) fn stopped(
     rt: &impl Abort,
     alloc: Global,
     disk: &MemoryDisk,
@@ -284,7 +284,7 @@ fn add_torn(rt: &impl Abort, alloc: Global, kinds: &mut Vec<Kind>) -> Result<(),
 }
 
 /// One disk of each kind.
-pub fn all_kinds(rt: &impl Abort, alloc: Global) -> Result<Vec<Kind>, Fail> {
+pub(crate) fn all_kinds(rt: &impl Abort, alloc: Global) -> Result<Vec<Kind>, Fail> {
     let mut kinds = Vec::new(alloc);
     for edit in &EDITS {
         kinds.push(kind_of(rt, alloc, edit)?)?;
@@ -294,7 +294,7 @@ pub fn all_kinds(rt: &impl Abort, alloc: Global) -> Result<Vec<Kind>, Fail> {
 }
 
 /// The set whose bank this is.
-pub fn set_of(bank: &[u8]) -> Option<Set> {
+pub(crate) fn set_of(bank: &[u8]) -> Option<Set> {
     for set in [Set::Empty, Set::Two, Set::Three, Set::Changed] {
         if bank == bank_of(set).as_slice() {
             return Some(set);
@@ -304,7 +304,7 @@ pub fn set_of(bank: &[u8]) -> Option<Set> {
 }
 
 /// What the bytes of a disk that was stopped are to be found as.
-pub fn found_in(rt: &impl Abort, bytes: &[u8]) -> Found {
+pub(crate) fn found_in(rt: &impl Abort, bytes: &[u8]) -> Found {
     if bytes.len() < 610 {
         return Found::Lost;
     }

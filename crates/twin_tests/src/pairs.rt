@@ -14,7 +14,7 @@ use std::test::Fail;
 use twin_media::{PairFault, Paired, pair};
 
 /// What a pairing is to answer: the first disk's set is taken unless the first is lost.
-pub fn wanted(found: (Found, Found)) -> Result<(Set, Paired), PairFault> {
+pub(crate) fn wanted(found: (Found, Found)) -> Result<(Set, Paired), PairFault> {
     match found {
         (Found::Refused(why), _) => Err(PairFault::First { why }),
         (_, Found::Refused(why)) => Err(PairFault::Second { why }),
@@ -51,7 +51,7 @@ fn assert_twin(rt: &impl Abort, first: &mut MemoryDisk, second: &mut MemoryDisk,
 }
 
 /// Pairs two disks, and makes calls on the twin over both. It answers the set of the store.
-pub fn paired(
+pub(crate) fn paired(
     rt: &impl Abort,
     alloc: Global,
     first: &mut MemoryDisk,
@@ -66,7 +66,7 @@ pub fn paired(
 
 /// Pairs two disks of these kinds. Where they are refused, neither is written; where the first one is, no call is made on
 /// the second.
-pub fn assert_pair_of(
+pub(crate) fn assert_pair_of(
     rt: &impl Abort,
     alloc: Global,
     one: &Kind,

@@ -64,7 +64,7 @@ fn sync_both<A: Disk, B: Disk>(first: &mut A, second: &mut B) -> Result<(), Fail
 pub type Outcome = ([bool; 4], Option<u32>, (u64, u64), (u64, u64));
 
 // Makes the four calls on a twin of two disks.
-pub fn four_calls_on_both<A: Disk, B: Disk>(first: &mut A, second: &mut B) -> Outcome
+pub(crate) fn four_calls_on_both<A: Disk, B: Disk>(first: &mut A, second: &mut B) -> Outcome
     requires alike { A.seen first.old ≡ B.seen second.old }
     requires three { ForSome (A.seen first.old) (λ bytes. 3 ≤ length bytes) }
     requires first_settled { IsSettled A.seen A.calls A.may_leave first.old }
@@ -174,6 +174,8 @@ impl Disk for Filled {
 
     ghost leads_to = { λ _ _. Unit {0} };
 
+    ghost fails_to = { λ _ _. Unit {0} };
+
     ghost counted_calls = { λ disk. disk.within };
 
     ghost counted_faults = { λ _. Prim.omega arith };
@@ -185,6 +187,8 @@ impl Disk for Filled {
     ghost leads_to_itself = { λ _. tt };
 
     ghost leads_on = { λ _ _ _ _ _. tt };
+
+    ghost fails_on = { λ _ _ _ _ _ _. tt };
 
     fn size(&mut self) -> Result<u64, Failed> {
         self.count();
@@ -226,9 +230,11 @@ fn answers_are_those_of_the_first(rt: HostRuntime) {
 /// Each disk's count of calls at first, how many calls succeed, and the disk that fails then.
 type Counts = ((u64, u64), u64, u32);
 
-const LAST: u64 = u64::MAX;
+// A count of calls at which no more are made.
+const LAST: u64 = u64::MAX - 2;
 
-const COUNTS: [Counts; 8] = [
+const COUNTS: [Counts; 9] = [
+    ((u64::MAX, 0), 0, 0),
     ((LAST, 0), 0, 0),
     ((0, LAST), 0, 1),
     ((LAST, LAST), 0, 0),
@@ -239,7 +245,7 @@ const COUNTS: [Counts; 8] = [
     ((LAST - 3, LAST - 3), 3, 0),
 ];
 
-// Where a count has come to its last value, neither disk is called any more.
+// Where a count has come so far, neither disk is called any more.
 fn assert_counted(rt: &impl Abort, counts: Counts) {
     let (begun, passing, disk) = counts;
     let mut first = Filled::new(1, begun.0);

@@ -1,7 +1,8 @@
 use Rattle.std.proofs.Common.{List, ℕ, map, string_bytes, subst, sym}
 use Rattle.std.specs.Prelude.{IfOk, IfSome}
-use Rattle.ballot_store_cli.proofs.Rows.{found_behind, named_behind, names_large, no_compare, no_large, no_merge, no_migrate, no_sample}
+use Rattle.ballot_store_cli.proofs.Rows.{found_behind, named_behind, names_large, no_compare, no_large, no_merge, no_migrate, no_sample, no_twin, named_one}
 use Rattle.ballot_store_cli.specs.Command.{row}
+use Rattle.ballot_store_cli.specs.declared.command.Command.TheVariants.{Migrate, Twin}
 use Rattle.run_outcome.specs.Row.{IsNamed}
 use Rattle.ballot_store_cli.proofs.command.named_with.Goals as goal
 
@@ -45,8 +46,16 @@ returns-in-merge-clause-none c = no_merge c.args.medium.now c.args.word.now (map
 
 pub returns-in-migrate-clause-named : goal.returns-in-migrate-clause-named
 returns-in-migrate-clause-named c =
-    let words = map string_bytes c.args.words.now in
-    subst (λ (word : List ℕ). IfSome c.migrate_named.result (λ command. IsNamed (row command) c.args.medium.now word words)) (sym c.in-migrate.is) c.migrate_named.ensures.named
+    named_one c.args.medium.now c.args.word.now (map string_bytes c.args.words.now) Migrate c.if_one_medium.result
+    (λ one media. record { word = c.in-migrate.is; further = one; media = media }) c.if_one_medium.ensures.some
 
 pub returns-in-migrate-clause-none : goal.returns-in-migrate-clause-none
-returns-in-migrate-clause-none c = no_migrate c.args.medium.now c.args.word.now (map string_bytes c.args.words.now) c.migrate_named.result c.in-migrate.is c.migrate_named.ensures.none
+returns-in-migrate-clause-none c = no_migrate c.args.medium.now c.args.word.now (map string_bytes c.args.words.now) c.if_one_medium.result c.in-migrate.is c.if_one_medium.ensures.none
+
+pub returns-in-twin-clause-named : goal.returns-in-twin-clause-named
+returns-in-twin-clause-named c =
+    named_one c.args.medium.now c.args.word.now (map string_bytes c.args.words.now) Twin c.if_one_medium-in-twin.result
+    (λ one media. record { word = c.in-twin.is; further = one; media = media }) c.if_one_medium-in-twin.ensures.some
+
+pub returns-in-twin-clause-none : goal.returns-in-twin-clause-none
+returns-in-twin-clause-none c = no_twin c.args.medium.now c.args.word.now (map string_bytes c.args.words.now) c.if_one_medium-in-twin.result c.in-twin.is c.if_one_medium-in-twin.ensures.none

@@ -1,7 +1,7 @@
-use Rattle.std.proofs.Common.{Option, arith, length, map, subst, string_bytes}
+use Rattle.std.proofs.Common.{Option, arith, map, subst, string_bytes}
 use Rattle.std.proofs.lemmas.List.{length-map}
 use Rattle.std.specs.Prelude.{IfSome}
-use Rattle.ballot_store_cli.proofs.Rows.{few_media, one_medium}
+use Rattle.ballot_store_cli.proofs.Rows.{few_media, one_second, one_target}
 use Rattle.ballot_store_cli.proofs.run.run.Goals as goal
 use Rattle.ballot_store_cli.specs.Command.{Forms}
 use Rattle.ballot_store_cli.specs.declared.command.Command.{Command}
@@ -17,5 +17,18 @@ pub carry_out-requires-clause-target : goal.carry_out-requires-clause-target
 carry_out-requires-clause-target g c _ _ is =
     let words = map string_bytes c.args.words.now in
     let formed : Forms words c.in-Ok-Some.command = subst (λ (o : Option Command). IfSome o (Forms words)) c.in-Ok-Some.field-0-is c.in-Ok-Some.ensures.formed in
-    let four = one_medium words c.in-Ok-Some.command formed is in
+    let four = one_target words c.in-Ok-Some.command formed is in
     omega (arith, four, c.requires.more, length-map c.args.words.now string_bytes)
+
+pub carry_out-requires-clause-second : goal.carry_out-requires-clause-second
+carry_out-requires-clause-second g c _ _ is =
+    let words = map string_bytes c.args.words.now in
+    let formed : Forms words c.in-Ok-Some.command = subst (λ (o : Option Command). IfSome o (Forms words)) c.in-Ok-Some.field-0-is c.in-Ok-Some.ensures.formed in
+    let four = one_second words c.in-Ok-Some.command formed is in
+    omega (arith, four, c.requires.more, length-map c.args.words.now string_bytes)
+
+pub carry_out-requires-clause-told : goal.carry_out-requires-clause-told
+carry_out-requires-clause-told g c _ _ is =
+    let words = map string_bytes c.args.words.now in
+    let formed : Forms words c.in-Ok-Some.command = subst (λ (o : Option Command). IfSome o (Forms words)) c.in-Ok-Some.field-0-is c.in-Ok-Some.ensures.formed in
+    c.requires.told (subst (λ (command : Command). Forms words command) is formed)

@@ -2,7 +2,7 @@ use Rattle.std.proofs.Common.{rules, Some, Ok, Err, ap, refl, subst, sym}
 use Rattle.outside_io.specs.Outside.{input, output}
 use Rattle.run_outcome.specs.declared.status.Status.{Status}
 use Rattle.script_lines.specs.Script.{script_left}
-use Rattle.session_commands.proofs.Generating.{large_played}
+use Rattle.session_commands.proofs.Generating.{large_played, reports_alone}
 use Rattle.session_commands.specs.Large.{LargeEnds}
 use Rattle.session_commands.specs.Session.{reported}
 use Rattle.store_spec.specs.Disk.{disk_model}
@@ -14,7 +14,7 @@ returns-in-Ok g c =
     (input (λ source. Some (script_left source)) (λ source. 0) c.in_ok-script.script) (input (λ source. Some (script_left source)) (λ source. 0) c.run_session.new.script)
     (Ok c.in-Ok.field-0) (reported c.args.report.now) (reported c.run_session.new.report)
     (output g.K.Sink.taken g.K.Sink.faults c.args.out.now) (output g.K.Sink.taken g.K.Sink.faults c.run_session.new.out) c.args.disk.now c.run_session.new.disk
-    c.requires.election (search rules) c.requires.tabs (ap Some c.in_ok-script.ensures) refl refl c.requires.report c.in-Ok.ensures.ends
+    c.requires.election (search rules) c.requires.tabs (ap Some c.in_ok-script.ensures) refl refl c.requires.report (reports_alone c.args.report.now c.run_session.new.report c.requires.report c.run_session.ensures.others c.run_session.ensures.begun) c.in-Ok.ensures.ends
 
 pub returns : goal.returns
 returns g c =
@@ -26,4 +26,4 @@ returns g c =
     (large_played model c.args.election.now c.args.options
     (input (λ source. Some (script_left source)) (λ source. 0) c.in_ok-script.script) (input (λ source. Some (script_left source)) (λ source. 0) c.run_session.new.script)
     (Err c.in-Err.fault) (reported c.args.report.now) report old new c.args.disk.now c.run_session.new.disk
-    c.requires.election (search rules) c.requires.tabs (ap Some c.in_ok-script.ensures) refl refl c.requires.report c.in-Err.ensures.ends)
+    c.requires.election (search rules) c.requires.tabs (ap Some c.in_ok-script.ensures) refl refl c.requires.report (reports_alone c.args.report.now c.run_session.new.report c.requires.report c.run_session.ensures.others c.run_session.ensures.begun) c.in-Err.ensures.ends)

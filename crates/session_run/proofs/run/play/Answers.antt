@@ -7,6 +7,7 @@ use Rattle.phase_gate.specs.declared.fault.SessionFault.TheVariants as session
 use Rattle.phase_gate.specs.declared.telling.Telling.{Telling}
 use Rattle.session_run.proofs.Beginning.{answer_is, no_fault}
 use Rattle.session_run.proofs.Going.{IsBrought, at_session, counts_line, failed, handled, handled_none, line_ended, queued, room_of, script_ended, takes_room}
+use Rattle.session_run.proofs.Marks.{stands_first, stands_on, stood_now, stood_on}
 use Rattle.session_run.proofs.Queued.{not_queued, told_nothing, was_queued}
 use Rattle.session_run.proofs.run.play.Goals as goal
 use Rattle.session_run.proofs.run.play.Goals.{in-Whole, in-TooWide}
@@ -28,6 +29,9 @@ lines-init g c =
       telling = refl;
       counted = room_of c.args.lines.now.room c.requires.room;
       no_fault = refl;
+      stands = stands_first model c.args.disk.now c.args.report.now.marks.items c.requires.marks;
+      others = c.requires.others;
+      begun = refl;
       leads = g.met.D.Disk.leads_to_itself c.args.disk.now;
     }
 
@@ -127,7 +131,7 @@ returns-in_err-session-clause-ends g c =
     let new = input g.S.Source.left g.S.Source.faults c.next_line.new.source in
     let start = around (output g.K.Sink.taken g.K.Sink.faults c.args.out.now) c.args.disk.now c.args.report.now in
     let now = around (output g.K.Sink.taken g.K.Sink.faults c.lines.out) c.lines.disk c.lines.report in
-    let after = around (output g.K.Sink.taken g.K.Sink.faults c.line.new.out) c.line.new.disk c.line.new.report in
+    let after = around (output g.K.Sink.taken g.K.Sink.faults c.handle.new.out) c.handle.new.disk c.handle.new.report in
     let why = c.in_err-session.field-0.0 in
     let said = c.in_ok-next_line.ensures in
     let bytes = c.match-branch-2.line.now in
@@ -147,6 +151,36 @@ returns-in_err-session-clause-ends g c =
     (c.queue.ensures.telling ∙ c.lines.invariant.telling) (c.queue.ensures.election ∙ c.lines.invariant.own)
     (not_queued c.in_ok-queue.field-0 (Answers c.lines.session.election (index + 1) state (Some bytes)) state
     c.queue.new.self.state c.if-not-branch.true (c.in_ok-queue.ensures.queued (index + 1))) c.in_err-session.ensures.ends))
+
+pub returns-in_err-next_line-clause-stood : goal.returns-in_err-next_line-clause-stood
+returns-in_err-next_line-clause-stood g c =
+    stood_now (disk_model g.D.Disk.seen g.D.Disk.calls g.D.Disk.may_leave g.D.Disk.faults) g.D.Disk.leads_to
+    g.met.D.Disk.leads_to_itself c.args.disk.now c.lines.disk c.lines.report.marks.items c.lines.invariant.leads
+    c.lines.invariant.stands
+
+pub returns-in_err-end-in-End-clause-stood : goal.returns-in_err-end-in-End-clause-stood
+returns-in_err-end-in-End-clause-stood g c =
+    stood_now (disk_model g.D.Disk.seen g.D.Disk.calls g.D.Disk.may_leave g.D.Disk.faults) g.D.Disk.leads_to
+    g.met.D.Disk.leads_to_itself c.args.disk.now c.lines.disk c.lines.report.marks.items c.lines.invariant.leads
+    c.lines.invariant.stands
+
+pub returns-in-End-clause-stood : goal.returns-in-End-clause-stood
+returns-in-End-clause-stood g c =
+    stood_now (disk_model g.D.Disk.seen g.D.Disk.calls g.D.Disk.may_leave g.D.Disk.faults) g.D.Disk.leads_to
+    g.met.D.Disk.leads_to_itself c.args.disk.now c.lines.disk c.lines.report.marks.items c.lines.invariant.leads
+    c.lines.invariant.stands
+
+pub returns-in_err-queue-clause-stood : goal.returns-in_err-queue-clause-stood
+returns-in_err-queue-clause-stood g c =
+    stood_now (disk_model g.D.Disk.seen g.D.Disk.calls g.D.Disk.may_leave g.D.Disk.faults) g.D.Disk.leads_to
+    g.met.D.Disk.leads_to_itself c.args.disk.now c.lines.disk c.lines.report.marks.items c.lines.invariant.leads
+    c.lines.invariant.stands
+
+pub returns-in_err-session-clause-stood : goal.returns-in_err-session-clause-stood
+returns-in_err-session-clause-stood g c =
+    stood_on (disk_model g.D.Disk.seen g.D.Disk.calls g.D.Disk.may_leave g.D.Disk.faults) g.D.Disk.leads_to
+    g.met.D.Disk.leads_on c.args.disk.now c.lines.disk c.handle.new.disk c.lines.report.marks.items
+    c.handle.new.report.marks.items c.lines.invariant.leads c.lines.invariant.stands c.handle.ensures.stood
 
 pub lines-preserved : goal.lines-preserved
 lines-preserved g c =
@@ -181,6 +215,9 @@ lines-preserved g c =
       counted = counts_line index c.lines.lines.room c.next_line.new.self.room (takes_room brought said.progress)
           c.lines.invariant.counted;
       no_fault = steady ∙ c.lines.invariant.no_fault;
+      stands = c.lines.invariant.stands;
+      others = c.lines.invariant.others;
+      begun = c.lines.invariant.begun;
       leads = c.lines.invariant.leads;
     }
 
@@ -192,7 +229,7 @@ lines-preserved-then-not-branch g c =
     let new = input g.S.Source.left g.S.Source.faults c.next_line.new.source in
     let start = around (output g.K.Sink.taken g.K.Sink.faults c.args.out.now) c.args.disk.now c.args.report.now in
     let now = around (output g.K.Sink.taken g.K.Sink.faults c.lines.out) c.lines.disk c.lines.report in
-    let after = around (output g.K.Sink.taken g.K.Sink.faults c.line.new.out) c.line.new.disk c.line.new.report in
+    let after = around (output g.K.Sink.taken g.K.Sink.faults c.handle.new.out) c.handle.new.disk c.handle.new.report in
     let said = c.in_ok-next_line.ensures in
     let bytes = c.match-branch-2.line.now in
     let index = c.lines.index in
@@ -221,5 +258,9 @@ lines-preserved-then-not-branch g c =
       counted = counts_line index c.lines.lines.room c.next_line.new.self.room (takes_room brought said.progress)
           c.lines.invariant.counted;
       no_fault = steady ∙ c.lines.invariant.no_fault;
-      leads = g.met.D.Disk.leads_on _ _ _ c.lines.invariant.leads c.line.ensures.leads;
+      stands = stands_on model c.args.disk.now c.lines.disk c.handle.new.disk c.lines.report.marks.items c.handle.new.report.marks.items c.lines.invariant.stands
+          c.in_ok-session.ensures.stands;
+      others = c.handle.ensures.others;
+      begun = c.handle.ensures.begun ∙ c.lines.invariant.begun;
+      leads = g.met.D.Disk.leads_on _ _ _ c.lines.invariant.leads c.handle.ensures.leads;
     }

@@ -35,8 +35,8 @@ pub returns-in_err-tell_task-clause-ends : goal.returns-in_err-tell_task-clause-
 returns-in_err-tell_task-clause-ends g c =
     let model = disk_model g.D.Disk.seen g.D.Disk.calls g.D.Disk.may_leave g.D.Disk.faults in
     let before = around (output g.K.Sink.taken g.K.Sink.faults c.args.out.now) c.args.disk.now c.args.report.now in
-    let after = around (output g.K.Sink.taken g.K.Sink.faults c.tell_task.new.out) c.prepare.new.disk record
-    { marks = c.prepare.new.report.marks; held = c.len.result } in
+    let after = around (output g.K.Sink.taken g.K.Sink.faults c.tell_task.new.out) c.prepare.new.disk (record
+    c.prepare.new.report { held = c.len.result }) in
     let answer = c.in_ok-gate.field-0 in
     let set = answer.gate.closed.ballots in
     let told = effect_of answer (string_bytes c.answer.new.reply) in

@@ -1,0 +1,43 @@
+-- A session begins on a disk that is the medium of a set, and was synced.
+use Rattle.std.proofs.Common.{◌≡◌, ℕ, List, [], length, Some, refl, sym, ◌∙◌, subst, arith}
+use Rattle.std.proofs.lemmas.Option.{IfSome_then}
+use Rattle.std.specs.Prelude.{IfSome}
+use Rattle.body_store.specs.Contents.{Contents, IsStored}
+use Rattle.crash_disk.proofs.Moments.{le-next_count, next_count-below, settled-only, started, synced_first}
+use Rattle.image_builder.proofs.Held.{medium_holds}
+use Rattle.outside_io.proofs.Told.{told_holds}
+use Rattle.outside_io.specs.Outside.{Output}
+use Rattle.phase_gate.specs.Checkpointed.{IsMediumNow}
+use Rattle.session_run.proofs.Beginning.{has_begun}
+use Rattle.session_run.specs.Ends.{HasBegun}
+use Rattle.store_spec.specs.Ballot.{Ballot}
+use Rattle.store_spec.specs.Disk.{AddsNoCrashImage, DiskModel, IsSettled, LeavesOnly}
+use Rattle.store_spec.specs.Election.{Election, IsElection}
+use Rattle.store_spec.specs.Medium.{HoldsSet, HoldsTheSame, IsMediumOf}
+use Rattle.store_spec.specs.Session.{begun}
+use Rattle.std.specs.Option.{is_some}
+use Rattle.twin_commands.specs.Twin.{beside}
+
+pub synced_begins : {K T : Type 0} (model : DiskModel T) (store : Contents) (sink : Output K) (start mid : T) → IsElection store.election → IsStored store → IsMediumNow model store.election store.ballots start
+    → model.seen mid ≡ model.seen start → is_some (model.seen mid) ≡ is_some (model.seen start) → IsSettled model.seen model.calls model.may_leave mid → AddsNoCrashImage model.calls model.may_leave start mid → model.faults mid ≡ model.faults start
+    → HasBegun model store.election store.ballots (begun store.ballots) (beside sink start [] (length store.ballots)) (beside sink mid [] (length store.ballots))
+synced_begins model store sink start mid election stored medium same told settled adds steady =
+    let e = store.election in
+    let set = store.ballots in
+    has_begun model e store (begun set) (beside sink start [] (length set)) mid (length set)
+    (IfSome_then (model.seen start) medium.medium (λ x is. medium_holds e x set election is)) refl stored refl refl refl told
+    (record { settled = settled; medium = subst (λ o. IfSome o (λ bytes. IsMediumOf e bytes set)) (sym same) medium.medium })
+    (omega (arith, adds.counted, le-next_count (model.calls start))) steady
+    (λ below. let next = adds.counted ∙ next_count-below (model.calls start) (omega (arith, below, adds.counted, le-next_count (model.calls start))) in omega (arith, next))
+    (λ bytes sees. synced_first model.calls model.may_leave start mid mid (HoldsTheSame e bytes) adds
+    (started model.calls model.may_leave mid (HoldsTheSame e bytes) (λ c left.
+    let is : c ≡ bytes = settled-only model.calls model.may_leave model.seen mid bytes c settled (same ∙ sees) left in
+    subst (HoldsTheSame e bytes) (sym is) (λ held holds. holds))))
+
+-- a disk on which no call is made holds what it held
+pub still_holds : {T : Type 0} (model : DiskModel T) (e : Election) (set : List Ballot) (disk : T) → IsElection e → IsMediumNow model e set disk → (bytes : List ℕ) → model.seen disk ≡ Some bytes → LeavesOnly model.calls model.may_leave disk disk (λ image. HoldsSet e image set)
+still_holds model e set disk election medium bytes sees =
+    started model.calls model.may_leave disk (λ image. HoldsSet e image set)
+    (λ c left.
+    let is : c ≡ bytes = settled-only model.calls model.may_leave model.seen disk bytes c medium.settled sees left in
+    subst (λ x. HoldsSet e x set) (sym is) (medium_holds e bytes set election (told_holds (λ x. IsMediumOf e x set) bytes sees medium.medium)))

@@ -1,0 +1,25 @@
+-- What a session does behind the line that tells how two disks were found.
+use Rattle.std.proofs.Common.{◌≡◌, ℕ, List, [], length, Result, subst}
+use Rattle.outside_io.specs.Outside.{Input, Output}
+use Rattle.phase_gate.specs.Around.{Around}
+use Rattle.phase_gate.specs.Telling.{told_by}
+use Rattle.phase_gate.specs.declared.telling.Telling.{Telling}
+use Rattle.phase_gate.specs.declared.telling.Telling.TheVariants.{All}
+use Rattle.session_run.specs.Ends.{GoesOn}
+use Rattle.session_run.specs.declared.fault.RunFault.{RunFault}
+use Rattle.store_spec.specs.Ballot.{Ballot}
+use Rattle.store_spec.specs.Disk.{DiskModel}
+use Rattle.store_spec.specs.Election.{Election}
+use Rattle.store_spec.specs.Session.{State, begun}
+use Rattle.twin_commands.specs.Twin.{beside}
+
+pub goes_from : {S K D : Type 0} (model : DiskModel D) (e own : Election) (set : List Ballot) (t : Telling) (s : State) (answer : Result (Unit {0}) RunFault) (old new : Input S) (mid : Output K) (disk : D) (marks : List ℕ) (held : ℕ) (after : Around K D)
+    → t ≡ All → own ≡ e → s ≡ begun set → marks ≡ [] → held ≡ length set
+    → GoesOn model (told_by t) own s answer old new (beside mid disk marks held) after
+    → GoesOn model (λ text. text) e (begun set) answer old new (beside mid disk [] (length set)) after
+goes_from model e own set t s answer old new mid disk marks held after telling same state none count goes =
+    subst (λ held. GoesOn model (λ text. text) e (begun set) answer old new (beside mid disk [] held) after) count
+    (subst (λ marks. GoesOn model (λ text. text) e (begun set) answer old new (beside mid disk marks held) after) none
+    (subst (λ s. GoesOn model (λ text. text) e s answer old new (beside mid disk marks held) after) state
+    (subst (λ e. GoesOn model (λ text. text) e s answer old new (beside mid disk marks held) after) same
+    (subst (λ t. GoesOn model (told_by t) own s answer old new (beside mid disk marks held) after) telling goes))))
