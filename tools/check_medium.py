@@ -1,5 +1,5 @@
 #!/usr/bin/env python3
-"""check_medium.py MEDIUM ELECTION
+"""check_medium.py MEDIUM ELECTION [MORE ..]
 
 A second opinion on the medium of a ballot store, written from docs/FORMATS.md alone. It writes one of
 these lines, and ends with the status in front of it (and needs Python 3.10 or later):
@@ -10,6 +10,15 @@ these lines, and ends with the status in front of it (and needs Python 3.10 or l
     11  other election      the header of the bank that is read is not this election's
     10  damaged cell C      no image begins with the cells 0 to C, and C is the least such
      2  usage   3  bad election   4  election too long   5  disk fault   6  election read fault
+
+With 1, 3 or 7 media more it says whether all, in this order, are the parts of one store. The first medium is part 0:
+
+     0  parts N                 each is to the byte that of the ballots it holds, N in all, and all are in their part
+     5, 9, 10, 11               as above, of the first medium
+    17  disk fault at medium I  and
+    20  medium I no store, medium I other election, medium I damaged cell C      of the other ones
+    23  medium I misplaced V    all hold a set; part I is the first with a number of another part, V its least such
+    14  medium I differs P      none is misplaced; part I is the first that differs from the medium of its ballots
 """
 import bisect
 import itertools
@@ -146,8 +155,8 @@ def begin_an_image(election, cells):
             and place(election, ballots)[:len(cells)] == cells)
 
 
-def judge(election, medium):
-    """How many ballots the medium holds; a Finding where it is not just their medium."""
+def look(election, medium):
+    """The bank that is read, and the ballots in it; a Finding where it is no image."""
     size, header = election.image_size(), election.header()
     if len(medium) != 2 * size + 2 or OPEN_GATE not in medium[-2:]:
         raise Finding(9, "no store")
@@ -158,10 +167,46 @@ def judge(election, medium):
     if not begin_an_image(election, cells):  # then from some cell on no beginning does
         wrong = bisect.bisect_left(range(len(cells)), True, key=lambda c: not begin_an_image(election, cells[:c + 1]))
         raise Finding(10, f"damaged cell {wrong}")
-    for position, (found, expected) in enumerate(zip(medium, bank + bank + bytes([OPEN_GATE] * 2))):
-        if found != expected:
-            raise Finding(14, f"differs {position}")
-    return sum(map(any, cells))
+    return bank, [cell for cell in cells if any(cell)]
+
+
+def first_difference(medium, bank):
+    """The first byte of the medium that is not that of the ballots of this bank; None where there is none."""
+    pairs = enumerate(zip(medium, bank + bank + bytes([OPEN_GATE] * 2)))
+    return next((position for position, (found, expected) in pairs if found != expected), None)
+
+
+def judge(election, medium):
+    """How many ballots the medium holds; a Finding where it is not just their medium."""
+    bank, ballots = look(election, medium)
+    position = first_difference(medium, bank)
+    if position is not None:
+        raise Finding(14, f"differs {position}")
+    return len(ballots)
+
+
+def judge_parts(election, paths):
+    """How many ballots the media of these paths hold; a Finding where they are not the parts of one store."""
+    shift, count, misplaced, differing = 65 - len(paths).bit_length(), 0, [], []
+    for part, path in enumerate(paths):
+        try:
+            medium = read_medium(election, path)
+            bank, ballots = look(election, medium)
+        except Finding as finding:
+            raise finding if part == 0 else of_further(part, *finding.args)
+        foreign = [number for number, *_ in ballots if number >> shift != part]
+        position = first_difference(medium, bank)
+        misplaced += [Finding(23, f"medium {part} misplaced {min(foreign)}")] if foreign else []
+        differing += [Finding(14, f"medium {part} differs {position}")] if position is not None else []
+        count += len(ballots)
+    for finding in misplaced + differing:
+        raise finding
+    return count
+
+
+def of_further(index, status, line):
+    """The same finding of a further medium."""
+    return Finding(17, f"{line} at medium {index}") if status == 5 else Finding(20, f"medium {index} {line}")
 
 
 def read(path, size):
@@ -170,30 +215,42 @@ def read(path, size):
         return file.read(size + 1)
 
 
-def check(words):
-    if len(words) != 2 or any(word == "" or word.startswith("-") for word in words):
-        raise Finding(2, "usage")
-    medium_path, election_path = words
+def read_medium(election, path):
     try:
-        text = read(election_path, LONGEST_ELECTION)
-        if len(text) > LONGEST_ELECTION:
-            raise Finding(4, "election too long")
-        election = parse_election(text)
-    except OSError:
-        raise Finding(6, "election read fault")
-    except ValueError:
-        raise Finding(3, "bad election")
-    try:
-        return judge(election, read(medium_path, 2 * election.image_size() + 2))
+        return read(path, 2 * election.image_size() + 2)
     except FileNotFoundError:
         raise Finding(9, "no store")
     except OSError:
         raise Finding(5, "disk fault")
 
 
+def read_election(path):
+    try:
+        text = read(path, LONGEST_ELECTION)
+        if len(text) > LONGEST_ELECTION:
+            raise Finding(4, "election too long")
+        return parse_election(text)
+    except OSError:
+        raise Finding(6, "election read fault")
+    except ValueError:
+        raise Finding(3, "bad election")
+
+
+def check(words):
+    if len(words) not in (2, 3, 5, 9) or any(word == "" or word.startswith("-") for word in words):
+        raise Finding(2, "usage")
+    medium_path, election_path, *more = words
+    if len({medium_path, *more}) < 1 + len(more):
+        raise Finding(2, "usage")
+    election = read_election(election_path)
+    if more:
+        return judge_parts(election, [medium_path, *more])
+    return judge(election, read_medium(election, medium_path))
+
+
 if __name__ == "__main__":
     try:
-        print("canonical", check(sys.argv[1:]))
+        print("canonical" if len(sys.argv) < 4 else "parts", check(sys.argv[1:]))
     except Finding as finding:
         print(finding.args[1])
         sys.exit(finding.args[0])

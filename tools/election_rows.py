@@ -56,9 +56,9 @@ def election_rows(table, examples):
     assert Path(medium).read_bytes() == image * 2 + b"\xa7\xa7"
 
 
-def opinion(medium, path):
-    """How many ballots the second opinion finds in a medium; its status and line where it finds something else."""
+def opinion(*words):
+    """How many ballots the second opinion finds in a medium, or in parts; its status and line if it finds otherwise."""
     try:
-        return check([medium, path])
+        return check(list(words))
     except Finding as finding:
         return finding.args

@@ -6,8 +6,8 @@ ghost use Rattle.crash_disk.specs.Recorded.{recorded_sees, recorded_leaves, reco
 ghost use Rattle.store_spec.specs.Disk.{IsSettled};
 
 use crate::{
-    Bank, bank_place, close_gate, gate_place, gates, open_both_gates, open_gate, read_page, settle,
-    write_bank, write_page,
+    Bank, bank_place, close_gate, gate_place, gates, open_both_gates, open_gate, read_page,
+    same_bytes, settle, write_bank, write_page,
 };
 use ballot_record::Election;
 use crash_disk::{Disk, DiskCall, MemoryDisk, Room};
@@ -151,6 +151,52 @@ fn a_failed_call_is_the_last(rt: HostRuntime) -> Result<(), Fail> {
         let mut disk = medium(alloc, 0xa7, 0xa7, vec![in alloc; failing]?)?;
         assert_eq!(rt; close_gate(&mut disk, &election, Bank::B), Err(Failed));
         assert_eq!(rt; disk.calls(), calls);
+    }
+    Ok(())
+}
+
+/// Tries two vectors of one length with the same bytes: one that differs at any of these places is told, and so is one
+/// that is shorter.
+fn assert_compared(rt: &impl Abort, one: &[u8], two: &mut Vec<u8>, places: &[usize]) {
+    let length = one.len();
+    assert!(rt; same_bytes(one, two), "{length}");
+    for place in places {
+        if *place < two.len() {
+            two[*place] = 6;
+            assert!(rt; !same_bytes(one, two), "{length} {place}");
+            two[*place] = 7;
+        }
+    }
+    assert!(rt; same_bytes(one, two), "{length}");
+    if two.pop().is_some() {
+        assert!(rt; !same_bytes(one, two), "{length}");
+    }
+}
+
+#[test]
+fn bytes_are_compared(rt: HostRuntime) -> Result<(), Fail> {
+    let alloc = rt.alloc();
+    for length in (0..=200).chain([1023, 1024, 1025, 2048, 3000, 4096]) {
+        let one = vec![in alloc; 7u8; length]?;
+        let mut two = one.clone()?;
+        let last = length.saturating_sub(1);
+        let places = [
+            0,
+            1,
+            7,
+            15,
+            16,
+            63,
+            64,
+            100,
+            length / 2,
+            1022,
+            1023,
+            1024,
+            2047,
+            last,
+        ];
+        assert_compared(&rt, &one, &mut two, &places);
     }
     Ok(())
 }

@@ -11,7 +11,7 @@ ghost use Rattle.store_spec.specs.Election.{bank_size};
 ghost use Rattle.store_spec.specs.Fault.{CountsFault};
 
 use ballot_record::Election;
-use bank_medium::{Bank, close_gate, open_gate, read_page, settle, write_page};
+use bank_medium::{Bank, close_gate, open_gate, read_page, same_bytes, settle, write_page};
 use crash_disk::Disk;
 use image_builder::PAGE_BYTES;
 use outside_io::Failed;
@@ -43,7 +43,7 @@ fn renew_page<D: Disk>(
     ensures fails { OnErr result (D.fails_to disk.old disk.new) }
 {
     read_page(disk, election, bank, at, found)?;
-    if &found[..] == page {
+    if same_bytes(found, page) {
         return Ok(());
     }
     write_page(disk, election, bank, at, page)

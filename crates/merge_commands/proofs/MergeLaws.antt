@@ -8,12 +8,13 @@ use Rattle.image_builder.proofs.Held.{one_held}
 use Rattle.medium_commands.proofs.Refusing.{HoldsSome, Refuses, not_both, one_refused, refuses}
 use Rattle.merge_commands.specs.Merge.{AllHold, HaveUnion, MergeTells, MergesNone, merge_row}
 use Rattle.merge_media.proofs.Unions.{one_union, union_agrees}
-use Rattle.merge_media.specs.Merging.{EachHolds, IsTooLarge}
+use Rattle.merge_media.specs.Merging.{IsTooLarge}
 use Rattle.merge_media.specs.Union.{IsLeastDisputed}
 use Rattle.outside_io.proofs.Told.{told_at}
 use Rattle.outside_io.specs.Outside.{Output}
 use Rattle.recovery.proofs.Refusals.{one_refusal, refused_holds}
 use Rattle.recovery.specs.Faults.{medium_fault}
+use Rattle.recovery.specs.Media.{EachHolds}
 use Rattle.recovery.specs.Refused.{IsRefusedMedium}
 use Rattle.recovery.specs.declared.fault.MediumWhy.{MediumWhy}
 use Rattle.recovery.specs.declared.fault.MediumWhy.TheVariants as media
@@ -214,7 +215,7 @@ none_decides model e (status.BadMedium index why) before after more now content 
       index = index;
       why = why;
       is = refl;
-      first = first_told model e more content.more one.sets one.place 1 index one.old why tell one.earlier one.there one.refused.0 one.refused.1;
+      first = first_told model e more content.more one.sets one.place 1 index one.old why tell one.earlier one.there one.refused.0 one.refused.1.0;
     }))
 none_decides model e (status.MergeConflict number) before after more now content is tell decided none =
     let set = none.0 in

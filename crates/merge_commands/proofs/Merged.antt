@@ -2,12 +2,13 @@
 use Rattle.std.proofs.Common.{◌≡◌, ℕ, List, Result, refl, sym, subst}
 use Rattle.std.specs.Prelude.{IfErr, OnErr, OnOk}
 use Rattle.merge_commands.specs.Merge.{MergeTells, MergesNone, merge_status, merged_text}
-use Rattle.merge_media.proofs.Media.{zip_same}
-use Rattle.merge_media.specs.Merging.{MergeRefuses, Merges, NoneRose}
+use Rattle.merge_media.specs.Merging.{MergeRefuses, Merges}
 use Rattle.merge_media.specs.declared.fault.MergeFault.{MergeFault}
 use Rattle.merge_media.specs.declared.fault.MergeFault.TheVariants.{Target, OtherFault, Other, Dispute, TooMany, DiskFault, Memory}
 use Rattle.outside_io.specs.Outside.{Output}
 use Rattle.outside_io.specs.Stream.{TakesAll, TakesSome}
+use Rattle.recovery.proofs.OneByOne.{zip_same}
+use Rattle.recovery.specs.Media.{NoneRose}
 use Rattle.recovery.specs.declared.fault.RecoverFault.TheVariants as recover
 use Rattle.run_outcome.proofs.Laws.{ended_told}
 use Rattle.run_outcome.specs.Status.{ended}

@@ -3,12 +3,13 @@
 use Rattle.std.specs.Prelude.{◌≡◌, ◌⊎◌, ℕ, ◌≤◌, List, ◌∷◌, codes, length, Some, is_some, true, false}
 use Rattle.std.specs.List.{AllZip}
 use Rattle.medium_commands.specs.Refused.{refused_status}
-use Rattle.merge_media.specs.Merging.{HoldsOldOrUnion, MergeRefuses, Merges, NoneRose}
+use Rattle.merge_media.specs.Merging.{HoldsOldOrUnion, MergeRefuses, Merges}
 use Rattle.merge_media.specs.Union.{IsUnion}
 use Rattle.merge_media.specs.declared.fault.MergeFault.{MergeFault}
 use Rattle.merge_media.specs.declared.fault.MergeFault.TheVariants as faults
 use Rattle.outside_io.specs.Outside.{Output}
 use Rattle.outside_io.specs.Stream.{TakesAll, TakesSome}
+use Rattle.recovery.specs.Media.{NoneRose}
 use Rattle.recovery.specs.ReadsOnly.{WritesNothing}
 use Rattle.recovery.specs.declared.fault.RecoverFault.TheVariants as recover
 use Rattle.run_outcome.specs.Row.{Content, EndsWell, Row}

@@ -1,16 +1,17 @@
 -- The runs of calls that merge media, and what they leave of the target at each moment.
-use Rattle.std.proofs.Common.{◌≡◌, ℕ, ◌<◌, ◌⊎◌, inl, inr, ⊎_elim, List, ◌∷◌, Option, Some, refl, sym, subst, ◌∙◌}
+use Rattle.std.proofs.Common.{◌≡◌, ℕ, ◌<◌, ◌⊎◌, inl, inr, ⊎_elim, List, ◌∷◌, Option, Some, refl, sym, subst}
 use Rattle.std.specs.Prelude.{IfSome}
-use Rattle.checkpoint.proofs.Pages.{told_back}
 use Rattle.body_store.specs.Contents.{Contents}
+use Rattle.checkpoint.proofs.Pages.{told_back}
 use Rattle.crash_disk.proofs.Moments.{synced_then, syncs_weaker, weaker}
 use Rattle.image_builder.proofs.Held.{one_held}
-use Rattle.merge_media.proofs.Media.{zip_same}
-use Rattle.merge_media.specs.Merging.{EachHolds, HoldsAll, HoldsOldOrUnion, IsRecovered, MergeRefuses, RefusesBegin, RefusesFurther, RefusesUnion}
+use Rattle.merge_media.specs.Merging.{HoldsAll, HoldsOldOrUnion, IsRecovered, MergeRefuses, RefusesBegin, RefusesFurther, RefusesUnion}
 use Rattle.merge_media.specs.Union.{IsUnion}
 use Rattle.merge_media.specs.declared.fault.MergeFault.{MergeFault}
 use Rattle.merge_media.specs.declared.fault.MergeFault.TheVariants.{Target, OtherFault, Other, Dispute, TooMany, DiskFault, Memory}
 use Rattle.outside_io.proofs.Told.{told_holds}
+use Rattle.recovery.proofs.OneByOne.{zip_same}
+use Rattle.recovery.specs.Media.{EachHolds}
 use Rattle.store_spec.specs.Ballot.{Ballot}
 use Rattle.store_spec.specs.Disk.{DiskModel, LeavesOnly, LeavesOnlyOnceSynced, SyncsFirst}
 use Rattle.store_spec.specs.Election.{Election, IsElection}

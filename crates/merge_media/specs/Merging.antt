@@ -1,12 +1,11 @@
 -- What the merging of media makes of a target and of further media. `before` and `after` are the target's disk, `more`
 -- and `now` those of the further media.
-use Rattle.std.specs.Prelude.{◌≡◌, ◌≢◌, ◌⊎◌, ℕ, ◌+◌, ◌<◌, List, ◌∷◌, drop, length, take, Some, IfSome, slice_get}
-use Rattle.std.specs.List.{AllZip}
+use Rattle.std.specs.Prelude.{◌≡◌, ◌≢◌, ◌⊎◌, ℕ, ◌+◌, ◌<◌, List, ◌∷◌, length, IfSome}
 use Rattle.merge_media.specs.Union.{IsLeastDisputed, IsUnion}
 use Rattle.merge_media.specs.declared.fault.MergeFault.{MergeFault}
 use Rattle.merge_media.specs.declared.fault.MergeFault.TheVariants.{Target, OtherFault, Other, Dispute, TooMany, DiskFault, Memory}
 use Rattle.outside_io.specs.Told.{AsTold}
-use Rattle.recovery.specs.Faults.{medium_fault}
+use Rattle.recovery.specs.Media.{EachHolds, HoldsIfTold, IsRefusedFor, NoneRose, StopsAt}
 use Rattle.recovery.specs.Refused.{IsRefusedMedium, IsUnchangedAt}
 use Rattle.recovery.specs.declared.fault.MediumWhy.TheVariants as media
 use Rattle.recovery.specs.declared.fault.RecoverFault.{RecoverFault}
@@ -19,23 +18,10 @@ use Rattle.store_spec.specs.Medium.{HoldsSet, IsMediumOf}
 
 -- ---- the further media
 
--- the disk holds this set, where it tells its bytes
-abbrev pub HoldsIfTold : {D : Type 0} → DiskModel D → Election → D → List Ballot → Type 0
-HoldsIfTold model e disk set = IfSome (model.seen disk) (λ bytes. HoldsSet e bytes set)
-
--- each disk holds its set
-abbrev pub EachHolds : {D : Type 0} → DiskModel D → Election → List D → List (List Ballot) → Type 0
-EachHolds model e disks sets = AllZip (HoldsIfTold model e) disks sets
-
--- no count of faults rose
-abbrev pub NoneRose : {D : Type 0} → DiskModel D → List D → List D → Type 0
-NoneRose model before after = AllZip (λ old new. model.faults new ≡ model.faults old) before after
-
 -- why the medium with this index is not joined
 abbrev pub RefusesMedium : {D : Type 0} → DiskModel D → Election → ℕ → D → D → MergeFault → Type 0
 RefusesMedium model e index before after (OtherFault i) = (i ≡ index) × Rose (model.faults before) (model.faults after)
-RefusesMedium model e index before after (Other i why) =
-    (i ≡ index) × IfSome (model.seen before) (λ bytes. IsRefusedMedium e bytes (medium_fault why)) × (model.faults after ≡ model.faults before)
+RefusesMedium model e index before after (Other i why) = (i ≡ index) × IsRefusedFor model e why before after
 RefusesMedium model e index before after Memory = model.faults after ≡ model.faults before
 RefusesMedium model e index before after fault = ⊥
 
@@ -47,18 +33,10 @@ further_fault index (recover.Damaged cell) = Other index (media.Damaged cell)
 further_fault index recover.DiskFault = OtherFault index
 further_fault index recover.Memory = Memory
 
--- the first of them that is not joined: those before it hold sets, and nothing is asked of those after it
-pub record RefusesOne {D : Type 0} (model : DiskModel D) (e : Election) (more now : List D) (fault : MergeFault) : Type 0 where
-  pub place : ℕ
-  pub sets : List (List Ballot)
-  pub earlier : EachHolds model e (take place more) sets
-  pub none_rose : NoneRose model (take place more) (take place now)
-  pub later : drop (place + 1) now ≡ drop (place + 1) more
-  pub old : D
-  pub there : slice_get more place ≡ Some old
-  pub new : D
-  pub there_now : slice_get now place ≡ Some new
-  pub refused : RefusesMedium model e (place + 1) old new fault
+-- the first of them that is not joined
+abbrev pub RefusesOne : {D : Type 0} → DiskModel D → Election → List D → List D → MergeFault → Type 0
+RefusesOne model e more now fault =
+    StopsAt model e (λ place old new. RefusesMedium model e (place + 1) old new fault) more now
 
 -- why the further media are not joined
 abbrev pub RefusesFurther : {D : Type 0} → DiskModel D → Election → List D → List D → MergeFault → Type 0

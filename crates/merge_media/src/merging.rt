@@ -2,9 +2,10 @@
 
 ghost use Rattle.std.specs.Prelude.{◌≡◌, ◌≢◌, ◌+◌, ◌*◌, ◌^◌, ◌<◌, ◌≤◌, ◌∷◌, [], ℕ, List, None, IfErr, IfOk, OnOk, Some, is_some, length};
 ghost use Rattle.std.specs.List.{AllZip};
-ghost use Rattle.merge_media.specs.Merging.{EachHolds, HoldsIfTold, HoldsOldOrUnion, IsRecovered, MergeRefuses, Merges, NoneRose, RefusesBegin, RefusesFurther, RefusesMedium, RefusesUnion, further_fault};
+ghost use Rattle.merge_media.specs.Merging.{HoldsOldOrUnion, IsRecovered, MergeRefuses, Merges, RefusesBegin, RefusesFurther, RefusesMedium, RefusesUnion, further_fault};
 ghost use Rattle.merge_media.specs.Union.{IsUnion, Joins};
 ghost use Rattle.merge_media.specs.declared.fault.MergeFault.TheVariants as faults;
+ghost use Rattle.recovery.specs.Media.{EachHolds, HoldsIfTold, NoneRose};
 ghost use Rattle.recovery.specs.ReadsOnly.{WritesNothing};
 ghost use Rattle.store_spec.specs.Ballot.{Ballot};
 ghost use Rattle.store_spec.specs.Disk.{disk_model, LeavesOnlyOnceSynced, SyncsFirst};

@@ -5,7 +5,7 @@ use Rattle.std.proofs.lemmas.List.{get_or_default, get_or_past}
 use Rattle.std.specs.List.{Contains}
 use Rattle.body_store.proofs.BallotSets.{has_room, may_hold_set, stored_layout}
 use Rattle.body_store.specs.Contents.{Contents, IsStored}
-use Rattle.phase_delete.specs.WithdrawPhase.{StoodAt}
+use Rattle.phase_delete.specs.Stands.{StoodAt}
 use Rattle.store_spec.specs.Ballot.{numbers_of}
 use Rattle.store_spec.specs.Election.{cell_count}
 use Rattle.store_spec.specs.Home.{home_in}

@@ -2,8 +2,6 @@ pub mod Blanks
 pub mod Held
 pub mod Left
 pub mod Opened
-pub mod Sent
 pub mod Sessions
 pub mod Trays
 pub mod Whole
-pub mod WithdrawnLists

@@ -7,8 +7,9 @@ use Rattle.std.specs.List.{All, AllPairs, Contains}
 use Rattle.std.specs.Prelude.{◌↔◌}
 use Rattle.phase_delete.specs.Gains.{Gains, IsNewTo, IsRemoval}
 use Rattle.phase_delete.specs.Tray.{IsTold, gone_of, line, withdrawn_of}
-use Rattle.phase_delete.specs.WithdrawPhase.{Phase}
-use Rattle.phase_delete.specs.declared.reply.Withdrawal.{Withdrawal}
+use Rattle.phase_kind.specs.Phase.{Phase}
+use Rattle.phase_delete.specs.Tray.{Withdrawal}
+use Rattle.phase_kind.proofs.Trays.{told_of}
 use Rattle.step_core.proofs.WithdrawingAnswers.{numbers-append, numbers-contains}
 use Rattle.step_core.specs.WithdrawCore.{reply_of}
 use Rattle.step_core.specs.Withdrawing.{is_gone, numbers_that}
@@ -19,20 +20,19 @@ use Rattle.store_spec.specs.WithdrawPhase as outcome
 use Rattle.store_spec.specs.WithdrawPhase.{IsRight, MayPrecede, is_withdrawn}
 use Rattle.store_spec.specs.WithdrawStep.{WithdrawView}
 use Rattle.store_spec.specs.WithdrawStep.WithdrawState.{Rest}
-use Rattle.word_rule.specs.Seats.{SharedWords}
 
 -- ---- the numbers of a tray
 
 abbrev pub told : ℕ → WithdrawReply → Withdrawal
-told number reply = record { number = number; reply = reply }
+told number reply = told_of number reply
 
 -- a number adds itself to those with such a reply, or nothing
 module _ (such : outcome.WithdrawReply → Bool) (tray : List Withdrawal) (w : Withdrawal) (list now : List ℕ) where
   pushed : numbers_that such (map line (tray ++ w ∷ [])) ≡ numbers_that such (map line tray) ++ numbers_that such (line w ∷ [])
   pushed = ap (numbers_that such) (map_push line tray w) ∙ numbers-append such (map line tray) (line w ∷ [])
 
-  adds : numbers_that such (line w ∷ []) ≡ w.number ∷ [] → numbers_that such (map line tray) ≡ list → now ≡ list ++ w.number ∷ [] → numbers_that such (map line (tray ++ w ∷ [])) ≡ now
-  adds one so_far is = pushed ∙ ap (λ l. numbers_that such (map line tray) ++ l) one ∙ ap (λ l. l ++ w.number ∷ []) so_far ∙ sym is
+  adds : numbers_that such (line w ∷ []) ≡ w.item ∷ [] → numbers_that such (map line tray) ≡ list → now ≡ list ++ w.item ∷ [] → numbers_that such (map line (tray ++ w ∷ [])) ≡ now
+  adds one so_far is = pushed ∙ ap (λ l. numbers_that such (map line tray) ++ l) one ∙ ap (λ l. l ++ w.item ∷ []) so_far ∙ sym is
 
   keeps : numbers_that such (line w ∷ []) ≡ [] → numbers_that such (map line tray) ≡ list → now ≡ list → numbers_that such (map line (tray ++ w ∷ [])) ≡ now
   keeps none so_far is = pushed ∙ ap (λ l. numbers_that such (map line tray) ++ l) none ∙ append-nil (numbers_that such (map line tray)) ∙ so_far ∙ sym is
@@ -91,15 +91,6 @@ told_more phase old now tray number reply h right gains new =
       in_order = subst (AllPairs MayPrecede) (sym (map_push line tray w))
           (all_pairs_push MayPrecede (map line tray) (line w) h.in_order (λ k d within. precedes old tray number reply h.gone new (get_or (map line tray) k d) (Contains-get_or (map line tray) k d within)));
     }
-
--- the same of a withdrawer, as its parts are known after the call
-pub told_anew : (phase known : Phase) (words : SharedWords) (old now : WithdrawView) (tray items : List Withdrawal) (number : ℕ) (reply : WithdrawReply) → phase ≡ known → words ≡ phase.words → items ≡ tray ++ told number reply ∷ []
-    → IsTold phase old tray → IsRight (numbers_of known.base.ballots) number (reply_of reply) → Gains old number reply now → (reply ≡ Withdrawn → IsNewTo old number)
-    → IsTold (record { base = phase.base; words = words }) now items
-told_anew phase known words old now tray items number reply same belong is h right gains new =
-    let more = told_more known old now tray number reply (subst (λ (p : Phase). IsTold p old tray) same h) right gains new in
-    subst (λ (w : SharedWords). IsTold (record { base = phase.base; words = w }) now items) (sym belong)
-    (subst (λ (l : List Withdrawal). IsTold phase now l) (sym is) (subst (λ (p : Phase). IsTold p now (tray ++ told number reply ∷ [])) (sym same) more))
 
 -- ---- what a reply says, exactly
 

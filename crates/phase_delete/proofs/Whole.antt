@@ -8,11 +8,11 @@ use Rattle.body_store.specs.Contents.{Contents, IsStored, ballots_without}
 use Rattle.phase_delete.proofs.Held.{room}
 use Rattle.phase_delete.proofs.Left.{left_alike, numbers_left}
 use Rattle.phase_delete.specs.Closing.{ClosesAs, all_numbers, lines_of}
-use Rattle.phase_delete.specs.Ends.{TellsOf, all_withdrawn, seat_of}
+use Rattle.phase_delete.specs.Ends.{TellsOf, WithdrawerView, all_withdrawn}
+use Rattle.phase_kind.specs.Worker.{AreAll, seat_of}
 use Rattle.phase_delete.specs.Tray.{IsTold, gone_of, line, withdrawn_of}
-use Rattle.phase_delete.specs.WithdrawPhase.{Phase}
-use Rattle.phase_delete.specs.Withdrawer.{AreAll, WithdrawerView}
-use Rattle.phase_delete.specs.declared.reply.Withdrawal.{Withdrawal}
+use Rattle.phase_kind.specs.Phase.{Phase}
+use Rattle.phase_delete.specs.Tray.{Withdrawal}
 use Rattle.step_core.proofs.Listings.{times_some}
 use Rattle.step_core.proofs.Sets.{All-flat_map, All-from_flat_map, All-from_map}
 use Rattle.step_core.proofs.WithdrawingAnswers.{numbers-contains}
@@ -48,7 +48,7 @@ pub listed_is : (trays : List (List Withdrawal)) → listed (lines_of trays) ≡
 listed_is [] = refl
 listed_is (tray ∷ trays) =
     ap (λ l. l ++ listed (lines_of trays)) (map-map (λ (a : outcome.Withdrawal). a.number) line tray)
-    ∙ ap (λ l. map (λ (w : Withdrawal). w.number) tray ++ l) (listed_is trays)
+    ∙ ap (λ l. map (λ (w : Withdrawal). w.item) tray ++ l) (listed_is trays)
 
 withdrawn_is : (trays : List (List Withdrawal)) → withdrawn_in (lines_of trays) ≡ all_withdrawn trays
 withdrawn_is [] = refl
@@ -59,9 +59,9 @@ pub withdrawn_listed : (trays : List (List Withdrawal)) (x : ℕ) → Contains (
 withdrawn_listed [] x c = c
 withdrawn_listed (tray ∷ trays) x c = ⊎_elim
     (λ (here : Contains (withdrawn_of tray) x).
-    Contains-append_left (map (λ (w : Withdrawal). w.number) tray) (all_numbers trays) x
+    Contains-append_left (map (λ (w : Withdrawal). w.item) tray) (all_numbers trays) x
     (subst (λ (l : List ℕ). Contains l x) (map-map (λ (a : outcome.Withdrawal). a.number) line tray) (from_kept (λ (a : outcome.Withdrawal). is_withdrawn a.reply) (λ (a : outcome.Withdrawal). a.number) (map line tray) x here)))
-    (λ (later : Contains (all_withdrawn trays) x). Contains-append_right (map (λ (w : Withdrawal). w.number) tray) (all_numbers trays) x (withdrawn_listed trays x later))
+    (λ (later : Contains (all_withdrawn trays) x). Contains-append_right (map (λ (w : Withdrawal). w.item) tray) (all_numbers trays) x (withdrawn_listed trays x later))
     (Contains-append_cases (withdrawn_of tray) (all_withdrawn trays) x c)
 
 -- the numbers that trays tell as withdrawn are those that their seats have begun

@@ -2,7 +2,7 @@
 use Rattle.std.specs.Prelude.{◌≡◌, ℕ, List, map, flat_map}
 use Rattle.body_store.specs.Contents.{Contents, ballots_without}
 use Rattle.phase_delete.specs.Tray.{line}
-use Rattle.phase_delete.specs.declared.reply.Withdrawal.{Withdrawal}
+use Rattle.phase_delete.specs.Tray.{Withdrawal}
 use Rattle.step_core.specs.declared.withdrawer.WithdrawReply.{WithdrawReply}
 use Rattle.store_spec.specs.Ballot.{Ballot, numbers_of}
 use Rattle.store_spec.specs.WithdrawPhase as outcome
@@ -10,7 +10,7 @@ use Rattle.store_spec.specs.WithdrawPhase.{WithdrawOutcome}
 
 -- the numbers of trays
 abbrev pub all_numbers : List (List Withdrawal) → List ℕ
-all_numbers trays = flat_map (map (λ w. w.number)) trays
+all_numbers trays = flat_map (map (λ w. w.item)) trays
 
 -- trays as lists of lines
 abbrev pub lines_of : List (List Withdrawal) → List (List outcome.Withdrawal)

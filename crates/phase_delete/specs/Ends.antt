@@ -1,14 +1,13 @@
 -- What the parts of a close hand on.
 use Rattle.std.specs.Prelude.{ℕ, List, flat_map}
-use Rattle.phase_delete.specs.Tray.{IsTold, withdrawn_of}
-use Rattle.phase_delete.specs.Withdrawer.{WithdrawerView}
-use Rattle.phase_delete.specs.declared.reply.Withdrawal.{Withdrawal}
+use Rattle.phase_delete.specs.Tray.{IsTold, Withdrawal, withdrawn_of}
+use Rattle.phase_kind.specs.Worker.{WorkerView}
+use Rattle.step_core.specs.declared.withdrawer.WithdrawReply.{WithdrawReply}
 use Rattle.store_spec.specs.WithdrawStep.{WithdrawView}
-use Rattle.word_rule.specs.Places.{Place}
 
--- the seat of a withdrawer
-abbrev pub seat_of : WithdrawerView → Place WithdrawView
-seat_of tab = record { words = tab.phase.words; view = tab.seat }
+-- a withdrawer, as callers see it
+abbrev pub WithdrawerView : Type 0
+WithdrawerView = WorkerView WithdrawView ℕ WithdrawReply
 
 -- its tray tells the lists of its seat
 abbrev pub TellsOf : WithdrawerView → Type 0

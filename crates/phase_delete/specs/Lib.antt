@@ -1,9 +1,6 @@
 pub mod Closing
 pub mod Ends
 pub mod Gains
-pub mod Running
+pub mod Replies
+pub mod Stands
 pub mod Tray
-pub mod WithdrawPhase
-pub mod WithdrawPhaseKept
-pub mod Withdrawer
-pub mod WithdrawerKept

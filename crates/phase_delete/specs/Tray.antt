@@ -1,18 +1,23 @@
 -- The tray of a withdrawer, and what it tells of the lists of its seat.
 use Rattle.std.specs.Prelude.{◌≡◌, ℕ, List, map, All, AllPairs}
-use Rattle.phase_delete.specs.WithdrawPhase.{Phase}
-use Rattle.phase_delete.specs.declared.reply.Withdrawal.{Withdrawal}
+use Rattle.phase_kind.specs.Phase.{Phase}
+use Rattle.phase_kind.specs.Told.{Told}
 use Rattle.step_core.specs.WithdrawCore.{reply_of}
 use Rattle.step_core.specs.Withdrawing.{is_gone, numbers_that}
+use Rattle.step_core.specs.declared.withdrawer.WithdrawReply.{WithdrawReply}
 use Rattle.store_spec.specs.Ballot.{numbers_of}
 use Rattle.store_spec.specs.WithdrawPhase as outcome
 use Rattle.store_spec.specs.WithdrawPhase.{IsRight, MayPrecede, is_withdrawn}
 use Rattle.store_spec.specs.WithdrawStep.{WithdrawView}
 use Rattle.store_spec.specs.WithdrawStep.WithdrawState.{Rest}
 
+-- a number that was withdrawn, and what it was answered
+abbrev pub Withdrawal : Type 0
+Withdrawal = Told ℕ WithdrawReply
+
 -- a number of a tray with its reply, as a line of its list
 abbrev pub line : Withdrawal → outcome.Withdrawal
-line w = record { number = w.number; reply = reply_of w.reply }
+line w = record { number = w.item; reply = reply_of w.reply }
 
 -- the numbers of a tray that were withdrawn, and those that were found gone
 abbrev pub withdrawn_of : List Withdrawal → List ℕ

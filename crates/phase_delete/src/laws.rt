@@ -1,7 +1,7 @@
 //! What is always so of the outcome of a withdrawing phase. Each function states a law and does nothing.
 
 ghost use Rattle.phase_delete.specs.Closing.{ClosesAs, all_numbers};
-ghost use Rattle.phase_delete.specs.declared.reply.Withdrawal.{Withdrawal as Told};
+ghost use Rattle.phase_delete.specs.Tray.{Withdrawal as Told};
 ghost use Rattle.body_store.specs.Contents.{Contents};
 ghost use Rattle.std.specs.Prelude.{◌≡◌, ◌↔◌, ℕ, Contains, List, map};
 ghost use Rattle.step_core.specs.WithdrawCore.{reply_of};
@@ -31,5 +31,5 @@ pub fn a_session_may_close_so()
         (after : List Ballot) (effect : Effect)
         → ClosesAs base trays replies after
         → effect ≡ closing (map (map (λ reply. withdraw_text (reply_of reply))) replies) after
-        → ClosesWithdrawing base.ballots (map (map (λ w. w.number)) trays) effect }
+        → ClosesWithdrawing base.ballots (map (map (λ w. w.item)) trays) effect }
 {}

@@ -2,17 +2,11 @@
 //! holds the ballots whose numbers they left.
 #![tactic(auto)]
 
-mod closing;
+mod kind;
 pub mod laws;
-mod phase;
 mod removing;
-mod reply;
-mod running;
 #[cfg(test)]
 mod tests;
-mod withdrawer;
 
-pub use phase::WithdrawPhase;
-pub use reply::Withdrawal;
-pub use running::run_withdraw;
-pub use withdrawer::Withdrawer;
+pub use kind::{WithdrawPhase, Withdrawer, Withdrawing};
+pub use phase_kind::run as run_withdraw;

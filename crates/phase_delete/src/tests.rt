@@ -4,7 +4,7 @@
 ghost use Rattle.std.specs.Prelude.{◌≡◌, ◌≤◌, IfOk, length, map};
 ghost use Rattle.store_spec.specs.Ballot.{IsListing};
 
-use crate::{WithdrawPhase, Withdrawal, Withdrawer, run_withdraw};
+use crate::{WithdrawPhase, Withdrawer, run_withdraw};
 use ballot_record::{BallotList, Contest, Election, MAX_MARK_SETS, Record};
 use body_store::Closed;
 use fake_turns::{Meeting, SeenWords, Turn};
@@ -180,25 +180,27 @@ fn lists_of_numbers(rt: HostRuntime) -> Result<(), Fail> {
 }
 
 /// A withdrawer withdraws one number.
-fn withdraws_22(rt: &impl Abort, phase: &WithdrawPhase, tab: &mut Withdrawer)
+fn withdraws_22(rt: &impl Abort, phase: &WithdrawPhase, tab: &mut Withdrawer, list: &Vec<u64>)
     requires { tab.old.phase ≡ phase.now }
 {
     assert_eq!(rt; tab.room(), 1);
-    let reply = tab.withdraw(phase, 22);
+    assert_eq!(rt; list.as_slice(), [22].as_slice());
+    let reply = tab.answer(phase, list, 0);
     assert_eq!(rt; reply, Withdrawn);
-    let told = Withdrawal { number: 22, reply };
-    assert_eq!(rt; tab.tray(), [told].as_slice());
+    assert_eq!(rt; tab.items().as_slice(), [22].as_slice());
+    assert_eq!(rt; tab.replies(), [Withdrawn].as_slice());
     assert_eq!(rt; phase.peek(22), 9);
 }
 
 /// One withdrawer of a store of two ballots.
 fn withdraws_alone(rt: &impl Abort, alloc: Global) -> Result<(), Memory> {
     let two = store(rt, alloc, &Election::example(), &[9, 22])?;
+    let list = Vec::from_slice(alloc, &[22])?;
     match WithdrawPhase::begin(alloc, two, &[1]) {
         Ok((phase, tabs)) => {
             let mut tabs = tabs;
             let mut tab = tabs.pop().expect(rt, "a withdrawer");
-            withdraws_22(rt, &phase, &mut tab);
+            withdraws_22(rt, &phase, &mut tab, &list);
             Ok(())
         }
         Err((_, memory)) => Err(memory),

@@ -7,7 +7,7 @@ use Rattle.phase_play.specs.Plays.{PlaysCasting, PlaysFinding, PlaysWithdrawing}
 use Rattle.store_spec.specs.Ballot.{Ballot}
 use Rattle.store_spec.specs.BallotPhase.{CastReply}
 use Rattle.store_spec.specs.Election.{Election}
-use Rattle.store_spec.specs.Session.{ClosesCasting, ClosesFinding, ClosesWithdrawing, all_reply_lines, begun, cast_text, closing, counted, find_text, replies, withdraw_text}
+use Rattle.store_spec.specs.Session.{ClosesCasting, ClosesFinding, ClosesWithdrawing, Effect, all_reply_lines, begun, cast_text, closing, counted, find_text, replies, withdraw_text}
 use Rattle.store_spec.specs.WithdrawPhase.{WithdrawReply}
 
 -- one map after another, within lists
@@ -41,56 +41,51 @@ told_of_text telling old text told words count after same nothing put counts =
     ∙ ap (λ w. line (all_reply_lines 1 w) count) same
     ∙ ap (line (all_reply_lines 1 words)) counts)
 
--- the close of a casting phase
-pub closes_casting : {V X : Type 0} (telling : Telling) (e : Election) (set after : List Ballot)
-    (work : List (List Ballot)) (of : X → CastReply) (items : V → List X) (shown lists : List V) (old text : List ℕ)
-    (count : ℕ) → PlaysCasting e set work (map (λ v. map of (items v)) lists) after → shown ≡ lists → old ≡ []
-    → text ≡ old ++ told_by telling (all_reply_lines 1 (map (λ v. map (λ x. cast_text (of x)) (items v)) shown)
-    ++ counted (codes "closed") count) → count ≡ length after → Tells telling (ClosesCasting e set work)
-    (replies text (begun after))
-closes_casting telling e set after work of items shown lists old text count plays same nothing put counts = (
-  closing (map (map (λ l. cast_text l.reply)) plays.lines) after,
-  record { lines = plays.lines; of_lists = plays.of_work; after = after; outcome = plays.outcome; is = refl },
-  told_of_text telling old text _ _ count after
-      (ap (map (λ v. map (λ x. cast_text (of x)) (items v))) same ∙ words_of cast_text of items (λ l. l.reply) lists
-      plays.lines plays.of_replies)
-      nothing put counts,
-)
+-- what is told of a close that did such a thing
+pub closes_told : (telling : Telling) (Did : Effect → Type 0) (old text : List ℕ) (told words : List (List (List ℕ)))
+    (count : ℕ) (after : List Ballot) → Did (closing words after) → told ≡ words → old ≡ []
+    → text ≡ old ++ told_by telling (all_reply_lines 1 told ++ counted (codes "closed") count) → count ≡ length after
+    → Tells telling Did (replies text (begun after))
+closes_told telling Did old text told words count after did same nothing put counts =
+    (closing words after, did, told_of_text telling old text told words count after same nothing put counts)
 
--- the close of a withdrawing phase
-pub closes_withdrawing : {V X : Type 0} (telling : Telling) (set after : List Ballot) (work : List (List ℕ))
-    (of : X → WithdrawReply) (items : V → List X) (shown lists : List V) (old text : List ℕ) (count : ℕ)
-    → PlaysWithdrawing set work (map (λ v. map of (items v)) lists) after → shown ≡ lists → old ≡ []
-    → text ≡ old ++ told_by telling (all_reply_lines 1 (map (λ v. map (λ x. withdraw_text (of x)) (items v)) shown)
-    ++ counted (codes "closed") count) → count ≡ length after → Tells telling (ClosesWithdrawing set work)
-    (replies text (begun after))
-closes_withdrawing telling set after work of items shown lists old text count plays same nothing put counts = (
-  closing (map (map (λ a. withdraw_text a.reply)) plays.lines) after,
-  record {
-    lines = plays.lines;
-    of_lists = plays.of_work;
-    after = after;
-    rest = plays.rest;
-    outcome = plays.outcome;
-    is = refl;
-  },
-  told_of_text telling old text _ _ count after
-      (ap (map (λ v. map (λ x. withdraw_text (of x)) (items v))) same ∙ words_of withdraw_text of items (λ a. a.reply)
-      lists plays.lines plays.of_replies)
-      nothing put counts,
-)
+-- ---- one closed store
 
--- the close of a finding phase
-pub closes_finding : {V : Type 0} (telling : Telling) (set : List Ballot) (work : List (List ℕ))
-    (items : V → List Bool) (shown lists : List V) (old text : List ℕ) (count : ℕ)
-    → PlaysFinding set work (map items lists) → shown ≡ lists → old ≡ []
-    → text ≡ old ++ told_by telling (all_reply_lines 1 (map (λ v. map find_text (items v)) shown) ++ counted
-    (codes "closed") count) → count ≡ length set → Tells telling (ClosesFinding set work) (replies text (begun set))
-closes_finding telling set work items shown lists old text count plays same nothing put counts = (
-  closing (map (map (λ a. find_text a.present)) plays.lines) set,
-  record { lines = plays.lines; of_lists = plays.of_work; outcome = plays.outcome; is = refl },
-  told_of_text telling old text _ _ count set
-      (ap (map (λ v. map find_text (items v))) same ∙ sym (map-map (map find_text) items lists) ∙ ap
-      (map (map find_text)) (sym plays.of_present) ∙ map_maps find_text (λ a. a.present) plays.lines)
-      nothing put counts,
-)
+-- a casting phase that was played does what its close asks
+pub closes_casting : {V X : Type 0} (e : Election) (set after : List Ballot) (work : List (List Ballot))
+    (of : X → CastReply) (items : V → List X) (lists : List V)
+    → PlaysCasting e set work (map (λ v. map of (items v)) lists) after
+    → ClosesCasting e set work (closing (map (λ v. map (λ x. cast_text (of x)) (items v)) lists) after)
+closes_casting e set after work of items lists plays = record {
+  lines = plays.lines;
+  of_lists = plays.of_work;
+  after = after;
+  outcome = plays.outcome;
+  is = ap (λ words. closing words after) (words_of cast_text of items (λ l. l.reply) lists plays.lines plays.of_replies);
+}
+
+-- so does a withdrawing phase
+pub closes_withdrawing : {V X : Type 0} (set after : List Ballot) (work : List (List ℕ)) (of : X → WithdrawReply)
+    (items : V → List X) (lists : List V) → PlaysWithdrawing set work (map (λ v. map of (items v)) lists) after
+    → ClosesWithdrawing set work (closing (map (λ v. map (λ x. withdraw_text (of x)) (items v)) lists) after)
+closes_withdrawing set after work of items lists plays = record {
+  lines = plays.lines;
+  of_lists = plays.of_work;
+  after = after;
+  rest = plays.rest;
+  outcome = plays.outcome;
+  is = ap (λ words. closing words after)
+      (words_of withdraw_text of items (λ a. a.reply) lists plays.lines plays.of_replies);
+}
+
+-- and a finding phase
+pub closes_finding : {V : Type 0} (set : List Ballot) (work : List (List ℕ)) (items : V → List Bool) (lists : List V)
+    → PlaysFinding set work (map items lists)
+    → ClosesFinding set work (closing (map (λ v. map find_text (items v)) lists) set)
+closes_finding set work items lists plays = record {
+  lines = plays.lines;
+  of_lists = plays.of_work;
+  outcome = plays.outcome;
+  is = ap (λ words. closing words set) (sym (map-map (map find_text) items lists) ∙ ap (map (map find_text))
+      (sym plays.of_present) ∙ map_maps find_text (λ a. a.present) plays.lines);
+}

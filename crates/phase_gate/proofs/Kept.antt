@@ -1,29 +1,37 @@
--- What a line leaves of a disk.
+-- What a line leaves of the disks.
 use Rattle.std.proofs.Common.{ℕ, List, [], ◌∷◌, Ok, sym, subst}
 use Rattle.phase_gate.specs.Around.{Around}
-use Rattle.phase_gate.specs.Checkpointed.{Acknowledges, IsMediumNow}
+use Rattle.any_store.proofs.Each.{each_then}
+use Rattle.any_store.specs.Disks.{StoreDisks, StoreModel}
+use Rattle.any_store.specs.Checkpointed.{AreCheckpointed, AreMedia}
+use Rattle.phase_gate.specs.Checkpointed.{Acknowledges}
 use Rattle.phase_gate.specs.LineEnds.{LineEnds}
 use Rattle.store_spec.specs.Ballot.{Ballot}
-use Rattle.store_spec.specs.Disk.{DiskModel}
 use Rattle.store_spec.specs.Election.{Election}
 use Rattle.store_spec.specs.Session.{State}
 
--- the disk is the medium of some set
-abbrev pub IsSomeMedium : {D : Type 0} → DiskModel D → Election → D → Type 0
-IsSomeMedium model e disk = (set : List Ballot) × IsMediumNow model e set disk
+-- the disks are the media of some set
+abbrev pub AreSomeMedia : {D : Type 0} → StoreDisks D → Election → D → Type 0
+AreSomeMedia disks e now = (set : List Ballot) × AreMedia disks e set now
 
-medium_kept : {D : Type 0} (model : DiskModel D) (e : Election) (sets : List (List Ballot)) (old new : D)
-    (marks marks_now : List ℕ) → Acknowledges model e sets old new marks marks_now → IsSomeMedium model e old
-    → IsSomeMedium model e new
-medium_kept model e [] old new marks marks_now (same, left) medium = subst (IsSomeMedium model e) (sym same) medium
-medium_kept model e (set ∷ []) old new marks marks_now (done, marked) medium = (set, done.now)
-medium_kept model e (set ∷ next ∷ sets) old new marks marks_now not_both medium = absurd not_both
+-- they are so once they were acknowledged
+pub media_then : {D : Type 0} (disks : StoreDisks D) (e : Election) (set : List Ballot) (old new : D)
+    → AreCheckpointed disks e set old new → AreMedia disks e set new
+media_then disks e set old new done = each_then disks _ _ (λ model share one. one.now) done
 
--- and it still is when a line was handled
-pub medium_after : {K D : Type 0} (model : DiskModel D) (tell : List ℕ → List ℕ) (e : Election) (n : ℕ)
+pub media_kept : {D : Type 0} (disks : StoreDisks D) (e : Election) (sets : List (List Ballot)) (old new : D)
+    (marks marks_now : List ℕ) → Acknowledges disks e sets old new marks marks_now → AreSomeMedia disks e old
+    → AreSomeMedia disks e new
+media_kept disks e [] old new marks marks_now (same, left) media = subst (AreSomeMedia disks e) (sym same) media
+media_kept disks e (set ∷ []) old new marks marks_now (done, marked) media =
+    (set, media_then disks e set old new done)
+media_kept disks e (set ∷ next ∷ sets) old new marks marks_now not_both media = absurd not_both
+
+-- and they still are when a line was handled
+pub media_after : {K D : Type 0} (model : StoreModel D) (tell : List ℕ → List ℕ) (e : Election) (n : ℕ)
     (s next : State) (bytes : List ℕ) (before after : Around K D)
-    → LineEnds model tell e n s bytes (Ok next) before after → IsSomeMedium model e before.disk
-    → IsSomeMedium model e after.disk
-medium_after model tell e n s next bytes before after ends medium =
-    medium_kept model e ends.effect.acknowledged before.disk after.disk before.marks after.marks
-    ends.done.acknowledged medium
+    → LineEnds model tell e n s bytes (Ok next) before after → AreSomeMedia model.disks e before.disk
+    → AreSomeMedia model.disks e after.disk
+media_after model tell e n s next bytes before after ends media =
+    media_kept model.disks e ends.effect.acknowledged before.disk after.disk before.marks after.marks
+    ends.done.acknowledged media

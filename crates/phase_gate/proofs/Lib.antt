@@ -1,4 +1,3 @@
-pub mod Acknowledging
 pub mod Closes
 pub mod Kept
 pub mod LineParts

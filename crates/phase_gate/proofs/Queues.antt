@@ -14,7 +14,7 @@ use Rattle.phase_gate.specs.declared.work.Queued.TheVariants.{Waits, NoList, Oth
 use Rattle.store_spec.specs.Ballot.{Ballot}
 use Rattle.store_spec.specs.Election.{Election}
 use Rattle.store_spec.specs.ScriptLine.{Says, ScriptLine}
-use Rattle.store_spec.specs.Session.{Answers, Does, Effect, Phase, State, in_phase, queued, queues, refusal, replies, stays, wrong_phase}
+use Rattle.store_spec.specs.Session.{AnswersBy, Closes, DoesBy, Effect, Phase, State, in_phase, queued, queues, refusal, replies, stays, wrong_phase}
 use Rattle.store_spec.specs.Session.Phase.{Closed, Casts, Withdraws, Finds}
 
 -- an item is put at the end of the list at a place
@@ -95,31 +95,31 @@ other_does n set phase place now effect (other, to) is =
     is ∙ ap (λ p. queued_effect n (in_phase p set) place) to ∙ ap (queued_effect n (in_phase phase set)) other
 
 -- what a line does that brings an item, from where the item came
-pub item_does : (e : Election) (n : ℕ) (set : List Ballot) (tab : ℕ) (item : Item) (phase : Phase) (place : Queued)
+pub item_does : (closes : Closes) (e : Election) (n : ℕ) (set : List Ballot) (tab : ℕ) (item : Item) (phase : Phase) (place : Queued)
     (now : Phase) (effect : Effect) → GoesInto phase tab item place now
     → effect ≡ queued_effect n (in_phase now set) place
-    → Does e n (in_phase phase set) (item_line tab item) phase effect
-item_does e n set tab (items.Cast r) (Casts lists) place now effect into is =
+    → DoesBy closes e n (in_phase phase set) (item_line tab item) phase effect
+item_does closes e n set tab (items.Cast r) (Casts lists) place now effect into is =
     waits_does n set Casts lists tab (ballot r.now) place now effect into is
-item_does e n set tab (items.Cast r) Closed place now effect into is = other_does n set Closed place now effect into is
-item_does e n set tab (items.Cast r) (Withdraws lists) place now effect into is =
+item_does closes e n set tab (items.Cast r) Closed place now effect into is = other_does n set Closed place now effect into is
+item_does closes e n set tab (items.Cast r) (Withdraws lists) place now effect into is =
     other_does n set (Withdraws lists) place now effect into is
-item_does e n set tab (items.Cast r) (Finds lists) place now effect into is =
+item_does closes e n set tab (items.Cast r) (Finds lists) place now effect into is =
     other_does n set (Finds lists) place now effect into is
-item_does e n set tab (items.Withdraw k) (Withdraws lists) place now effect into is =
+item_does closes e n set tab (items.Withdraw k) (Withdraws lists) place now effect into is =
     waits_does n set Withdraws lists tab k place now effect into is
-item_does e n set tab (items.Withdraw k) Closed place now effect into is =
+item_does closes e n set tab (items.Withdraw k) Closed place now effect into is =
     other_does n set Closed place now effect into is
-item_does e n set tab (items.Withdraw k) (Casts lists) place now effect into is =
+item_does closes e n set tab (items.Withdraw k) (Casts lists) place now effect into is =
     other_does n set (Casts lists) place now effect into is
-item_does e n set tab (items.Withdraw k) (Finds lists) place now effect into is =
+item_does closes e n set tab (items.Withdraw k) (Finds lists) place now effect into is =
     other_does n set (Finds lists) place now effect into is
-item_does e n set tab (items.Find k) (Finds lists) place now effect into is =
+item_does closes e n set tab (items.Find k) (Finds lists) place now effect into is =
     waits_does n set Finds lists tab k place now effect into is
-item_does e n set tab (items.Find k) Closed place now effect into is = other_does n set Closed place now effect into is
-item_does e n set tab (items.Find k) (Casts lists) place now effect into is =
+item_does closes e n set tab (items.Find k) Closed place now effect into is = other_does n set Closed place now effect into is
+item_does closes e n set tab (items.Find k) (Casts lists) place now effect into is =
     other_does n set (Casts lists) place now effect into is
-item_does e n set tab (items.Find k) (Withdraws lists) place now effect into is =
+item_does closes e n set tab (items.Find k) (Withdraws lists) place now effect into is =
     other_does n set (Withdraws lists) place now effect into is
 
 -- lists that stay are seen as the same ones
@@ -134,8 +134,8 @@ on_any_err (Ok x) holds = tt
 on_any_err (Err e) holds = holds
 
 -- a line whose item waits is answered, where it says so
-pub queued_answers : (e : Election) (n : ℕ) (s : State) (bytes : List ℕ) (line : ScriptLine) (waits : Bool) (now : State)
-    → Says e bytes line → IsQueued waits (Does e n s line s.phase) s now
-    → IsQueued waits (Answers e n s (Some bytes)) s now
-queued_answers e n s bytes line true now says does = inr (line, says, does)
-queued_answers e n s bytes line false now says stays = stays
+pub queued_answers : (closes : Closes) (e : Election) (n : ℕ) (s : State) (bytes : List ℕ) (line : ScriptLine) (waits : Bool) (now : State)
+    → Says e bytes line → IsQueued waits (DoesBy closes e n s line s.phase) s now
+    → IsQueued waits (AnswersBy closes e n s (Some bytes)) s now
+queued_answers closes e n s bytes line true now says does = inr (line, says, does)
+queued_answers closes e n s bytes line false now says stays = stays

@@ -12,7 +12,7 @@ use Rattle.store_spec.specs.Election.{Election}
 use Rattle.store_spec.specs.Report.{export_text, tally_text}
 use Rattle.store_spec.specs.ScriptLine.{Work}
 use Rattle.store_spec.specs.ScriptLine.ScriptLine.{Open, Checkpoint, Tally, Export}
-use Rattle.store_spec.specs.Session.{Does, Effect, Phase, State, counted, in_phase, opened, phase_text, replies, stays}
+use Rattle.store_spec.specs.Session.{Closes, DoesBy, Effect, Phase, State, counted, in_phase, opened, phase_text, replies, stays}
 use Rattle.store_spec.specs.Session.Phase.{Closed}
 
 -- what was put is what is told of a text
@@ -36,42 +36,42 @@ own_summary Summary text is = is
 
 -- ---- lines of the phase closed
 
-module _ (telling : Telling) (e : Election) (n : ℕ) (s : State) (phase : Phase) (is : phase ≡ Closed) where
+module _ (telling : Telling) (closes : Closes) (e : Election) (n : ℕ) (s : State) (phase : Phase) (is : phase ≡ Closed) where
   pub tells_open : (work : Work) (tabs : ℕ) (text : List ℕ) (now : Phase) → now ≡ opened work tabs
       → text ≡ told_by telling (counted (phase_text (opened work tabs)) tabs)
-      → Tells telling (Does e n s (Open work tabs) phase) (replies text (in_phase now s.set))
+      → Tells telling (DoesBy closes e n s (Open work tabs) phase) (replies text (in_phase now s.set))
   tells_open work tabs text now to put = (
     replies (counted (phase_text (opened work tabs)) tabs) (in_phase (opened work tabs) s.set),
-    subst (λ p. Does e n s (Open work tabs) p (replies (counted (phase_text (opened work tabs)) tabs)
+    subst (λ p. DoesBy closes e n s (Open work tabs) p (replies (counted (phase_text (opened work tabs)) tabs)
         (in_phase (opened work tabs) s.set))) (sym is) refl,
     ap (λ t. replies t (in_phase now s.set)) put ∙ ap (λ p. replies
         (told_by telling (counted (phase_text (opened work tabs)) tabs)) (in_phase p s.set)) to,
   )
 
   pub tells_checkpoint : (text : List ℕ) → text ≡ counted (codes "checkpoint") (length s.set)
-      → Tells telling (Does e n s Checkpoint phase) (record { reply = text; acknowledged = s.set ∷ []; next = s })
+      → Tells telling (DoesBy closes e n s Checkpoint phase) (record { reply = text; acknowledged = s.set ∷ []; next = s })
   tells_checkpoint text put =
       let reply = counted (codes "checkpoint") (length s.set) in
       let whole : List ℕ → Effect = λ t. record { reply = t; acknowledged = s.set ∷ []; next = s } in (
         whole reply,
-        subst (λ p. Does e n s Checkpoint p (whole reply)) (sym is) refl,
+        subst (λ p. DoesBy closes e n s Checkpoint p (whole reply)) (sym is) refl,
         ap whole (put ∙ sym (own_summary telling reply (sums reply reply (checkpoint_sums (length s.set))))),
       )
 
-  pub tells_tally : Tells telling (Does e n s Tally phase) (replies (tally_text e s.set) s)
+  pub tells_tally : Tells telling (DoesBy closes e n s Tally phase) (replies (tally_text e s.set) s)
   tells_tally =
       let text = tally_text e s.set in (
         stays s text,
-        subst (λ p. Does e n s Tally p (stays s text)) (sym is) refl,
+        subst (λ p. DoesBy closes e n s Tally p (stays s text)) (sym is) refl,
         ap (λ t. replies t s) (sym (own_summary telling text (sums text text (tally_sums e s.set)))),
       )
 
   pub tells_export : (text : List ℕ) → text ≡ told_by telling (export_text e s.set)
-      → Tells telling (Does e n s Export phase) (replies text s)
+      → Tells telling (DoesBy closes e n s Export phase) (replies text s)
   tells_export text put = (
     stays s (export_text e s.set),
     subst
-        (λ p. Does e n s Export p (stays s (export_text e s.set))) (sym is) refl,
+        (λ p. DoesBy closes e n s Export p (stays s (export_text e s.set))) (sym is) refl,
     ap (λ t. replies t s) put,
   )
 

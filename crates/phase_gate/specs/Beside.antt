@@ -1,12 +1,8 @@
 -- The calls of further disks at the marks of a session.
-use Rattle.std.specs.Prelude.{◌≡◌, ◌⊎◌, ◌<◌, ◌+◌, ◌-◌, ℕ, List, [], ◌∷◌, ◌++◌, map, min, Option, None, Some, Vec, vec_capacity}
+use Rattle.std.specs.Prelude.{◌≡◌, ◌⊎◌, ℕ, List, [], ◌∷◌, ◌++◌, map, Option, Vec}
 use Rattle.std.specs.declared.alloc.Global.{Global}
-use Rattle.store_spec.specs.Fault.{last_count}
-
--- Those at a mark: where two disks were paired, the calls of the second, which rose as those of the first did since.
-abbrev pub calls_beside : Option (ℕ × ℕ) → ℕ → List ℕ
-calls_beside None mark = []
-calls_beside (Some begun) mark = min (mark - begun.0 + begun.1) last_count ∷ []
+use Rattle.any_store.specs.Beside.{calls_beside, row_beside}
+use Rattle.any_store.specs.Disks.{StoreDisks}
 
 -- one list for each mark
 abbrev pub AreBeside : Option (ℕ × ℕ) → List ℕ → List (Vec ℕ Global) → Type 0
@@ -16,7 +12,9 @@ AreBeside begun marks others = map (λ list. list.items) others ≡ map (calls_b
 abbrev pub IsOneMore : List ℕ → List ℕ → Type 0
 IsOneMore marks now = (now ≡ marks) ⊎ ((mark : ℕ) × (now ≡ marks ++ mark ∷ []))
 
--- there is room for a number, if there is a second disk
-abbrev pub HasRoom : Option (ℕ × ℕ) → Vec ℕ Global → Type 0
-HasRoom None list = Unit {0}
-HasRoom (Some begun) list = 0 < vec_capacity list
+-- no mark was made, and no row added; or one was, and the row that stands beside it now
+abbrev pub AddsRow : {D : Type 0} → StoreDisks D → D → Option (ℕ × ℕ) → List ℕ → List ℕ → List (List ℕ) → List (List ℕ)
+    → Type 0
+AddsRow disks now begun marks marks_now rows rows_now =
+    ((marks_now ≡ marks) × (rows_now ≡ rows))
+    ⊎ ((mark : ℕ) × (marks_now ≡ marks ++ mark ∷ []) × (rows_now ≡ rows ++ row_beside disks now begun mark ∷ []))

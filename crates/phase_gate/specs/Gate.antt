@@ -15,11 +15,21 @@ use Rattle.store_spec.specs.Ballot.{Ballot}
 use Rattle.store_spec.specs.Election.{Election}
 use Rattle.store_spec.specs.Report.{export_text, tally_text}
 use Rattle.store_spec.specs.Session as session
-use Rattle.store_spec.specs.Session.{Effect, State, in_phase, refusal, replies, stays, wrong_phase}
+use Rattle.store_spec.specs.Session.{Closes, Effect, State, in_phase, refusal, replies, stays, wrong_phase}
 use Rattle.store_spec.specs.Session.Phase.{Closed, Casts, Withdraws, Finds}
 
-abbrev pub state_of : Gate → State
-state_of gate = in_phase (phase_of gate.work) gate.closed.ballots
+abbrev pub election_of : {S : Type 0} {s : _} → Gate S s → Election
+election_of {S} {s} gate = s.election gate.store
+
+abbrev pub ballots_of : {S : Type 0} {s : _} → Gate S s → List Ballot
+ballots_of {S} {s} gate = s.ballots gate.store
+
+-- what a close asks of its store
+abbrev pub closes_of : {S : Type 0} {s : _} → Gate S s → Closes
+closes_of {S} {s} gate = s.closes (election_of gate)
+
+abbrev pub state_of : {S : Type 0} {s : _} → Gate S s → State
+state_of gate = in_phase (phase_of gate.work) (ballots_of gate)
 
 -- what is told where this is left to do, and this text was put
 abbrev pub told_at : Task → Election → List Ballot → List ℕ → List ℕ
@@ -33,15 +43,15 @@ acknowledged_at Acknowledge set = set ∷ []
 acknowledged_at task set = []
 
 -- what a line did, with what is told of its reply, where this text was put
-abbrev pub effect_of : Answer → List ℕ → Effect
+abbrev pub effect_of : {S : Type 0} {s : _} → Answer S s → List ℕ → Effect
 effect_of answer text = record {
-  reply = told_at answer.task answer.gate.closed.election answer.gate.closed.ballots text;
-  acknowledged = acknowledged_at answer.task answer.gate.closed.ballots;
+  reply = told_at answer.task (election_of answer.gate) (ballots_of answer.gate) text;
+  acknowledged = acknowledged_at answer.task (ballots_of answer.gate);
   next = state_of answer.gate;
 }
 
-abbrev pub standing_of : Inside → Standing
-standing_of s = record { election = s.gate.closed.election; state = state_of s.gate; telling = s.telling }
+abbrev pub standing_of : {S : Type 0} {s : _} → Inside S s → Standing
+standing_of session = record { election = election_of session.gate; state = state_of session.gate; telling = session.telling }
 
 -- this is the name of the phase
 abbrev pub IsNamed : Phase → session.Phase → Type 0

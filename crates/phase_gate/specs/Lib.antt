@@ -3,6 +3,7 @@ pub mod Beside
 pub mod Checkpointed
 pub mod Gate
 pub mod LineEnds
+pub mod Replies
 pub mod Standing
 pub mod Telling
 pub mod Work

@@ -1,11 +1,11 @@
-//! A session without its surroundings: its phase, what waits for the close of it, and the closed store.
+//! A session without its surroundings: its phase, what waits for the close of it, and the store.
 
 ghost use Rattle.std.specs.Prelude.{◌≡◌};
 ghost use Rattle.phase_gate.specs.Standing.{MayWait};
 ghost use Rattle.phase_gate.specs.Work.{AreOf, phase_of};
 
 use crate::work::Work;
-use body_store::Closed;
+use any_store::Store;
 
 /// What a session is about.
 #[derive(Clone, Copy, Debug, PartialEq, Eq)]
@@ -20,13 +20,13 @@ pub enum Phase {
     Finding,
 }
 
-/// A closed store, and the phase that will change it.
+/// A store, and the phase that will change it.
 #[derive(Drop)]
-pub struct Gate {
-    pub closed: Closed,
+pub struct Gate<S: Store> {
+    pub store: S,
     pub work: Work,
-    ghost waiting: { MayWait closed.election (phase_of work) },
-    ghost lists: { AreOf closed.election work },
+    ghost waiting: { MayWait (S.election store) (phase_of work) },
+    ghost lists: { AreOf (S.election store) work },
 }
 
 /// What is left to do for a line.
@@ -44,14 +44,14 @@ pub enum Task {
 
 /// What a line did: the session after it, and what is left to do.
 #[derive(Drop)]
-pub struct Answer {
-    pub gate: Gate,
+pub struct Answer<S: Store> {
+    pub gate: Gate<S>,
     pub task: Task,
 }
 
-impl Answer {
+impl<S: Store> Answer<S> {
     /// The session after a line whose reply was put.
-    pub fn of(gate: Gate) -> Answer
+    pub fn of(gate: Gate<S>) -> Answer<S>
         ensures { result ≡ record { gate = gate; task = Task.Nothing } }
     {
         Answer {

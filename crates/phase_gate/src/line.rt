@@ -1,25 +1,27 @@
 //! What a line of a script does with a session, and what is replied to it.
 
 ghost use Rattle.std.specs.Prelude.{◌≡◌, ℕ, [], List, IfOk, Some, false, string_bytes};
-ghost use Rattle.phase_gate.specs.Gate.{effect_of, queued_effect, state_of, IsNamed};
+ghost use Rattle.phase_gate.specs.Gate.{closes_of, effect_of, election_of, queued_effect, state_of, IsNamed};
+ghost use Rattle.phase_gate.specs.Replies.{PlaysPhases};
 ghost use Rattle.phase_gate.specs.Telling.{HasNoEnd, Tells, as_told};
 ghost use Rattle.phase_gate.specs.Work.{CanWait, IsCommand, item_line, kind_of, phase_of};
 ghost use Rattle.script_lines.specs.Line.{script_line};
 ghost use Rattle.store_spec.specs.ScriptLine.{IsTab, Says};
 ghost use Rattle.store_spec.specs.ScriptLine.{ScriptLine as said};
-ghost use Rattle.store_spec.specs.Session.{Answers, Does, refusal, stays, wrong_phase};
+ghost use Rattle.store_spec.specs.Session.{AnswersBy, DoesBy, refusal, stays, wrong_phase};
 
-use crate::closing::{close_casting, close_finding, close_withdrawing};
+use crate::closing::tell_replies;
 use crate::gate::{Answer, Gate, Phase, Task};
+use crate::replies::Replies;
 use crate::telling::Telling;
 use crate::text::{push_count, tell_opening, tell_refusal};
 use crate::work::{Item, Kind, Queued, Work, item_of};
-use outside_io::{Memory, Turns};
+use any_store::Store;
+use outside_io::Memory;
 use script_lines::{Line, read_script_line};
 use std::alloc::Global;
-use std::thread::Threads;
 
-impl Gate {
+impl<S: Store> Gate<S> {
     /// Its phase.
     pub fn phase(&self) -> Phase
         ensures { IsNamed result (phase_of self.now.work) }
@@ -33,71 +35,71 @@ impl Gate {
     }
 
     /// What a line does that has this number. Its reply comes into `reply`.
-    pub fn answer<R: Threads + Sync, T: Turns>(
+    pub fn answer<F: Fn(S, Work) -> Result<(S, Replies), Memory>>(
         self,
-        rt: &R,
         alloc: Global,
         line: &[u8],
         index: u64,
-        turns: &T,
+        play: &F,
         telling: Telling,
         reply: &mut String,
-    ) -> Result<Answer, Memory>
+    ) -> Result<Answer<S>, Memory>
+        requires plays { PlaysPhases S.election S.ballots S.closes F.pre F.post play.now }
         requires nothing { string_bytes reply.old ≡ [] }
         ensures answers { IfOk result (λ answer. Tells telling
-            (Answers self.closed.election index (state_of self) (Some line.now))
+            (AnswersBy (closes_of self) (election_of self) index (state_of self) (Some line.now))
             (effect_of answer (string_bytes reply.new))) }
-        ensures election { IfOk result (λ answer. answer.gate.closed.election ≡ self.closed.election) }
+        ensures election { IfOk result (λ answer. election_of answer.gate ≡ election_of self) }
     {
-        match read_script_line(line, self.closed.election()) {
-            Some(said) => self.perform(rt, alloc, &said, index, turns, telling, reply),
+        match read_script_line(line, self.store.election()) {
+            Some(said) => self.perform(alloc, &said, index, play, telling, reply),
             None => self.refuse(index, "malformed", telling, reply),
         }
     }
 
     /// Does what a line says. Nearly all lines bring an item, for which the others make no room.
-    fn perform<R: Threads + Sync, T: Turns>(
+    fn perform<F: Fn(S, Work) -> Result<(S, Replies), Memory>>(
         self,
-        rt: &R,
         alloc: Global,
         line: &Line,
         index: u64,
-        turns: &T,
+        play: &F,
         telling: Telling,
         reply: &mut String,
-    ) -> Result<Answer, Memory>
-        requires said { (bytes : List ℕ) × Says self.closed.election bytes (script_line line.now) }
+    ) -> Result<Answer<S>, Memory>
+        requires plays { PlaysPhases S.election S.ballots S.closes F.pre F.post play.now }
+        requires said { (bytes : List ℕ) × Says (election_of self) bytes (script_line line.now) }
         requires nothing { string_bytes reply.old ≡ [] }
         ensures does { IfOk result (λ answer. Tells telling
-            (Does self.closed.election index (state_of self) (script_line line.now) (phase_of self.work))
+            (DoesBy (closes_of self) (election_of self) index (state_of self) (script_line line.now) (phase_of self.work))
             (effect_of answer (string_bytes reply.new))) }
-        ensures election { IfOk result (λ answer. answer.gate.closed.election ≡ self.closed.election) }
+        ensures election { IfOk result (λ answer. election_of answer.gate ≡ election_of self) }
     {
         match item_of(line) {
             Some((tab, item)) => self.wait(tab, item, index, telling, reply),
-            None => self.command(rt, alloc, line, index, turns, telling, reply),
+            None => self.command(alloc, line, index, play, telling, reply),
         }
     }
 
     /// Does what a line says that brings no item.
     #[inline(never)]
-    fn command<R: Threads + Sync, T: Turns>(
+    fn command<F: Fn(S, Work) -> Result<(S, Replies), Memory>>(
         self,
-        rt: &R,
         alloc: Global,
         line: &Line,
         index: u64,
-        turns: &T,
+        play: &F,
         telling: Telling,
         reply: &mut String,
-    ) -> Result<Answer, Memory>
+    ) -> Result<Answer<S>, Memory>
+        requires plays { PlaysPhases S.election S.ballots S.closes F.pre F.post play.now }
         requires command { IsCommand line.now }
-        requires said { (bytes : List ℕ) × Says self.closed.election bytes (script_line line.now) }
+        requires said { (bytes : List ℕ) × Says (election_of self) bytes (script_line line.now) }
         requires nothing { string_bytes reply.old ≡ [] }
         ensures does { IfOk result (λ answer. Tells telling
-            (Does self.closed.election index (state_of self) (script_line line.now) (phase_of self.work))
+            (DoesBy (closes_of self) (election_of self) index (state_of self) (script_line line.now) (phase_of self.work))
             (effect_of answer (string_bytes reply.new))) }
-        ensures election { IfOk result (λ answer. answer.gate.closed.election ≡ self.closed.election) }
+        ensures election { IfOk result (λ answer. election_of answer.gate ≡ election_of self) }
     {
         match *line {
             Line::OpenCast { tabs } => self.open(alloc, Kind::Casting, tabs, index, telling, reply),
@@ -111,7 +113,7 @@ impl Gate {
             ),
             Line::OpenFind { tabs } => self.open(alloc, Kind::Finding, tabs, index, telling, reply),
             Line::CastInvalid { .. } => self.cast_invalid(index, telling, reply),
-            Line::Close => self.close(rt, alloc, index, turns, telling, reply),
+            Line::Close => self.close(index, play, telling, reply),
             Line::Checkpoint => self.checkpoint(index, telling, reply),
             Line::Tally => self.tally(index, telling, reply),
             Line::Export => self.export(index, telling, reply),
@@ -127,12 +129,12 @@ impl Gate {
         why: &str,
         telling: Telling,
         reply: &mut String,
-    ) -> Result<Answer, Memory>
+    ) -> Result<Answer<S>, Memory>
         requires why { HasNoEnd why.now }
         requires nothing { string_bytes reply.old ≡ [] }
         ensures stays { IfOk result (λ answer. effect_of answer (string_bytes reply.new)
             ≡ as_told telling (stays (state_of self) (refusal index why.now))) }
-        ensures election { IfOk result (λ answer. answer.gate.closed.election ≡ self.closed.election) }
+        ensures election { IfOk result (λ answer. election_of answer.gate ≡ election_of self) }
     {
         tell_refusal(reply, telling, index, why)?;
         Ok(Answer::of(self))
@@ -145,11 +147,11 @@ impl Gate {
         index: u64,
         telling: Telling,
         reply: &mut String,
-    ) -> Result<Answer, Memory>
+    ) -> Result<Answer<S>, Memory>
         requires nothing { string_bytes reply.old ≡ [] }
         ensures stays { IfOk result (λ answer. effect_of answer (string_bytes reply.new)
             ≡ as_told telling (stays (state_of self) (wrong_phase index (phase_of self.work)))) }
-        ensures election { IfOk result (λ answer. answer.gate.closed.election ≡ self.closed.election) }
+        ensures election { IfOk result (λ answer. election_of answer.gate ≡ election_of self) }
     {
         let why = self.work.refusal();
         self.refuse(index, why, telling, reply)
@@ -164,22 +166,22 @@ impl Gate {
         index: u64,
         telling: Telling,
         reply: &mut String,
-    ) -> Result<Answer, Memory>
+    ) -> Result<Answer<S>, Memory>
         requires tabs { IsTab tabs }
         requires nothing { string_bytes reply.old ≡ [] }
-        ensures does { IfOk result (λ answer. Tells telling (Does self.closed.election index
+        ensures does { IfOk result (λ answer. Tells telling (DoesBy (closes_of self) (election_of self) index
             (state_of self) (said.Open (kind_of kind) tabs) (phase_of self.work))
             (effect_of answer (string_bytes reply.new))) }
-        ensures election { IfOk result (λ answer. answer.gate.closed.election ≡ self.closed.election) }
+        ensures election { IfOk result (λ answer. election_of answer.gate ≡ election_of self) }
     {
-        let Gate { closed, work } = self;
+        let Gate { store, work } = self;
         match work {
             Work::Closed => {
-                let work = Work::opened(alloc, closed.election(), kind, tabs)?;
+                let work = Work::opened(alloc, store.election(), kind, tabs)?;
                 tell_opening(reply, telling, kind, tabs)?;
-                Ok(Answer::of(Gate { closed, work }))
+                Ok(Answer::of(Gate { store, work }))
             }
-            work => Gate { closed, work }.refuse_phase(index, telling, reply),
+            work => Gate { store, work }.refuse_phase(index, telling, reply),
         }
     }
 
@@ -189,12 +191,12 @@ impl Gate {
         index: u64,
         telling: Telling,
         reply: &mut String,
-    ) -> Result<Answer, Memory>
+    ) -> Result<Answer<S>, Memory>
         requires nothing { string_bytes reply.old ≡ [] }
-        ensures does { (tab : ℕ) → IfOk result (λ answer. Tells telling (Does self.closed.election index
+        ensures does { (tab : ℕ) → IfOk result (λ answer. Tells telling (DoesBy (closes_of self) (election_of self) index
             (state_of self) (said.CastInvalid tab) (phase_of self.work))
             (effect_of answer (string_bytes reply.new))) }
-        ensures election { IfOk result (λ answer. answer.gate.closed.election ≡ self.closed.election) }
+        ensures election { IfOk result (λ answer. election_of answer.gate ≡ election_of self) }
     {
         match self.phase() {
             Phase::Casting => self.refuse(index, "invalid", telling, reply),
@@ -210,18 +212,18 @@ impl Gate {
         index: u64,
         telling: Telling,
         reply: &mut String,
-    ) -> Result<Answer, Memory>
+    ) -> Result<Answer<S>, Memory>
         requires tab { IsTab tab }
-        requires item { CanWait self.closed.election item }
+        requires item { CanWait (election_of self) item }
         requires nothing { string_bytes reply.old ≡ [] }
-        ensures does { IfOk result (λ answer. Tells telling (Does self.closed.election index
+        ensures does { IfOk result (λ answer. Tells telling (DoesBy (closes_of self) (election_of self) index
             (state_of self) (item_line tab item.entry) (phase_of self.work))
             (effect_of answer (string_bytes reply.new))) }
-        ensures election { IfOk result (λ answer. answer.gate.closed.election ≡ self.closed.election) }
+        ensures election { IfOk result (λ answer. election_of answer.gate ≡ election_of self) }
     {
-        let Gate { closed, mut work } = self;
-        let queued = work.wait(closed.election(), tab, item)?;
-        Gate { closed, work }.queued(queued, index, telling, reply)
+        let Gate { store, mut work } = self;
+        let queued = work.wait(store.election(), tab, item)?;
+        Gate { store, work }.queued(queued, index, telling, reply)
     }
 
     /// Answers for an item: it waits, or there is no such list, or the phase is another.
@@ -231,11 +233,11 @@ impl Gate {
         index: u64,
         telling: Telling,
         reply: &mut String,
-    ) -> Result<Answer, Memory>
+    ) -> Result<Answer<S>, Memory>
         requires nothing { string_bytes reply.old ≡ [] }
         ensures effect { IfOk result (λ answer. effect_of answer (string_bytes reply.new)
             ≡ as_told telling (queued_effect index (state_of self) queued)) }
-        ensures election { IfOk result (λ answer. answer.gate.closed.election ≡ self.closed.election) }
+        ensures election { IfOk result (λ answer. election_of answer.gate ≡ election_of self) }
     {
         match queued {
             Queued::Waits => Ok(Answer::of(self)),
@@ -245,54 +247,48 @@ impl Gate {
     }
 
     /// Closes a phase: what waits is handled.
-    fn close<R: Threads + Sync, T: Turns>(
+    fn close<F: Fn(S, Work) -> Result<(S, Replies), Memory>>(
         self,
-        rt: &R,
-        alloc: Global,
         index: u64,
-        turns: &T,
+        play: &F,
         telling: Telling,
         reply: &mut String,
-    ) -> Result<Answer, Memory>
+    ) -> Result<Answer<S>, Memory>
+        requires plays { PlaysPhases S.election S.ballots S.closes F.pre F.post play.now }
         requires nothing { string_bytes reply.old ≡ [] }
-        ensures does { IfOk result (λ answer. Tells telling (Does self.closed.election index
+        ensures does { IfOk result (λ answer. Tells telling (DoesBy (closes_of self) (election_of self) index
             (state_of self) said.Close (phase_of self.work))
             (effect_of answer (string_bytes reply.new))) }
-        ensures election { IfOk result (λ answer. answer.gate.closed.election ≡ self.closed.election) }
+        ensures election { IfOk result (λ answer. election_of answer.gate ≡ election_of self) }
     {
-        let Gate { closed, work } = self;
-        let closed = match work {
-            Work::Casting(lists) => {
-                close_casting(rt, alloc, closed, lists, turns, telling, reply)?
-            }
-            Work::Withdrawing(lists) => {
-                close_withdrawing(rt, alloc, closed, &lists, turns, telling, reply)?
-            }
-            Work::Finding(lists) => {
-                close_finding(rt, alloc, &closed, &lists, turns, telling, reply)?;
-                closed
-            }
-            Work::Closed => {
-                return Gate { closed, work }.refuse_phase(index, telling, reply);
-            }
-        };
+        let Gate { store, work } = self;
+        if let Work::Closed = work {
+            return Gate { store, work }.refuse_phase(index, telling, reply);
+        }
+        let (store, replies) = play(store, work)?;
+        tell_replies(reply, telling, &replies, store.len())?;
         Ok(Answer::of(Gate {
-            closed,
+            store,
             work: Work::Closed,
         }))
     }
 
     /// The set is to be acknowledged.
-    fn checkpoint(self, index: u64, telling: Telling, reply: &mut String) -> Result<Answer, Memory>
+    fn checkpoint(
+        self,
+        index: u64,
+        telling: Telling,
+        reply: &mut String,
+    ) -> Result<Answer<S>, Memory>
         requires nothing { string_bytes reply.old ≡ [] }
-        ensures does { IfOk result (λ answer. Tells telling (Does self.closed.election index
+        ensures does { IfOk result (λ answer. Tells telling (DoesBy (closes_of self) (election_of self) index
             (state_of self) said.Checkpoint (phase_of self.work))
             (effect_of answer (string_bytes reply.new))) }
-        ensures election { IfOk result (λ answer. answer.gate.closed.election ≡ self.closed.election) }
+        ensures election { IfOk result (λ answer. election_of answer.gate ≡ election_of self) }
     {
         match self.phase() {
             Phase::Closed => {
-                push_count(reply, "checkpoint", self.closed.len())?;
+                push_count(reply, "checkpoint", self.store.len())?;
                 Ok(Answer {
                     gate: self,
                     task: Task::Acknowledge,
@@ -303,12 +299,12 @@ impl Gate {
     }
 
     /// The tally of the set is to be told.
-    fn tally(self, index: u64, telling: Telling, reply: &mut String) -> Result<Answer, Memory>
+    fn tally(self, index: u64, telling: Telling, reply: &mut String) -> Result<Answer<S>, Memory>
         requires nothing { string_bytes reply.old ≡ [] }
-        ensures does { IfOk result (λ answer. Tells telling (Does self.closed.election index
+        ensures does { IfOk result (λ answer. Tells telling (DoesBy (closes_of self) (election_of self) index
             (state_of self) said.Tally (phase_of self.work))
             (effect_of answer (string_bytes reply.new))) }
-        ensures election { IfOk result (λ answer. answer.gate.closed.election ≡ self.closed.election) }
+        ensures election { IfOk result (λ answer. election_of answer.gate ≡ election_of self) }
     {
         match self.phase() {
             Phase::Closed => Ok(Answer {
@@ -320,12 +316,12 @@ impl Gate {
     }
 
     /// The export of the set is to be told. A summary has none of its lines.
-    fn export(self, index: u64, telling: Telling, reply: &mut String) -> Result<Answer, Memory>
+    fn export(self, index: u64, telling: Telling, reply: &mut String) -> Result<Answer<S>, Memory>
         requires nothing { string_bytes reply.old ≡ [] }
-        ensures does { IfOk result (λ answer. Tells telling (Does self.closed.election index
+        ensures does { IfOk result (λ answer. Tells telling (DoesBy (closes_of self) (election_of self) index
             (state_of self) said.Export (phase_of self.work))
             (effect_of answer (string_bytes reply.new))) }
-        ensures election { IfOk result (λ answer. answer.gate.closed.election ≡ self.closed.election) }
+        ensures election { IfOk result (λ answer. election_of answer.gate ≡ election_of self) }
     {
         match self.phase() {
             Phase::Closed => Ok(Answer {

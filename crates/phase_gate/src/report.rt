@@ -1,6 +1,9 @@
-ghost use Rattle.phase_gate.specs.Beside.{AreBeside, HasRoom, IsOneMore};
-ghost use Rattle.std.specs.Prelude.{◌≡◌, ◌<◌, ℕ, List, [], None, IfOk, OnOk, vec_capacity, vec_len};
+ghost use Rattle.any_store.specs.Beside.{row_width};
+ghost use Rattle.phase_gate.specs.Around.{rows_of};
+ghost use Rattle.phase_gate.specs.Beside.{AddsRow, IsOneMore};
+ghost use Rattle.std.specs.Prelude.{◌≡◌, ◌<◌, ◌≤◌, ℕ, List, [], None, IfOk, OnOk, length, vec_capacity, vec_len};
 
+use any_store::{Disks, Store};
 use outside_io::Memory;
 use std::alloc::Global;
 
@@ -33,32 +36,31 @@ impl Report {
         }
     }
 
-    /// Takes the room for the list of one more mark: an empty list, which has room for the number of a second disk, if
-    /// there is one.
-    pub fn room(&mut self, alloc: Global) -> Result<Vec<u64>, Memory>
+    /// Takes the room for the list of one more mark: an empty list, which has room for so many numbers.
+    pub fn room(&mut self, alloc: Global, width: usize) -> Result<Vec<u64>, Memory>
         ensures marks { self.new.marks ≡ self.old.marks }
         ensures others { self.new.others.items ≡ self.old.others.items }
         ensures begun { self.new.begun ≡ self.old.begun }
         ensures held { self.new.held ≡ self.old.held }
         ensures room { OnOk result (vec_len self.new.others < vec_capacity self.new.others) }
         ensures empty { IfOk result (λ list. list.items ≡ []) }
-        ensures list { IfOk result (HasRoom self.new.begun) }
+        ensures list { IfOk result (λ list. width ≤ vec_capacity list) }
     {
         self.others.reserve(1)?;
-        Ok(match self.begun {
-            Some(_) => Vec::with_capacity(alloc, 1)?,
-            None => Vec::new(alloc),
-        })
+        Ok(Vec::with_capacity(alloc, width)?)
     }
 
-    /// Adds the list of the last mark, where that has none yet. Both disks saw as many calls since they were paired.
-    pub fn complete(&mut self, mut list: Vec<u64>)
+    /// Adds the list of the last mark, where that has none yet: what stands beside a mark that was made now.
+    pub fn complete<S: Store, M: Disks<S>>(&mut self, disks: &M, mut list: Vec<u64>)
         requires before { (marks : List ℕ) × IsOneMore marks self.old.marks.items
-            × AreBeside self.old.begun marks self.old.others.items }
+            × (length self.old.others.items ≡ length marks) }
         requires room { vec_len self.old.others < vec_capacity self.old.others }
         requires empty { list.items ≡ [] }
-        requires list { HasRoom self.old.begun list }
-        ensures others { AreBeside self.new.begun self.new.marks.items self.new.others.items }
+        requires list { row_width M.disks self.old.begun ≤ vec_capacity list }
+        ensures rows { (marks : List ℕ) → IsOneMore marks self.old.marks.items
+            → length self.old.others.items ≡ length marks
+            → AddsRow M.disks disks.now self.new.begun marks self.new.marks.items
+            (rows_of self.old) (rows_of self.new) }
         ensures marks { self.new.marks ≡ self.old.marks }
         ensures begun { self.new.begun ≡ self.old.begun }
         ensures held { self.new.held ≡ self.old.held }
@@ -66,13 +68,10 @@ impl Report {
         if self.others.len() == self.marks.len() {
             return;
         }
-        let begun = self.begun;
         let Some(mark) = self.marks.last() else {
             return;
         };
-        if let Some((first, second)) = begun {
-            list.push_reserved(mark.saturating_sub(first).saturating_add(second));
-        }
+        disks.beside(self.begun, *mark, &mut list);
         self.others.push_reserved(list);
     }
 }

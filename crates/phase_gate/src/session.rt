@@ -3,23 +3,30 @@
 ghost use Rattle.std.specs.Prelude.{◌≡◌, ◌∷◌, [], ℕ, List, IfErr, IfOk, OnErr, OnOk, Some, IsErrOf};
 ghost use Rattle.outside_io.specs.Outside.{output};
 ghost use Rattle.phase_gate.specs.Around.{around};
-ghost use Rattle.phase_gate.specs.Checkpointed.{Acknowledges, IsMediumNow, NotAcknowledged};
-ghost use Rattle.phase_gate.specs.Gate.{IsNamed, IsQueued, acknowledged_at};
+ghost use Rattle.any_store.specs.Checkpointed.{AreMedia, IsMediumNow};
+ghost use Rattle.phase_gate.specs.Checkpointed.{Acknowledges, NotAcknowledged};
+ghost use Rattle.any_store.specs.Disks.{one_store, store_model};
+ghost use Rattle.phase_gate.specs.Gate.{IsNamed, IsQueued, acknowledged_at, ballots_of, election_of};
 ghost use Rattle.phase_gate.specs.LineEnds.{LastEnds, LineEnds, state_left};
+ghost use Rattle.phase_gate.specs.Replies.{ClosesBy, PlaysPhases, words_of};
+ghost use Rattle.phase_gate.specs.Standing.{MayWait};
 ghost use Rattle.phase_gate.specs.Telling.{told_by};
+ghost use Rattle.phase_gate.specs.Work.{AreOf, phase_of};
 ghost use Rattle.store_spec.specs.Ballot.{Ballot};
 ghost use Rattle.store_spec.specs.Disk.{disk_model};
-ghost use Rattle.store_spec.specs.Session.{Answers, begun};
+ghost use Rattle.store_spec.specs.Session.{Phase as phases, begun, closing, AnswersBy, of_one_store};
 
+use crate::closing::play_phase;
 use crate::fault::SessionFault;
 use crate::gate::{Answer, Gate, Phase, Task};
+use crate::replies::Replies;
 use crate::report::Report;
 use crate::telling::Telling;
 use crate::work::Work;
 use crate::writing::{tell, tell_task};
+use any_store::{Disks, Store};
 use ballot_record::Record;
 use body_store::Closed;
-use checkpoint::checkpoint;
 use crash_disk::Disk;
 use image_builder::Scratch;
 use outside_io::{Memory, Sink, Turns};
@@ -29,13 +36,13 @@ use std::thread::Threads;
 
 /// A session between two lines of its script.
 #[derive(Drop)]
-pub struct Session {
-    gate: Gate,
+pub struct Session<S: Store = Closed> {
+    gate: Gate<S>,
     telling: Telling,
     reply: String,
 }
 
-impl Model for Session {
+impl<S: Store> Model for Session<S> {
     ghost use Rattle.phase_gate.specs.Standing.{Standing, IsStanding};
 
     ghost Value = { Standing };
@@ -45,25 +52,25 @@ impl Model for Session {
     ghost view = { standing_of };
 }
 
-impl Session {
-    /// It begins closed, with the store that is held. It tells all of its replies.
-    pub fn new(alloc: Global, closed: Closed) -> Session
-        ensures election { result.election ≡ closed.election }
-        ensures begun { result.state ≡ begun closed.ballots }
+impl<S: Store> Session<S> {
+    /// It begins closed, with this store. It tells all of its replies.
+    pub fn new(alloc: Global, store: S) -> Session<S>
+        ensures election { result.election ≡ S.election store }
+        ensures begun { result.state ≡ begun (S.ballots store) }
         ensures telling { result.telling ≡ Telling.All }
     {
-        Session::telling(alloc, closed, Telling::All)
+        Session::telling(alloc, store, Telling::All)
     }
 
     /// The same, and this is what it tells of its replies.
-    pub fn telling(alloc: Global, closed: Closed, telling: Telling) -> Session
-        ensures election { result.election ≡ closed.election }
-        ensures begun { result.state ≡ begun closed.ballots }
+    pub fn telling(alloc: Global, store: S, telling: Telling) -> Session<S>
+        ensures election { result.election ≡ S.election store }
+        ensures begun { result.state ≡ begun (S.ballots store) }
         ensures telling { result.telling ≡ telling }
     {
         Session {
             gate: Gate {
-                closed,
+                store,
                 work: Work::Closed,
             },
             telling,
@@ -83,7 +90,7 @@ impl Session {
     /// The ballot of a cast is read in place of the one that stands in `ballot`, whatever that is.
     pub fn queue(&mut self, line: &[u8], ballot: &mut Record) -> Result<bool, Memory>
         ensures queued { (index : ℕ) → IfOk result (λ waits. IsQueued waits
-            (Answers self.old.election index self.old.state (Some line.now))
+            (AnswersBy (S.closes self.old.election) self.old.election index self.old.state (Some line.now))
             self.old.state self.new.state) }
         ensures set { self.new.state.set ≡ self.old.state.set }
         ensures election { self.new.election ≡ self.old.election }
@@ -93,34 +100,38 @@ impl Session {
         self.gate.queue(line, ballot)
     }
 
-    /// Handles a line of its script, which has this number, counted from 1. Whoever has read the reply to a checkpoint
-    /// can rely on it: the medium is that of the set. A tally and an export go straight to the sink. A refusal gives
-    /// the session up.
-    pub fn line<R: Threads + Sync, D: Disk, K: Sink, T: Turns>(
+    /// Handles a line of its script, which has this number, counted from 1. `play` plays the phases of its store. Whoever has
+    /// read the reply to a checkpoint can rely on it: the disks are the media of the set. A tally and an export go straight
+    /// to the sink. A refusal gives the session up.
+    pub fn line_by<R, M, K, F>(
         self,
         rt: &R,
         alloc: Global,
         line: &[u8],
         index: u64,
-        disk: &mut D,
+        disks: &mut M,
         out: &mut K,
-        turns: &T,
+        play: &F,
         scratch: &mut Scratch,
         report: &mut Report,
-    ) -> Result<Session, SessionFault>
-        requires medium { (set : List Ballot) × IsMediumNow
-            (disk_model D.seen D.calls D.may_leave D.faults) self.election set disk.old }
-        ensures ends { LineEnds (disk_model D.seen D.calls D.may_leave D.faults)
-            (told_by self.telling) self.election index self.state line.now
+    ) -> Result<Session<S>, SessionFault>
+    where
+        R: Threads + Sync,
+        M: Disks<S>,
+        K: Sink,
+        F: Fn(S, Work) -> Result<(S, Replies), Memory>,
+        requires plays { PlaysPhases S.election S.ballots S.closes F.pre F.post play.now }
+        requires media { (set : List Ballot) × AreMedia M.disks self.election set disks.old }
+        ensures ends { LineEnds (store_model S.closes M.disks) (told_by self.telling) self.election index self.state line.now
             (state_left (λ session. session.state) result)
-            (around (output K.taken K.faults out.old) disk.old report.old)
-            (around (output K.taken K.faults out.new) disk.new report.new) }
+            (around (output K.taken K.faults out.old) disks.old report.old)
+            (around (output K.taken K.faults out.new) disks.new report.new) }
         ensures election { IfOk result (λ session. session.election ≡ self.election) }
         ensures telling { IfOk result (λ session. session.telling ≡ self.telling) }
         ensures others { report.new.others ≡ report.old.others }
         ensures begun { report.new.begun ≡ report.old.begun }
-        ensures leads { D.leads_to disk.old disk.new }
-        ensures fails { IsErrOf result SessionFault.DiskFault → D.fails_to disk.old disk.new }
+        ensures leads { M.leads_to disks.old disks.new }
+        ensures fails { IsErrOf result SessionFault.DiskFault → M.fails_to disks.old disks.new }
     {
         let Session {
             gate,
@@ -128,11 +139,9 @@ impl Session {
             mut reply,
         } = self;
         reply.clear();
-        let Answer { gate, task } = gate.answer(
-            rt, alloc, line, index, turns, telling, &mut reply,
-        )?;
-        prepare(task, &gate, disk, scratch, report)?;
-        report.held = gate.closed.len() as u32;
+        let Answer { gate, task } = gate.answer(alloc, line, index, play, telling, &mut reply)?;
+        prepare(task, &gate, disks, scratch, report)?;
+        report.held = gate.store.len() as u32;
         tell_task(rt, alloc, task, &gate, &reply, out)?;
         Ok(Session {
             gate,
@@ -153,65 +162,99 @@ impl Session {
     }
 }
 
+impl Session<Closed> {
+    /// Handles a line of its script, of a closed store and its disk.
+    pub fn line<R: Threads + Sync, D: Disk, K: Sink, T: Turns>(
+        self,
+        rt: &R,
+        alloc: Global,
+        line: &[u8],
+        index: u64,
+        disk: &mut D,
+        out: &mut K,
+        turns: &T,
+        scratch: &mut Scratch,
+        report: &mut Report,
+    ) -> Result<Session, SessionFault>
+        requires medium { (set : List Ballot) × IsMediumNow
+            (disk_model D.seen D.calls D.may_leave D.faults) self.election set disk.old }
+        ensures ends { LineEnds (one_store (disk_model D.seen D.calls D.may_leave D.faults))
+            (told_by self.telling) self.election index self.state line.now
+            (state_left (λ session. session.state) result)
+            (around (output K.taken K.faults out.old) disk.old report.old)
+            (around (output K.taken K.faults out.new) disk.new report.new) }
+        ensures election { IfOk result (λ session. session.election ≡ self.election) }
+        ensures telling { IfOk result (λ session. session.telling ≡ self.telling) }
+        ensures others { report.new.others ≡ report.old.others }
+        ensures begun { report.new.begun ≡ report.old.begun }
+        ensures leads { D.leads_to disk.old disk.new }
+        ensures fails { IsErrOf result SessionFault.DiskFault → D.fails_to disk.old disk.new }
+    {
+        let play = |store: Closed, work: Work| -> Result<(Closed, Replies), Memory>
+            requires waiting { MayWait store.election (phase_of work) }
+            requires lists { AreOf store.election work }
+            requires open { ¬ (phase_of work ≡ phases.Closed) }
+            ensures election { IfOk result (λ played. played.0.election ≡ store.election) }
+            ensures closes { IfOk result (λ played. ClosesBy (of_one_store store.election) store.ballots
+                (phase_of work) (closing (words_of played.1) played.0.ballots)) }
+        { play_phase(rt, alloc, store, work, turns) };
+        self.line_by(rt, alloc, line, index, disk, out, &play, scratch, report)
+    }
+}
+
 /// Does what comes before the telling of a line.
-fn prepare<D: Disk>(
+fn prepare<S: Store, M: Disks<S>>(
     task: Task,
-    gate: &Gate,
-    disk: &mut D,
+    gate: &Gate<S>,
+    disks: &mut M,
     scratch: &mut Scratch,
     report: &mut Report,
 ) -> Result<(), SessionFault>
-    requires medium { (set : List Ballot) × IsMediumNow
-        (disk_model D.seen D.calls D.may_leave D.faults) gate.now.closed.election set disk.old }
-    ensures acknowledged { OnOk result (Acknowledges
-        (disk_model D.seen D.calls D.may_leave D.faults)
-        gate.now.closed.election (acknowledged_at task gate.now.closed.ballots) disk.old disk.new
+    requires media { (set : List Ballot) × AreMedia M.disks (election_of gate.now) set disks.old }
+    ensures acknowledged { OnOk result (Acknowledges M.disks
+        (election_of gate.now) (acknowledged_at task (ballots_of gate.now)) disks.old disks.new
         report.old.marks.items report.new.marks.items) }
-    ensures refused { IfErr result (λ fault. (task ≡ Task.Acknowledge) × NotAcknowledged
-        (disk_model D.seen D.calls D.may_leave D.faults)
-        gate.now.closed.election gate.now.closed.ballots disk.old disk.new fault) }
+    ensures refused { IfErr result (λ fault. (task ≡ Task.Acknowledge) × NotAcknowledged M.disks
+        (election_of gate.now) (ballots_of gate.now) disks.old disks.new fault) }
     ensures marks { OnErr result (report.new.marks.items ≡ report.old.marks.items) }
     ensures held { report.new.held ≡ report.old.held }
     ensures others { report.new.others ≡ report.old.others }
     ensures begun { report.new.begun ≡ report.old.begun }
-    ensures leads { D.leads_to disk.old disk.new }
-    ensures fails { IsErrOf result SessionFault.DiskFault → D.fails_to disk.old disk.new }
+    ensures leads { M.leads_to disks.old disks.new }
+    ensures fails { IsErrOf result SessionFault.DiskFault → M.fails_to disks.old disks.new }
 {
     match task {
-        Task::Acknowledge => acknowledge(gate, disk, scratch, report),
+        Task::Acknowledge => acknowledge(gate, disks, scratch, report),
         _ => Ok(()),
     }
 }
 
-/// Makes the medium that of the set, and marks how many calls were made by then. The room for the mark is taken first.
-fn acknowledge<D: Disk>(
-    gate: &Gate,
-    disk: &mut D,
+/// Makes the disks the media of the set, and marks how many calls were made by then. The room for the mark is taken first.
+fn acknowledge<S: Store, M: Disks<S>>(
+    gate: &Gate<S>,
+    disks: &mut M,
     scratch: &mut Scratch,
     report: &mut Report,
 ) -> Result<(), SessionFault>
-    requires medium { (set : List Ballot) × IsMediumNow
-        (disk_model D.seen D.calls D.may_leave D.faults) gate.now.closed.election set disk.old }
-    ensures acknowledged { OnOk result (Acknowledges
-        (disk_model D.seen D.calls D.may_leave D.faults)
-        gate.now.closed.election (gate.now.closed.ballots ∷ []) disk.old disk.new
+    requires media { (set : List Ballot) × AreMedia M.disks (election_of gate.now) set disks.old }
+    ensures acknowledged { OnOk result (Acknowledges M.disks
+        (election_of gate.now) (ballots_of gate.now ∷ []) disks.old disks.new
         report.old.marks.items report.new.marks.items) }
-    ensures refused { IfErr result (NotAcknowledged
-        (disk_model D.seen D.calls D.may_leave D.faults)
-        gate.now.closed.election gate.now.closed.ballots disk.old disk.new) }
+    ensures refused { IfErr result (NotAcknowledged M.disks
+        (election_of gate.now) (ballots_of gate.now) disks.old disks.new) }
     ensures marks { OnErr result (report.new.marks.items ≡ report.old.marks.items) }
     ensures held { report.new.held ≡ report.old.held }
     ensures others { report.new.others ≡ report.old.others }
     ensures begun { report.new.begun ≡ report.old.begun }
-    ensures leads { D.leads_to disk.old disk.new }
-    ensures fails { IsErrOf result SessionFault.DiskFault → D.fails_to disk.old disk.new }
+    ensures leads { M.leads_to disks.old disks.new }
+    ensures fails { IsErrOf result SessionFault.DiskFault → M.fails_to disks.old disks.new }
 {
     if report.marks.reserve(1).is_err() {
         return Err(SessionFault::Memory);
     }
-    if checkpoint(disk, &gate.closed, scratch).is_err() {
+    if disks.acknowledge(&gate.store, scratch).is_err() {
         return Err(SessionFault::DiskFault);
     }
-    report.marks.push_reserved(disk.calls());
+    report.marks.push_reserved(disks.made());
     Ok(())
 }

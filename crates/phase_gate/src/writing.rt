@@ -2,18 +2,15 @@
 
 ghost use Rattle.std.specs.Prelude.{◌≡◌, OnErr, OnOk};
 ghost use Rattle.outside_io.specs.Stream.{TakesAll, TakesSome};
-ghost use Rattle.phase_gate.specs.Gate.{told_at};
+ghost use Rattle.phase_gate.specs.Gate.{ballots_of, election_of, told_at};
 ghost use Rattle.store_spec.specs.Fault.{CountsFaultIf};
-ghost use Rattle.store_spec.specs.Report.{tally_text};
 
 use crate::gate::{Gate, Task};
+use any_store::Store;
 use outside_io::Sink;
 use std::alloc::Global;
 use std::thread::Threads;
-use tally_export::{PutFault, export, tally_threads, write_tally};
-
-/// In how many parts the ballots of a set are counted at once.
-const PARTS: usize = 4;
+use tally_export::PutFault;
 
 /// Writes a text, where there is one.
 pub fn tell<K: Sink>(text: &str, out: &mut K) -> Result<(), PutFault>
@@ -30,44 +27,24 @@ pub fn tell<K: Sink>(text: &str, out: &mut K) -> Result<(), PutFault>
 }
 
 /// Writes what is told of a line for which this text was put. A report goes straight to the sink.
-pub fn tell_task<R: Threads + Sync, K: Sink>(
+pub fn tell_task<S: Store, R: Threads + Sync, K: Sink>(
     rt: &R,
     alloc: Global,
     task: Task,
-    gate: &Gate,
+    gate: &Gate<S>,
     text: &str,
     out: &mut K,
 ) -> Result<(), PutFault>
     ensures all { OnOk result (TakesAll (K.taken out.old)
-        (told_at task gate.now.closed.election gate.now.closed.ballots text.now) (K.taken out.new)) }
+        (told_at task (election_of gate.now) (ballots_of gate.now) text.now) (K.taken out.new)) }
     ensures some { OnErr result (TakesSome (K.taken out.old)
-        (told_at task gate.now.closed.election gate.now.closed.ballots text.now) (K.taken out.new)) }
+        (told_at task (election_of gate.now) (ballots_of gate.now) text.now) (K.taken out.new)) }
     ensures fault { CountsFaultIf (result ≡ Err PutFault.WriteFault)
         (K.faults out.old) (K.faults out.new) }
 {
     match task {
         Task::Nothing | Task::Acknowledge => tell(text, out),
-        Task::Tally => tell_tally(rt, alloc, gate, out),
-        Task::Export => export(alloc, &gate.closed, out),
+        Task::Tally => gate.store.tally(rt, alloc, out),
+        Task::Export => gate.store.export(alloc, out),
     }
-}
-
-/// Counts the ballots and writes their tally. The counts are some thousands of bytes, for which the other lines make no
-/// room.
-#[inline(never)]
-fn tell_tally<R: Threads + Sync, K: Sink>(
-    rt: &R,
-    alloc: Global,
-    gate: &Gate,
-    out: &mut K,
-) -> Result<(), PutFault>
-    ensures all { OnOk result (TakesAll (K.taken out.old)
-        (tally_text gate.now.closed.election gate.now.closed.ballots) (K.taken out.new)) }
-    ensures some { OnErr result (TakesSome (K.taken out.old)
-        (tally_text gate.now.closed.election gate.now.closed.ballots) (K.taken out.new)) }
-    ensures fault { CountsFaultIf (result ≡ Err PutFault.WriteFault)
-        (K.faults out.old) (K.faults out.new) }
-{
-    let counts = tally_threads(rt, &gate.closed, PARTS);
-    write_tally(alloc, &counts, &gate.closed, out)
 }

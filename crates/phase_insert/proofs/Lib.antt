@@ -1,4 +1,3 @@
-pub mod CastLists
 pub mod Casts
 pub mod Claimed
 pub mod Compared
@@ -7,8 +6,6 @@ pub mod Opened
 pub mod Outcome
 pub mod Replied
 pub mod Rows
-pub mod Sent
-pub mod Tabulators
 pub mod Trays
 pub mod Unions
 pub mod Whole

@@ -14,8 +14,8 @@ use Rattle.phase_insert.proofs.Trays.{listed}
 use Rattle.phase_insert.proofs.Whole.{numbers_accepted, told_by}
 use Rattle.phase_insert.specs.CastPhase.{AreCastWordsOf}
 use Rattle.phase_insert.specs.Closing.{ClosesAs, IsFinal, beside, line, reply_of}
-use Rattle.phase_insert.specs.Ends.{AreAllFinals, Decides, IsAnswer, IsAnswered, TellsOf, all_accepted, seat_of}
-use Rattle.phase_insert.specs.Tabulator.{AreAll, TabulatorView}
+use Rattle.phase_insert.specs.Ends.{AreAllFinals, Decides, IsAnswer, IsAnswered, TabulatorView, TellsOf, all_accepted}
+use Rattle.phase_kind.specs.Worker.{AreAll, seat_of}
 use Rattle.phase_insert.specs.Tray.{Cast, Compares, IsTold, MayPrecede, ballots_that, is_accepted, is_full, is_taken}
 use Rattle.phase_insert.specs.declared.reply.CastReply.{CastReply}
 use Rattle.phase_insert.specs.declared.reply.CastReply.TheVariants as casts
@@ -85,8 +85,8 @@ lines_accept (c ∷ tray) (f ∷ list) same each = step (is_accepted c.reply) (a
     kept : List Cast
     kept = filter (λ x. is_accepted x.reply) tray
 
-    step : (b : Bool) → reply.is_accepted (reply_of f) ≡ b → map (λ l. l.ballot) lines ≡ map (λ x. x.ballot) kept → map (λ l. l.ballot) (cond (reply.is_accepted (reply_of f)) (line (c, f) ∷ lines) lines) ≡ map (λ x. x.ballot) (cond b (c ∷ kept) kept)
-    step true is rest = ap (λ (t : Bool). map (λ (l : CastLine). l.ballot) (cond t (line (c, f) ∷ lines) lines)) is ∙ ap (λ l. c.ballot ∷ l) rest
+    step : (b : Bool) → reply.is_accepted (reply_of f) ≡ b → map (λ l. l.ballot) lines ≡ map (λ x. x.item) kept → map (λ l. l.ballot) (cond (reply.is_accepted (reply_of f)) (line (c, f) ∷ lines) lines) ≡ map (λ x. x.item) (cond b (c ∷ kept) kept)
+    step true is rest = ap (λ (t : Bool). map (λ (l : CastLine). l.ballot) (cond t (line (c, f) ∷ lines) lines)) is ∙ ap (λ l. c.item ∷ l) rest
     step false is rest = ap (λ (t : Bool). map (λ (l : CastLine). l.ballot) (cond t (line (c, f) ∷ lines) lines)) is ∙ rest
 
 all_lines_accept : (trays : List (List Cast)) (lists : List (List Final)) → map length lists ≡ map length trays → All (All IsFinalOf) (beside trays lists) → reply.accepted_in (map (map line) (beside trays lists)) ≡ all_accepted trays
@@ -143,10 +143,10 @@ as_many_accepted : (tabs : List TabulatorView) → All TellsOf tabs → length (
 as_many_accepted tabs told = sym (length-numbers_of (all_accepted (map (λ tab. tab.tray) tabs))) ∙ ap length (numbers_accepted tabs told)
 
 -- a ballot that its tray accepts is among the accepted ones
-is_among : (tabs : List TabulatorView) (tab : TabulatorView) → Contains tabs tab → (c : Cast) → Contains tab.tray c → is_accepted c.reply ≡ true → Contains (all_accepted (map (λ tab. tab.tray) tabs)) c.ballot
+is_among : (tabs : List TabulatorView) (tab : TabulatorView) → Contains tabs tab → (c : Cast) → Contains tab.tray c → is_accepted c.reply ≡ true → Contains (all_accepted (map (λ tab. tab.tray) tabs)) c.item
 is_among tabs tab of c there passes =
-    contains-flat_map (ballots_that is_accepted) (map (λ (t : TabulatorView). t.tray) tabs) tab.tray c.ballot (contains-map (λ (t : TabulatorView). t.tray) tabs tab of)
-    (contains-map (λ (x : Cast). x.ballot) (filter (λ (x : Cast). is_accepted x.reply) tab.tray) c (contains-filter (λ (x : Cast). is_accepted x.reply) tab.tray c there passes))
+    contains-flat_map (ballots_that is_accepted) (map (λ (t : TabulatorView). t.tray) tabs) tab.tray c.item (contains-map (λ (t : TabulatorView). t.tray) tabs tab of)
+    (contains-map (λ (x : Cast). x.item) (filter (λ (x : Cast). is_accepted x.reply) tab.tray) c (contains-filter (λ (x : Cast). is_accepted x.reply) tab.tray c there passes))
 
 -- a row is a tray beside a list of final replies
 record IsRow (trays : List (List Cast)) (row : List (Cast × Final)) : Type 0 where
@@ -199,36 +199,36 @@ module _ (base : Contents) (words : SharedWords) (tabs : List TabulatorView) (al
     size = length_permutation (base.ballots ++ accepted) after gains ∙ length-append base.ballots accepted ∙ ap (λ n. length base.ballots + n) (as_many_accepted tabs told)
 
     -- each final reply is right
-    right : (tab : TabulatorView) → Contains tabs tab → (c : Cast) → Contains tab.tray c → (f : Final) → IsAnswered after (c, f) → IsRight base.election base.ballots after c.ballot (reply_of f)
+    right : (tab : TabulatorView) → Contains tabs tab → (c : Cast) → Contains tab.tray c → (f : Final) → IsAnswered after (c, f) → IsRight base.election base.ballots after c.item (reply_of f)
     right tab of c there f is = by_reply c.reply refl compared is
       where
         tells : IsTold (record { base = base; words = words }) tab.seat tab.tray
         tells = told_by base words tabs all told tab of
 
-        compared : Compares base.ballots c.ballot c.reply
-        compared = All-contains (λ (x : Cast). Compares base.ballots x.ballot x.reply) tab.tray c tells.compared there
+        compared : Compares base.ballots c.item c.reply
+        compared = All-contains (λ (x : Cast). Compares base.ballots x.item x.reply) tab.tray c tells.compared there
 
-        as_told : (r : reply.CastReply) → reply_of f ≡ r → IsRight base.election base.ballots after c.ballot r → IsRight base.election base.ballots after c.ballot (reply_of f)
-        as_told r told h = subst (IsRight base.election base.ballots after c.ballot) (sym told) h
+        as_told : (r : reply.CastReply) → reply_of f ≡ r → IsRight base.election base.ballots after c.item r → IsRight base.election base.ballots after c.item (reply_of f)
+        as_told r told h = subst (IsRight base.election base.ballots after c.item) (sym told) h
 
-        by_reply : (r : CastReply) → c.reply ≡ r → Compares base.ballots c.ballot r → IsAnswer after c.ballot r f → IsRight base.election base.ballots after c.ballot (reply_of f)
+        by_reply : (r : CastReply) → c.reply ≡ r → Compares base.ballots c.item r → IsAnswer after c.item r f → IsRight base.election base.ballots after c.item (reply_of f)
         by_reply casts.Accepted same none is =
             as_told reply.CastReply.Accepted (ap reply_of is)
-            (none, to_after c.ballot (Contains-append_right base.ballots accepted c.ballot (is_among tabs tab of c there (ap is_accepted same))))
-        by_reply casts.Duplicate same held is = as_told reply.CastReply.Duplicate (ap reply_of is) (to_after c.ballot (Contains-append_left base.ballots accepted c.ballot held))
+            (none, to_after c.item (Contains-append_right base.ballots accepted c.item (is_among tabs tab of c there (ap is_accepted same))))
+        by_reply casts.Duplicate same held is = as_told reply.CastReply.Duplicate (ap reply_of is) (to_after c.item (Contains-append_left base.ballots accepted c.item held))
         by_reply casts.Conflict same another is =
             as_told reply.CastReply.Conflict (ap reply_of is)
             (let c' = to_after another.1 (Contains-append_left base.ballots accepted another.1 (another.0, another.2, another.3)) in
             (c'.0, another.1, c'.1, c'.2, another.4))
         by_reply casts.Taken same none is =
-            let in_list = subst (λ (l : List ℕ). Contains l c.ballot.number) tells.taken (listed is_taken tab.tray c there (ap is_taken same)) in
+            let in_list = subst (λ (l : List ℕ). Contains l c.item.number) tells.taken (listed is_taken tab.tray c there (ap is_taken same)) in
             let Taken : Place CastView → Type 0 = λ seat. All (Contains claimed) seat.view.taken in
-            let was = All-contains (Contains claimed) tab.seat.taken c.ballot.number (All-contains Taken (map seat_of tabs) (seat_of tab) agree.taken (contains-map seat_of tabs tab of)) in_list in
-            decided base.election base.ballots after c.ballot f (claimed_there c.ballot.number was) is
+            let was = All-contains (Contains claimed) tab.seat.taken c.item.number (All-contains Taken (map seat_of tabs) (seat_of tab) agree.taken (contains-map seat_of tabs tab of)) in_list in
+            decided base.election base.ballots after c.item f (claimed_there c.item.number was) is
         by_reply casts.Full same none is =
-            let full = no_room tab of c.ballot.number (λ some. subst (λ (l : List ℕ). Contains l c.ballot.number) (tells.full some) (listed is_full tab.tray c there (ap is_full same))) in
+            let full = no_room tab of c.item.number (λ some. subst (λ (l : List ℕ). Contains l c.item.number) (tells.full some) (listed is_full tab.tray c there (ap is_full same))) in
             as_told reply.CastReply.Full (ap reply_of is)
-            (λ h. ⊎_elim none full.0 (of_either c.ballot.number h), omega (arith, size, full.1, own.claims))
+            (λ h. ⊎_elim none full.0 (of_either c.item.number h), omega (arith, size, full.1, own.claims))
 
     -- ---- all of it
 
@@ -237,7 +237,7 @@ module _ (base : Contents) (words : SharedWords) (tabs : List TabulatorView) (al
         let trays = map (λ (tab : TabulatorView). tab.tray) tabs in
         let pairs = beside trays lists in
         let finals : All (All IsFinalOf) pairs =
-        All-weaker (All (IsAnswered after)) (All IsFinalOf) (λ list each. All-weaker (IsAnswered after) IsFinalOf (λ told is. is_final after told.0.ballot told.0.reply told.1 is) list each) pairs answered.each in
+        All-weaker (All (IsAnswered after)) (All IsFinalOf) (λ list each. All-weaker (IsAnswered after) IsFinalOf (λ told is. is_final after told.0.item told.0.reply told.1 is) list each) pairs answered.each in
         let Right : CastLine → Type 0 = λ l. IsRight base.election base.ballots after l.ballot l.reply in
         record {
           as_many = answered.as_many;

@@ -7,15 +7,9 @@ use Rattle.phase_insert.specs.Closing.{beside}
 use Rattle.phase_insert.specs.Ends.{AreAllFinals, AreFinals, IsAnswered}
 use Rattle.phase_insert.specs.Tray.{Cast}
 use Rattle.phase_insert.specs.declared.reply.Final.{Final}
+use Rattle.phase_kind.proofs.Trays.{zip_more}
 use Rattle.store_spec.specs.Ballot.{Ballot}
 use Rattle.word_rule.proofs.Members.{behind, first_in, not_in_none}
-
--- each of two lists has one element more
-pub zip_more : {X Y : Type 0} (xs : List X) (ys : List Y) (x : X) (y : Y) → length ys ≡ length xs → zip (xs ++ x ∷ []) (ys ++ y ∷ []) ≡ zip xs ys ++ (x, y) ∷ []
-zip_more [] [] x y same = refl
-zip_more [] (b ∷ ys) x y same = absurd (omega arith)
-zip_more (a ∷ xs) [] x y same = absurd (omega arith)
-zip_more (a ∷ xs) (b ∷ ys) x y same = ap (λ l. (a, b) ∷ l) (zip_more xs ys x y (omega arith))
 
 -- a row has an element of each list
 pub from_zip : {X Y : Type 0} (xs : List X) (ys : List Y) (p : X × Y) → Contains (zip xs ys) p → Contains xs p.0 × Contains ys p.1
@@ -25,19 +19,6 @@ from_zip {X} {Y} (x ∷ xs) (y ∷ ys) p (zero, lt, e) = (subst (Contains (x ∷
 from_zip (x ∷ xs) (y ∷ ys) p (suc k, lt, e) =
     let rest = from_zip xs ys p (k, omega arith, e) in
     (behind x p.0 xs rest.0, behind y p.1 ys rest.1)
-
--- the first elements of rows
-pub firsts_of-zip : {X Y : Type 0} (xs : List X) (ys : List Y) → length ys ≡ length xs → map (λ p. p.0) (zip xs ys) ≡ xs
-firsts_of-zip [] ys same = refl
-firsts_of-zip (x ∷ xs) [] same = absurd (omega arith)
-firsts_of-zip (x ∷ xs) (y ∷ ys) same = ap (λ l. x ∷ l) (firsts_of-zip xs ys (omega arith))
-
--- and the second ones
-pub seconds_of-zip : {X Y : Type 0} (xs : List X) (ys : List Y) → length ys ≡ length xs → map (λ p. p.1) (zip xs ys) ≡ ys
-seconds_of-zip [] [] same = refl
-seconds_of-zip [] (y ∷ ys) same = absurd (omega arith)
-seconds_of-zip (x ∷ xs) [] same = absurd (omega arith)
-seconds_of-zip (x ∷ xs) (y ∷ ys) same = ap (λ l. y ∷ l) (seconds_of-zip xs ys (omega arith))
 
 -- ---- final replies
 

@@ -6,7 +6,7 @@ use Rattle.std.proofs.lemmas.List.Quantifiers.{all_pairs_push}
 use Rattle.std.specs.List.{Contains, filter}
 use Rattle.phase_insert.proofs.Casts.{cast_of}
 use Rattle.phase_insert.proofs.Compared.{another_number, has_own_number}
-use Rattle.phase_insert.specs.CastPhase.{Phase}
+use Rattle.phase_kind.specs.Phase.{Phase}
 use Rattle.phase_insert.specs.Gains.{Gains, IsNewTo}
 use Rattle.phase_insert.specs.Tray.{Cast, Compares, IsTold, MayPrecede, is_accepted, is_full, is_taken, ballots_that, numbers_that}
 use Rattle.phase_insert.specs.declared.reply.CastReply.{CastReply}
@@ -21,21 +21,21 @@ use Rattle.word_rule.proofs.Members.{contains-filter, contains-map, not_in_none}
 
 numbers_that-append : (p : CastReply → Bool) (xs ys : List Cast) → numbers_that p (xs ++ ys) ≡ numbers_that p xs ++ numbers_that p ys
 numbers_that-append p xs ys =
-    ap (map (λ (c : Cast). c.ballot.number)) (filter-append (λ (c : Cast). p c.reply) xs ys)
-    ∙ map-append (λ (c : Cast). c.ballot.number) (filter (λ (c : Cast). p c.reply) xs) (filter (λ (c : Cast). p c.reply) ys)
+    ap (map (λ (c : Cast). c.item.number)) (filter-append (λ (c : Cast). p c.reply) xs ys)
+    ∙ map-append (λ (c : Cast). c.item.number) (filter (λ (c : Cast). p c.reply) xs) (filter (λ (c : Cast). p c.reply) ys)
 
 pub ballots_that-push : (p : CastReply → Bool) (tray : List Cast) (c : Cast) → ballots_that p (tray ++ c ∷ []) ≡ ballots_that p tray ++ ballots_that p (c ∷ [])
 ballots_that-push p tray c =
-    ap (map (λ (c : Cast). c.ballot)) (filter-append (λ (c : Cast). p c.reply) tray (c ∷ []))
-    ∙ map-append (λ (c : Cast). c.ballot) (filter (λ (c : Cast). p c.reply) tray) (filter (λ (c : Cast). p c.reply) (c ∷ []))
+    ap (map (λ (c : Cast). c.item)) (filter-append (λ (c : Cast). p c.reply) tray (c ∷ []))
+    ∙ map-append (λ (c : Cast). c.item) (filter (λ (c : Cast). p c.reply) tray) (filter (λ (c : Cast). p c.reply) (c ∷ []))
 
-pub one_accepted : (cast : Cast) → cast.reply ≡ Accepted → ballots_that is_accepted (cast ∷ []) ≡ cast.ballot ∷ []
-one_accepted cast accepted = ap (λ r. ballots_that is_accepted (cast_of cast.ballot r ∷ [])) accepted
+pub one_accepted : (cast : Cast) → cast.reply ≡ Accepted → ballots_that is_accepted (cast ∷ []) ≡ cast.item ∷ []
+one_accepted cast accepted = ap (λ r. ballots_that is_accepted (cast_of cast.item r ∷ [])) accepted
 
 pub one_other : (cast : Cast) → cast.reply ≢ Accepted → ballots_that is_accepted (cast ∷ []) ≡ []
 one_other cast other = by_reply cast.reply other
   where
-    by_reply : (r : CastReply) → r ≢ Accepted → ballots_that is_accepted (cast_of cast.ballot r ∷ []) ≡ []
+    by_reply : (r : CastReply) → r ≢ Accepted → ballots_that is_accepted (cast_of cast.item r ∷ []) ≡ []
     by_reply Accepted other = absurd (other refl)
     by_reply Duplicate other = refl
     by_reply Conflict other = refl
@@ -44,15 +44,15 @@ one_other cast other = by_reply cast.reply other
 
 -- a ballot adds its number, or nothing
 module _ (p : CastReply → Bool) (tray : List Cast) (c : Cast) (list now : List ℕ) where
-  adds : numbers_that p (c ∷ []) ≡ c.ballot.number ∷ [] → numbers_that p tray ≡ list → now ≡ list ++ c.ballot.number ∷ [] → numbers_that p (tray ++ c ∷ []) ≡ now
-  adds one so_far is = numbers_that-append p tray (c ∷ []) ∙ ap (λ l. numbers_that p tray ++ l) one ∙ ap (λ l. l ++ c.ballot.number ∷ []) so_far ∙ sym is
+  adds : numbers_that p (c ∷ []) ≡ c.item.number ∷ [] → numbers_that p tray ≡ list → now ≡ list ++ c.item.number ∷ [] → numbers_that p (tray ++ c ∷ []) ≡ now
+  adds one so_far is = numbers_that-append p tray (c ∷ []) ∙ ap (λ l. numbers_that p tray ++ l) one ∙ ap (λ l. l ++ c.item.number ∷ []) so_far ∙ sym is
 
   keeps : numbers_that p (c ∷ []) ≡ [] → numbers_that p tray ≡ list → now ≡ list → numbers_that p (tray ++ c ∷ []) ≡ now
   keeps none so_far is = numbers_that-append p tray (c ∷ []) ∙ ap (λ l. numbers_that p tray ++ l) none ∙ append-nil (numbers_that p tray) ∙ so_far ∙ sym is
 
 -- a ballot of the tray with such a reply has its number among those
-pub listed : (p : CastReply → Bool) (tray : List Cast) (c : Cast) → Contains tray c → p c.reply ≡ true → Contains (numbers_that p tray) c.ballot.number
-listed p tray c there passes = contains-map (λ (x : Cast). x.ballot.number) (filter (λ (x : Cast). p x.reply) tray) c (contains-filter (λ (x : Cast). p x.reply) tray c there passes)
+pub listed : (p : CastReply → Bool) (tray : List Cast) (c : Cast) → Contains tray c → p c.reply ≡ true → Contains (numbers_that p tray) c.item.number
+listed p tray c there passes = contains-map (λ (x : Cast). x.item.number) (filter (λ (x : Cast). p x.reply) tray) c (contains-filter (λ (x : Cast). p x.reply) tray c there passes)
 
 -- ---- the lists of the seat
 
@@ -111,24 +111,24 @@ not_held base a b none there same = none (subst (HasNumber base) same there)
 
 -- what is accepted now was not answered before
 module _ (phase : Phase) (old : CastView) (tray : List Cast) (b : Ballot) (lists : AreLists phase.words.shape.claims old tray) (new : IsNewTo phase.words.shape.claims old b.number) (none : ¬ HasNumber phase.base.ballots b.number) where
-  other_than : (p : CastReply → Bool) (list : List ℕ) → numbers_that p tray ≡ list → ¬ Contains list b.number → (c : Cast) → Contains tray c → p c.reply ≡ true → c.ballot.number ≢ b.number
+  other_than : (p : CastReply → Bool) (list : List ℕ) → numbers_that p tray ≡ list → ¬ Contains list b.number → (c : Cast) → Contains tray c → p c.reply ≡ true → c.item.number ≢ b.number
   other_than p list is without c there passes same = without (subst (λ (l : List ℕ). Contains l b.number) is (subst (Contains (numbers_that p tray)) same (listed p tray c there passes)))
 
-  precedes : (c : Cast) → Contains tray c → Compares phase.base.ballots c.ballot c.reply → (c.ballot.number ≢ b.number) × (c.reply ≢ Full)
+  precedes : (c : Cast) → Contains tray c → Compares phase.base.ballots c.item c.reply → (c.item.number ≢ b.number) × (c.reply ≢ Full)
   precedes c there compares = by_reply c.reply refl
     where
-      by_reply : (reply : CastReply) → c.reply ≡ reply → (c.ballot.number ≢ b.number) × (c.reply ≢ Full)
+      by_reply : (reply : CastReply) → c.reply ≡ reply → (c.item.number ≢ b.number) × (c.reply ≢ Full)
       by_reply Accepted is = (other_than is_accepted old.accepted lists.accepted new.not_accepted c there (ap is_accepted is), λ full. let e : Accepted ≡ Full = sym is ∙ full in cc)
       by_reply Duplicate is = (
-        not_held phase.base.ballots c.ballot.number b.number none (has_own_number phase.base.ballots c.ballot (subst (Compares phase.base.ballots c.ballot) is compares)),
+        not_held phase.base.ballots c.item.number b.number none (has_own_number phase.base.ballots c.item (subst (Compares phase.base.ballots c.item) is compares)),
         λ full. let e : Duplicate ≡ Full = sym is ∙ full in cc,
       )
       by_reply Conflict is = (
-        not_held phase.base.ballots c.ballot.number b.number none (another_number phase.base.ballots c.ballot (subst (Compares phase.base.ballots c.ballot) is compares)),
+        not_held phase.base.ballots c.item.number b.number none (another_number phase.base.ballots c.item (subst (Compares phase.base.ballots c.item) is compares)),
         λ full. let e : Conflict ≡ Full = sym is ∙ full in cc,
       )
       by_reply Taken is = (other_than is_taken old.taken lists.taken new.not_taken c there (ap is_taken is), λ full. let e : Taken ≡ Full = sym is ∙ full in cc)
-      by_reply Full is = not_in_none c.ballot.number (subst (λ (l : List ℕ). Contains l c.ballot.number) (lists.full new.some_claim ∙ new.no_full) (listed is_full tray c there (ap is_full is)))
+      by_reply Full is = not_in_none c.item.number (subst (λ (l : List ℕ). Contains l c.item.number) (lists.full new.some_claim ∙ new.no_full) (listed is_full tray c there (ap is_full is)))
 
 -- ---- one ballot more
 
@@ -139,13 +139,13 @@ told_more phase old now tray b reply told valid compares gains new =
     let c = cast_of b reply in
     let before : AreLists claims old tray = record { accepted = told.accepted; taken = told.taken; full = told.full } in
     let lists = lists_more claims old now tray b reply before gains in
-    let Right : Cast → Type 0 = λ x. Compares phase.base.ballots x.ballot x.reply in
+    let Right : Cast → Type 0 = λ x. Compares phase.base.ballots x.item x.reply in
     record {
       at_rest = rests_more claims b.number old now reply told.at_rest gains;
       accepted = lists.accepted;
       taken = lists.taken;
       full = lists.full;
-      valid = All-push (λ (x : Cast). IsValid phase.base.election x.ballot) tray c told.valid valid;
+      valid = All-push (λ (x : Cast). IsValid phase.base.election x.item) tray c told.valid valid;
       compared = All-push Right tray c told.compared compares;
       in_order = all_pairs_push MayPrecede tray c told.in_order (λ k d within accepts.
           precedes phase old tray b before (new accepts) (subst (Compares phase.base.ballots b) accepts compares)

@@ -10,11 +10,11 @@ use Rattle.ballot_record.proofs.BallotNumbers.{length-numbers_of, pairs_of_ballo
 use Rattle.ballot_record.proofs.BallotSets.{listing_from_set}
 use Rattle.body_store.specs.Contents.{Contents, IsStored}
 use Rattle.phase_insert.proofs.HeldNumbers.{room}
-use Rattle.phase_insert.specs.CastPhase.{AreCastWordsOf, Phase}
-use Rattle.phase_insert.specs.Ends.{TellsOf, all_accepted, seat_of}
-use Rattle.phase_insert.specs.Tabulator.{AreAll, TabulatorView}
-use Rattle.phase_insert.specs.Tray.{Cast, IsTold, ballots_that, is_accepted, numbers_that}
-use Rattle.phase_insert.specs.declared.tray.CastTray.{CastTray}
+use Rattle.phase_insert.specs.CastPhase.{AreCastWordsOf}
+use Rattle.phase_kind.specs.Phase.{Phase}
+use Rattle.phase_insert.specs.Ends.{TabulatorView, TellsOf, all_accepted}
+use Rattle.phase_kind.specs.Worker.{AreAll, seat_of}
+use Rattle.phase_insert.specs.Tray.{Cast, CastTray, IsTold, ballots_that, is_accepted, numbers_that}
 use Rattle.step_core.proofs.Sets.{All-from_map, distinct_once, is_one, none_counted, once_distinct, stands_counted}
 use Rattle.store_spec.specs.Ballot.{Ballot, IsListing, IsValid, IsWithinLimit, numbers_of}
 use Rattle.store_spec.specs.CastInvariant.{EachOnce, count_of}
@@ -35,7 +35,7 @@ use Rattle.word_rule.specs.Seats.{SharedWords}
 
 -- the accepted ballots of a tray have the accepted numbers
 numbers_of_tray : (tray : List Cast) → numbers_of (ballots_that is_accepted tray) ≡ numbers_that is_accepted tray
-numbers_of_tray tray = map-map (λ (b : Ballot). b.number) (λ (c : Cast). c.ballot) (filter (λ (c : Cast). is_accepted c.reply) tray)
+numbers_of_tray tray = map-map (λ (b : Ballot). b.number) (λ (c : Cast). c.item) (filter (λ (c : Cast). is_accepted c.reply) tray)
 
 -- and those of all trays have those of all seats
 pub numbers_accepted : (tabs : List TabulatorView) → All TellsOf tabs → numbers_of (all_accepted (map (λ tab. tab.tray) tabs)) ≡ accepted_by (map seat_of tabs)
@@ -52,13 +52,13 @@ pub record IsAcceptedIn (tabs : List TabulatorView) (b : Ballot) : Type 0 where
   pub of : Contains tabs tab
   pub cast : Cast
   pub there : Contains tab.tray cast
-  pub is : cast.ballot ≡ b
+  pub is : cast.item ≡ b
 
 pub from_accepted : (tabs : List TabulatorView) (b : Ballot) → Contains (all_accepted (map (λ tab. tab.tray) tabs)) b → IsAcceptedIn tabs b
 from_accepted tabs b c =
     let in_tray = from_flat_map (ballots_that is_accepted) (map (λ (t : TabulatorView). t.tray) tabs) b c in
     let of_tab = from_map (λ (t : TabulatorView). t.tray) tabs in_tray.0 in_tray.1 in
-    let of_cast = from_map (λ (x : Cast). x.ballot) (filter (λ (x : Cast). is_accepted x.reply) in_tray.0) b in_tray.2 in
+    let of_cast = from_map (λ (x : Cast). x.item) (filter (λ (x : Cast). is_accepted x.reply) in_tray.0) b in_tray.2 in
     let kept = from_filter (λ (x : Cast). is_accepted x.reply) in_tray.0 of_cast.0 of_cast.1 in
     record { tab = of_tab.0; of = of_tab.1; cast = of_cast.0; there = subst (λ (l : List Cast). Contains l of_cast.0) (sym of_tab.2) kept.0; is = of_cast.2 }
 
@@ -81,14 +81,6 @@ pub record MayJoin (e : Election) (held more : List Ballot) (cells : List ℕ) :
   pub listing : IsListing e (held ++ more)
   pub within_limit : IsWithinLimit e (held ++ more)
   pub layout : cells ≡ cells_of e (held ++ more)
-
--- ---- the lists of trays
-
-pub elections_of : (trays : List CastTray) (tabs : List TabulatorView) (phase : Phase) → map (λ tray. tray.ballots.election) trays ≡ map (λ tab. tab.phase.base.election) tabs → All (λ tab. tab.phase ≡ phase) tabs → All (λ tray. tray.ballots.election ≡ phase.base.election) trays
-elections_of trays tabs phase same belong =
-    let Own : Election → Type 0 = λ e. e ≡ phase.base.election in
-    All-from_map Own (λ (tray : CastTray). tray.ballots.election) trays
-    (subst (All Own) (sym same) (All-map Own (λ (tab : TabulatorView). tab.phase.base.election) tabs (λ k d within. ap (λ (p : Phase). p.base.election) (belong k d within))))
 
 -- ---- the tabulators of a phase
 
@@ -132,7 +124,7 @@ module _ (base : Contents) (words : SharedWords) (tabs : List TabulatorView) (al
         (all_members (IsValid base.election) accepted (λ b c.
         let is = from_accepted tabs b c in
         subst (IsValid base.election) is.is
-        (All-contains (λ (x : Cast). IsValid base.election x.ballot) is.tab.tray is.cast (told_by told is.tab is.of).valid is.there)))
+        (All-contains (λ (x : Cast). IsValid base.election x.item) is.tab.tray is.cast (told_by told is.tab is.of).valid is.there)))
 
     some_number : All (λ v. v ≢ 0) (numbers_of (base.ballots ++ accepted))
     some_number = All-map (λ v. v ≢ 0) (λ (b : Ballot). b.number) (base.ballots ++ accepted) (λ k d within zero. let some = (valid k d within).some_number in omega arith)

@@ -1,15 +1,12 @@
--- A casting phase, as callers see it.
-use Rattle.std.specs.Prelude.{◌≡◌, ◌+◌, length}
+-- The words of a casting phase.
+use Rattle.std.specs.Prelude.{◌≡◌, ◌+◌, ℕ, length}
 use Rattle.body_store.specs.Contents.{Contents}
+use Rattle.phase_kind.specs.Phase.{AreOf}
 use Rattle.word_rule.specs.Seats.{SharedWords}
-use Rattle.word_rule.specs.Stores.{AreWordsOf}
 
--- the store that it began from, and its shared words
-pub record Phase : Type 0 where
-  pub base : Contents
-  pub words : SharedWords
+-- a claim word for each ballot that a store has room for
+abbrev pub claims_left : Contents → ℕ → Type 0
+claims_left base claims = length base.ballots + claims ≡ base.election.limit
 
--- the words are those of the store, with a claim word for each ballot that it has room for
-pub record AreCastWordsOf (base : Contents) (words : SharedWords) : Type 0 where
-  pub of_store : AreWordsOf base.election base.ballots words
-  pub claims : length base.ballots + words.shape.claims ≡ base.election.limit
+abbrev pub AreCastWordsOf : Contents → SharedWords → Type 0
+AreCastWordsOf base words = AreOf claims_left base words

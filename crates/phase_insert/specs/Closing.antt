@@ -29,7 +29,7 @@ abbrev pub beside : List (List Cast) → List (List Final) → List (List (Cast 
 beside trays finals = map (λ lists. zip lists.0 lists.1) (zip trays finals)
 
 abbrev pub line : Cast × Final → CastLine
-line told = record { ballot = told.0.ballot; reply = reply_of told.1 }
+line told = record { ballot = told.0.item; reply = reply_of told.1 }
 
 -- Each ballot of each tray has a final reply, and with these replies the ballots have the outcome of a casting phase.
 pub record ClosesAs (base : Contents) (trays : List (List Cast)) (finals : List (List Final)) (after : List Ballot) : Type 0 where

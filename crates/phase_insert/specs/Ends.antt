@@ -1,19 +1,18 @@
 -- What the parts of a close hand on.
 use Rattle.std.specs.Prelude.{◌≡◌, ◌≢◌, List, length, map, flat_map, zip, All, Some}
 use Rattle.phase_insert.specs.Closing.{beside}
-use Rattle.phase_insert.specs.Tabulator.{TabulatorView}
 use Rattle.phase_insert.specs.Tray.{Cast, IsTold, ballots_that, is_accepted}
 use Rattle.phase_insert.specs.declared.reply.CastReply.{CastReply}
 use Rattle.phase_insert.specs.declared.reply.CastReply.TheVariants as casts
 use Rattle.phase_insert.specs.declared.reply.Final.{Final}
 use Rattle.phase_insert.specs.declared.reply.Final.TheVariants as finals
 use Rattle.store_spec.specs.Ballot.{Ballot, ballot_of}
+use Rattle.phase_kind.specs.Worker.{WorkerView}
 use Rattle.store_spec.specs.CastStep.{CastView}
-use Rattle.word_rule.specs.Places.{Place}
 
--- the seat of a tabulator
-abbrev pub seat_of : TabulatorView → Place CastView
-seat_of tab = record { words = tab.phase.words; view = tab.seat }
+-- a tabulator, as callers see it
+abbrev pub TabulatorView : Type 0
+TabulatorView = WorkerView CastView Ballot CastReply
 
 -- its tray tells the lists of its seat
 abbrev pub TellsOf : TabulatorView → Type 0
@@ -38,7 +37,7 @@ IsAnswer after b casts.Taken final = Decides after b final
 IsAnswer after b casts.Full final = final ≡ finals.Full
 
 abbrev pub IsAnswered : List Ballot → Cast × Final → Type 0
-IsAnswered after told = IsAnswer after told.0.ballot told.0.reply told.1
+IsAnswered after told = IsAnswer after told.0.item told.0.reply told.1
 
 -- the final replies to the ballots of a tray
 pub record AreFinals (after : List Ballot) (tray : List Cast) (finals : List Final) : Type 0 where

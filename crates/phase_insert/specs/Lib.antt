@@ -1,11 +1,7 @@
 pub mod CastPhase
-pub mod CastPhaseKept
 pub mod Closing
 pub mod Ends
 pub mod Gains
 pub mod Replies
-pub mod Running
-pub mod Tabulator
-pub mod TabulatorKept
 pub mod Tray
 pub mod Union

@@ -1,29 +1,30 @@
 -- The tray of a tabulator, and what it tells of the lists of its seat.
 use Rattle.std.specs.Prelude.{◌≡◌, ◌≢◌, ℕ, Bool, true, false, List, length, map, zip, filter, All, AllPairs, Any, Contains}
-use Rattle.phase_insert.specs.CastPhase.{Phase}
+use Rattle.ballot_record.specs.BallotList.{ListedBallots}
 use Rattle.phase_insert.specs.declared.reply.CastReply.{CastReply}
 use Rattle.phase_insert.specs.declared.reply.CastReply.TheVariants.{Accepted, Duplicate, Conflict, Taken, Full}
-use Rattle.phase_insert.specs.declared.tray.CastTray.{CastTray}
+use Rattle.phase_kind.specs.Phase.{Phase}
+use Rattle.phase_kind.specs.Told.{Told, told_in}
+use Rattle.phase_kind.specs.declared.tray.Tray.{Tray}
 use Rattle.store_spec.specs.Ballot.{Ballot, IsValid}
 use Rattle.store_spec.specs.BallotPhase.{HasNumber}
 use Rattle.store_spec.specs.CastStep.{CastView}
 use Rattle.store_spec.specs.CastStep.CastState.{Rest}
 
 -- a ballot that was cast, and what it was answered
-pub record Cast : Type 0 where
-  pub ballot : Ballot
-  pub reply : CastReply
+abbrev pub Cast : Type 0
+Cast = Told Ballot CastReply
 
--- ballots beside their replies
-abbrev pub casts_in : List Ballot → List CastReply → List Cast
-casts_in ballots replies = map (λ row. record { ballot = row.0; reply = row.1 }) (zip ballots replies)
+-- the tray of a tabulator as the program has it
+abbrev pub CastTray : Type 0
+CastTray = Tray ListedBallots CastReply
 
 abbrev pub casts_of : CastTray → List Cast
-casts_of tray = casts_in tray.ballots.ballots tray.replies.items
+casts_of tray = told_in tray.items.ballots tray.replies.items
 
 -- a ballot at each place where a reply is
 abbrev pub IsPaired : CastTray → Type 0
-IsPaired tray = length tray.ballots.ballots ≡ length tray.replies.items
+IsPaired tray = length tray.items.ballots ≡ length tray.replies.items
 
 -- another ballot has its number
 abbrev pub AnotherHas : List Ballot → Ballot → Type 0
@@ -60,15 +61,15 @@ is_full Full = true
 
 -- the ballots of a tray with such a reply, and their numbers
 abbrev pub ballots_that : (CastReply → Bool) → List Cast → List Ballot
-ballots_that is_such tray = map (λ c. c.ballot) (filter (λ c. is_such c.reply) tray)
+ballots_that is_such tray = map (λ c. c.item) (filter (λ c. is_such c.reply) tray)
 
 abbrev pub numbers_that : (CastReply → Bool) → List Cast → List ℕ
-numbers_that is_such tray = map (λ c. c.ballot.number) (filter (λ c. is_such c.reply) tray)
+numbers_that is_such tray = map (λ c. c.item.number) (filter (λ c. is_such c.reply) tray)
 
 -- One ballot may stand before another of its tray: what is accepted was not answered before, and nothing is accepted once
 -- there was no room.
 abbrev pub MayPrecede : Cast → Cast → Type 0
-MayPrecede earlier later = later.reply ≡ Accepted → (earlier.ballot.number ≢ later.ballot.number) × (earlier.reply ≢ Full)
+MayPrecede earlier later = later.reply ≡ Accepted → (earlier.item.number ≢ later.item.number) × (earlier.reply ≢ Full)
 
 -- The seat is at rest, its lists are what the tray tells, and each reply is right. Where there are no claim words, the seat
 -- meets none that are full.
@@ -77,6 +78,6 @@ pub record IsTold (phase : Phase) (view : CastView) (tray : List Cast) : Type 0 
   pub accepted : numbers_that is_accepted tray ≡ view.accepted
   pub taken : numbers_that is_taken tray ≡ view.taken
   pub full : phase.words.shape.claims ≢ 0 → numbers_that is_full tray ≡ view.full
-  pub valid : All (λ c. IsValid phase.base.election c.ballot) tray
-  pub compared : All (λ c. Compares phase.base.ballots c.ballot c.reply) tray
+  pub valid : All (λ c. IsValid phase.base.election c.item) tray
+  pub compared : All (λ c. Compares phase.base.ballots c.item c.reply) tray
   pub in_order : AllPairs MayPrecede tray

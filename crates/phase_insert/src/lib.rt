@@ -4,16 +4,12 @@
 
 mod claiming;
 mod closing;
+mod kind;
 pub mod laws;
-mod phase;
 mod reply;
-mod running;
-mod tabulator;
 #[cfg(test)]
 mod tests;
-mod tray;
 
-pub use phase::CastPhase;
+pub use kind::{CastPhase, Casting, Tabulator};
+pub use phase_kind::run as run_cast;
 pub use reply::{CastReply, Final};
-pub use running::run_cast;
-pub use tabulator::Tabulator;

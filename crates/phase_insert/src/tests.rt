@@ -222,30 +222,31 @@ fn lists_of_ballots(rt: HostRuntime) -> Result<(), Fail> {
 }
 
 /// A tabulator casts one ballot.
-fn casts_nine(rt: &impl Abort, phase: &CastPhase, tab: &mut Tabulator)
+fn casts_nine(rt: &impl Abort, phase: &CastPhase, tab: &mut Tabulator, nine: &BallotList)
     requires belongs { tab.old.phase ≡ phase.now }
     requires example { phase.now.base.election ≡ example }
+    requires list { nine.now.election ≡ example }
 {
-    let nine = ballot(9, 1);
     assert_eq!(rt; tab.room(), 1);
-    assert!(rt; nine.valid(&Election::example()));
-    let reply = tab.cast(phase, nine);
+    assert_eq!(rt; nine.len(), 1);
+    let reply = tab.answer(phase, nine, 0);
     assert_eq!(rt; reply, CastReply::Accepted);
     assert_eq!(rt; tab.replies(), [CastReply::Accepted].as_slice());
-    assert_eq!(rt; tab.ballots().len(), 1);
-    assert_eq!(rt; tab.ballots().record(0, &Election::example()), nine);
+    assert_eq!(rt; tab.items().len(), 1);
+    assert_eq!(rt; tab.items().record(0, &Election::example()), ballot(9, 1));
     assert_eq!(rt; phase.peek(9), 9);
 }
 
 /// One tabulator of an empty store.
 fn casts_alone(rt: &impl Abort, alloc: Global) -> Result<(), Memory> {
     let election = Election::example();
+    let nine = ballots(rt, alloc, &election, &[(9, 1)])?;
     let empty = Closed::empty(alloc, &election)?;
     match CastPhase::begin(alloc, empty, &[1]) {
         Ok((phase, tabs)) => {
             let mut tabs = tabs;
             let mut tab = tabs.pop().expect(rt, "a tabulator");
-            casts_nine(rt, &phase, &mut tab);
+            casts_nine(rt, &phase, &mut tab, &nine);
             Ok(())
         }
         Err((_, memory)) => Err(memory),

@@ -9,22 +9,17 @@ use Rattle.ballot_record.proofs.BallotNumbers.{ballot_with, contains_number}
 use Rattle.ballot_record.proofs.Lookups.{found_in, missing_from, option_cases}
 use Rattle.body_store.specs.Contents.{Contents}
 use Rattle.phase_delete.proofs.Whole.{listed_is}
-use Rattle.phase_delete.proofs.WithdrawnLists.{trays_are_lists as trays_of_withdrawers}
 use Rattle.phase_delete.specs.Closing as withdrawn
-use Rattle.phase_delete.specs.Running.{HasWithdrawn}
-use Rattle.phase_delete.specs.WithdrawPhase as deleting
-use Rattle.phase_delete.specs.Withdrawer as workers
-use Rattle.phase_delete.specs.Withdrawer.{WithdrawerView, new_withdrawer}
 use Rattle.phase_delete.specs.Tray as tray
-use Rattle.phase_delete.specs.declared.reply.Withdrawal.{Withdrawal as Told}
+use Rattle.phase_delete.specs.Tray.{Withdrawal as Withdrawn}
 use Rattle.phase_find.specs.Present.{is_present}
-use Rattle.phase_insert.proofs.CastLists.{trays_are_lists}
-use Rattle.phase_insert.specs.CastPhase.{Phase}
-use Rattle.phase_insert.specs.Running.{HasCast}
-use Rattle.phase_insert.specs.Tabulator.{AreAll, TabulatorView, new_tabulator}
 use Rattle.phase_insert.specs.Closing.{ClosesAs, beside, line, reply_of}
 use Rattle.phase_insert.specs.Tray.{Cast}
 use Rattle.phase_insert.specs.declared.reply.Final.{Final}
+use Rattle.phase_kind.proofs.Listed.{trays_are_lists}
+use Rattle.phase_kind.specs.Phase.{Phase}
+use Rattle.phase_kind.specs.Told.{Told}
+use Rattle.phase_kind.specs.Worker.{AreAll, HasAnswered, WorkerView, new_worker}
 use Rattle.phase_play.proofs.Rows.{map_twice}
 use Rattle.phase_play.specs.Plays.{PlaysCasting, PlaysFinding, PlaysWithdrawing}
 use Rattle.step_core.specs.WithdrawCore as core
@@ -71,15 +66,15 @@ finals_of (tray ∷ trays) (list ∷ finals) same =
     ∙ ap (λ l. list ∷ l) (finals_of trays finals rest)
 
 -- the ballots of trays, and the final replies beside them
-pub plays_casting : (e : Election) (base : Contents) (trays : List (List Cast)) (finals : List (List Final)) (work : List (List Ballot)) (after : List Ballot) → base.election ≡ e → ClosesAs base trays finals after → map (map (λ c. c.ballot)) trays ≡ work → PlaysCasting e base.ballots work (map (map reply_of) finals) after
+pub plays_casting : (e : Election) (base : Contents) (trays : List (List Cast)) (finals : List (List Final)) (work : List (List Ballot)) (after : List Ballot) → base.election ≡ e → ClosesAs base trays finals after → map (map (λ c. c.item)) trays ≡ work → PlaysCasting e base.ballots work (map (map reply_of) finals) after
 plays_casting e base trays finals work after own closes are =
     let rows = beside trays finals in
     record {
       lines = map (map line) rows;
       of_work =
           map_twice (λ (l : CastLine). l.ballot) line rows
-          ∙ sym (map_twice (λ (c : Cast). c.ballot) (λ (told : Cast × Final). told.0) rows)
-          ∙ ap (map (map (λ (c : Cast). c.ballot))) (trays_of trays finals closes.as_many)
+          ∙ sym (map_twice (λ (c : Cast). c.item) (λ (told : Cast × Final). told.0) rows)
+          ∙ ap (map (map (λ (c : Cast). c.item))) (trays_of trays finals closes.as_many)
           ∙ are;
       of_replies =
           map_twice (λ (l : CastLine). l.reply) line rows
@@ -88,74 +83,49 @@ plays_casting e base trays finals work after own closes are =
       outcome = subst (λ (f : Election). BallotOutcome f base.ballots (map (map line) rows) after) own closes.outcome;
     }
 
--- tabulators that began with room for their lists, and have cast them
-module _ {V : Type 0} (items : V → List Ballot) (phase : Phase) where
-  abbrev pub began : List V → List TabulatorView
-  began work = map (new_tabulator phase) (map (λ list. length (items list)) work)
-
-  module _ (work : List V) (before : List TabulatorView) (are : before ≡ began work) where
-    as_many : length before ≡ length work
-    as_many = omega (arith, ap length are, length-map (map (λ list. length (items list)) work) (new_tabulator phase), length-map work (λ list. length (items list)))
-
-    pub cast_belong : All (λ tab. tab.phase ≡ phase) before
-    cast_belong = subst (λ (tabs : List TabulatorView). All (λ tab. tab.phase ≡ phase) tabs) (sym are) (All-map (λ (tab : TabulatorView). tab.phase ≡ phase) (new_tabulator phase) (map (λ list. length (items list)) work) (λ k d within. refl))
-
-    pub cast_may : All (λ at. length (items at.1) ≤ at.0.room) (zip before work)
-    cast_may = subst (λ (tabs : List TabulatorView). All (λ at. length (items at.1) ≤ at.0.room) (zip tabs work)) (sym are) (planned_room (λ (tab : TabulatorView). tab.room) (new_tabulator phase) (λ list. length (items list)) (λ n. omega arith) work)
-
-    -- all of them are there at the close, and their trays have the ballots of the lists
-    pub cast_all : (after whole : List TabulatorView) → length after ≡ length before → whole ≡ after → phase.words.seats ≡ length work → All (λ tab. tab.phase ≡ phase) after → AreAll phase whole
-    cast_all after whole same is seats belong = subst (AreAll phase) (sym is) (record { all = same ∙ as_many ∙ sym seats; belong = belong })
-
-    pub cast_trays : (after whole : List TabulatorView) → length after ≡ length before → whole ≡ after → All (λ at. HasCast at.0 (items at.1.0) at.1.1) (zip before (zip work after)) → map (map (λ c. c.ballot)) (map (λ tab. tab.tray) whole) ≡ map items work
-    cast_trays after whole same is each =
-        let plan = map (λ list. length (items list)) work in
-        let cast = subst (λ (tabs : List TabulatorView). All (λ at. HasCast at.0 (items at.1.0) at.1.1) (zip tabs (zip work after))) are each in
-        ap (λ (tabs : List TabulatorView). map (map (λ (c : Cast). c.ballot)) (map (λ (tab : TabulatorView). tab.tray) tabs)) is
-        ∙ map-map (map (λ (c : Cast). c.ballot)) (λ (tab : TabulatorView). tab.tray) after
-        ∙ trays_are_lists items phase plan after work (length-map work (λ list. length (items list))) (same ∙ ap length are) cast
-
 -- ---- withdrawing
 
 -- the numbers of trays, and their replies
-pub plays_withdrawing : (base : Contents) (trays : List (List Told)) (replies : List (List WithdrawReply)) (work : List (List ℕ)) (after : List Ballot) → withdrawn.ClosesAs base trays replies after → map (map (λ w. w.number)) trays ≡ work → PlaysWithdrawing base.ballots work (map (map core.reply_of) replies) after
+pub plays_withdrawing : (base : Contents) (trays : List (List Withdrawn)) (replies : List (List WithdrawReply)) (work : List (List ℕ)) (after : List Ballot) → withdrawn.ClosesAs base trays replies after → map (map (λ w. w.item)) trays ≡ work → PlaysWithdrawing base.ballots work (map (map core.reply_of) replies) after
 plays_withdrawing base trays replies work after closes are = record {
   lines = withdrawn.lines_of trays;
   of_work = map_twice (λ (a : Withdrawal). a.number) tray.line trays ∙ are;
   of_replies =
       map_twice (λ (a : Withdrawal). a.reply) tray.line trays
-      ∙ sym (map_twice core.reply_of (λ (w : Told). w.reply) trays)
+      ∙ sym (map_twice core.reply_of (λ (w : Withdrawn). w.reply) trays)
       ∙ ap (map (map core.reply_of)) (sym closes.of_trays);
   rest = closes.rest ∙ ap (ballots_without base.ballots) (sym (listed_is trays));
   outcome = closes.outcome;
 }
 
--- withdrawers that began with room for their lists, and have withdrawn them
-module _ {V : Type 0} (items : V → List ℕ) (phase : deleting.Phase) where
-  abbrev pub began_to_withdraw : List V → List WithdrawerView
-  began_to_withdraw work = map (new_withdrawer phase) (map (λ list. length (items list)) work)
+-- ---- workers
 
-  module _ (work : List V) (before : List WithdrawerView) (are : before ≡ began_to_withdraw work) where
-    as_many_withdrawers : length before ≡ length work
-    as_many_withdrawers = omega (arith, ap length are, length-map (map (λ list. length (items list)) work) (new_withdrawer phase), length-map work (λ list. length (items list)))
+-- workers that began with room for their lists, and have answered them
+module _ {V I R L : Type 0} (rests : V → Type 0) (items : L → List I) (fresh : V) (phase : Phase) where
+  abbrev pub began : List L → List (WorkerView V I R)
+  began work = map (new_worker fresh phase) (map (λ list. length (items list)) work)
 
-    pub withdrawing_belong : All (λ tab. tab.phase ≡ phase) before
-    withdrawing_belong = subst (λ (tabs : List WithdrawerView). All (λ tab. tab.phase ≡ phase) tabs) (sym are) (All-map (λ (tab : WithdrawerView). tab.phase ≡ phase) (new_withdrawer phase) (map (λ list. length (items list)) work) (λ k d within. refl))
+  module _ (work : List L) (before : List (WorkerView V I R)) (are : before ≡ began work) where
+    as_many : length before ≡ length work
+    as_many = omega (arith, ap length are, length-map (map (λ list. length (items list)) work) (new_worker {V = V} {I = I} {R = R} fresh phase), length-map work (λ list. length (items list)))
 
-    pub withdrawing_may : All (λ at. length (items at.1) ≤ at.0.room) (zip before work)
-    withdrawing_may = subst (λ (tabs : List WithdrawerView). All (λ at. length (items at.1) ≤ at.0.room) (zip tabs work)) (sym are) (planned_room (λ (tab : WithdrawerView). tab.room) (new_withdrawer phase) (λ list. length (items list)) (λ n. omega arith) work)
+    pub all_belong : All (λ worker. worker.phase ≡ phase) before
+    all_belong = subst (λ (workers : List (WorkerView V I R)). All (λ worker. worker.phase ≡ phase) workers) (sym are) (All-map (λ (worker : WorkerView V I R). worker.phase ≡ phase) (new_worker fresh phase) (map (λ list. length (items list)) work) (λ k d within. refl))
 
-    -- all of them are there at the close, and their trays have the numbers of the lists
-    pub withdrawing_all : (after whole : List WithdrawerView) → length after ≡ length before → whole ≡ after → phase.words.seats ≡ length work → All (λ tab. tab.phase ≡ phase) after → workers.AreAll phase whole
-    withdrawing_all after whole same is seats belong = subst (workers.AreAll phase) (sym is) (record { all = same ∙ as_many_withdrawers ∙ sym seats; belong = belong })
+    pub all_may : All (λ at. length (items at.1) ≤ at.0.room) (zip before work)
+    all_may = subst (λ (workers : List (WorkerView V I R)). All (λ at. length (items at.1) ≤ at.0.room) (zip workers work)) (sym are) (planned_room (λ (worker : WorkerView V I R). worker.room) (new_worker fresh phase) (λ list. length (items list)) (λ n. omega arith) work)
 
-    pub withdrawing_trays : (after whole : List WithdrawerView) → length after ≡ length before → whole ≡ after → All (λ at. HasWithdrawn at.0 (items at.1.0) at.1.1) (zip before (zip work after)) → map (map (λ w. w.number)) (map (λ tab. tab.tray) whole) ≡ map (λ list. items list) work
-    withdrawing_trays after whole same is each =
+    -- all of them are there at the close, and their trays have the items of the lists
+    pub all_there : (after whole : List (WorkerView V I R)) → length after ≡ length before → whole ≡ after → phase.words.seats ≡ length work → All (λ worker. worker.phase ≡ phase) after → AreAll phase whole
+    all_there after whole same is seats belong = subst (AreAll phase) (sym is) (record { all = same ∙ as_many ∙ sym seats; belong = belong })
+
+    pub all_trays : (after whole : List (WorkerView V I R)) → length after ≡ length before → whole ≡ after → All (λ at. HasAnswered rests at.0 (items at.1.0) at.1.1) (zip before (zip work after)) → map (map (λ t. t.item)) (map (λ worker. worker.tray) whole) ≡ map items work
+    all_trays after whole same is each =
         let plan = map (λ list. length (items list)) work in
-        let withdrawn = subst (λ (tabs : List WithdrawerView). All (λ at. HasWithdrawn at.0 (items at.1.0) at.1.1) (zip tabs (zip work after))) are each in
-        ap (λ (tabs : List WithdrawerView). map (map (λ (w : Told). w.number)) (map (λ (tab : WithdrawerView). tab.tray) tabs)) is
-        ∙ map-map (map (λ (w : Told). w.number)) (λ (tab : WithdrawerView). tab.tray) after
-        ∙ trays_of_withdrawers items phase plan after work (length-map work (λ list. length (items list))) (same ∙ ap length are) withdrawn
+        let answered = subst (λ (workers : List (WorkerView V I R)). All (λ at. HasAnswered rests at.0 (items at.1.0) at.1.1) (zip workers (zip work after))) are each in
+        ap (λ (workers : List (WorkerView V I R)). map (map (λ (t : Told I R). t.item)) (map (λ (worker : WorkerView V I R). worker.tray) workers)) is
+        ∙ map-map (map (λ (t : Told I R). t.item)) (λ (worker : WorkerView V I R). worker.tray) after
+        ∙ trays_are_lists rests items fresh phase plan after work (length-map work (λ list. length (items list))) (same ∙ ap length are) answered
 
 -- ---- finding
 

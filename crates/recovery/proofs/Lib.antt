@@ -1,5 +1,6 @@
 pub mod Agreeing
 pub mod Differences
+pub mod OneByOne
 pub mod OnlyReading
 pub mod Paging
 pub mod Recovered

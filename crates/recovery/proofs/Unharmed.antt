@@ -1,6 +1,6 @@
 -- A recovery that gives no store leaves the medium unharmed.
-use Rattle.std.proofs.Common.{◌≡◌, ℕ, List, Some, Result, Ok, Err, inl, inr, sym, subst, ◌∙◌, ◌⊎◌, ⊎_elim}
-use Rattle.std.specs.Prelude.{IfErr, IfSome, IsErrAnd}
+use Rattle.std.proofs.Common.{◌≡◌, ℕ, List, Some, Result, Ok, Err, inl, inr, ◌∙◌, ◌⊎◌, ⊎_elim}
+use Rattle.std.specs.Prelude.{IfErr, IfSome}
 use Rattle.crash_disk.proofs.Moments.{joined, one_call, weaker}
 use Rattle.outside_io.proofs.Told.{told_holds}
 use Rattle.recovery.proofs.Agreeing.{read_holds}
@@ -20,11 +20,6 @@ pub each_fault : {T : Type 0} (r : Result T RecoverFault) (P : RecoverFault → 
     → IfErr r P
 each_fault (Ok x) P holds = tt
 each_fault (Err fault) P holds = holds fault
-
-pub only_fault : {T : Type 0} (r : Result T RecoverFault) (P : RecoverFault → Type 0) (fault : RecoverFault)
-    → IsErrAnd r (λ f. f ≡ fault) → P fault → IfErr r P
-only_fault (Ok x) P fault is holds = tt
-only_fault (Err f) P fault is holds = subst P (sym is) holds
 
 module _ {D : Type 0} (model : DiskModel D) (e : Election) (bytes : List ℕ) where
   -- what a crash may leave at the start, or what holds the set that was read

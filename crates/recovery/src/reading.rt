@@ -17,7 +17,7 @@ ghost use Rattle.store_spec.specs.Medium.{HoldsSet};
 
 use crate::fault::RecoverFault;
 use ballot_record::Election;
-use bank_medium::{Bank, gates, read_page};
+use bank_medium::{Bank, gates, read_page, same_bytes};
 use body_store::{Closed, lengthen};
 use crash_disk::Disk;
 use image_builder::{CellsRead, PAGE_BYTES};
@@ -221,7 +221,7 @@ fn first_differing(found: &[u8], page: &[u8]) -> Option<usize>
     ensures difference { IsFirstDifference found.now page.now result }
     ensures within { IfSome result (λ place. place < length page.now) }
 {
-    if found == page {
+    if same_bytes(found, page) {
         return None;
     }
     for (place, byte) in found.iter().enumerate() {

@@ -9,7 +9,9 @@ use Rattle.large_options.specs.declared.options.Options.{Options}
 use Rattle.outside_io.proofs.Told.{told_at}
 use Rattle.outside_io.specs.Outside.{Input, Output}
 use Rattle.outside_io.specs.Stream.{TakesAll}
-use Rattle.phase_gate.specs.Beside.{AreBeside, calls_beside}
+use Rattle.any_store.specs.Beside.{calls_beside}
+use Rattle.phase_gate.specs.Beside.{AreBeside}
+use Rattle.any_store.specs.Disks.{one_store}
 use Rattle.phase_gate.specs.declared.report.Report.{Report}
 use Rattle.script_lines.specs.Generated.{generated_text}
 use Rattle.script_lines.specs.declared.generated_script.GeneratedScript.{GeneratedScript}
@@ -35,7 +37,7 @@ fault_told other is = cc
 
 -- a generated script that was handled to its end has its result
 has_result : {K D : Type 0} (model : DiskModel D) (e : Election) (o : Options) (source rest : Input GeneratedScript) (report : Reported) (old new : Output K) (before after : D) → IsElection e → o.seed < 2 ^ 32 → IsTab o.tabs
-    → source.left ≡ Some (generated_text e o.seed o.count o.tabs) → Begun model summary_of e (Ok tt) source rest (with_report old before nothing_reported) (with_report new after report) → HasResult model e o report old new before after
+    → source.left ≡ Some (generated_text e o.seed o.count o.tabs) → Begun (one_store model) summary_of e (Ok tt) source rest (with_report old before nothing_reported) (with_report new after report) → HasResult model e o report old new before after
 has_result model e o source rest report old new before after election small tab told one =
     let text = generated_text e o.seed o.count o.tabs in
     let lines_are : one.lines ≡ taken_lines (lines_of text) = (told_at text told one.ends.0).1.2 in

@@ -3,6 +3,7 @@ use Rattle.std.proofs.Common.{◌≡◌, ◌≢◌, ◌⊎◌, ℕ, ◌<◌, ◌
 use Rattle.outside_io.proofs.Told.{told_at}
 use Rattle.outside_io.specs.Outside.{Input}
 use Rattle.phase_gate.specs.Around.{Around}
+use Rattle.any_store.specs.Disks.{one_store}
 use Rattle.recovery.proofs.Refusals.{one_refusal, refused_holds}
 use Rattle.recovery.specs.Refused.{IsRefusedMedium}
 use Rattle.recovery.specs.declared.fault.RecoverFault.{RecoverFault}
@@ -47,7 +48,7 @@ decided_why recover.Memory decided = absurd decided
 
 -- a session that began, and how it ended
 began_decides : {T K D : Type 0} (model : DiskModel D) (tell : List ℕ → List ℕ) (e : Election) (fault : RunFault) (old new : Input T) (before after : Around K D) (text bytes : List ℕ) → old.left ≡ Some text → model.seen before.disk ≡ Some bytes
-    → IsDecided (run_status fault) → Begun model tell e (Err fault) old new before after → SessionDecides e text bytes (run_status fault)
+    → IsDecided (run_status fault) → Begun (one_store model) tell e (Err fault) old new before after → SessionDecides e text bytes (run_status fault)
 began_decides model tell e run.TooLong old new before after text bytes told seen decided ends =
     inr (inl (refl, (ends.set, at_told (model.seen before.disk) bytes (λ x. HoldsSet e x ends.set) seen ends.held), (told_at text told ends.ends.0).1.0))
 began_decides model tell e run.NoStore old new before after text bytes told seen decided ends = absurd ends.ends

@@ -11,7 +11,7 @@ use Rattle.large_options.specs.Options.{IsOptions}
 use Rattle.large_options.specs.declared.options.Options.{Options}
 use Rattle.outside_io.specs.Outside.{Input, Output}
 use Rattle.outside_io.specs.Stream.{TakesAll}
-use Rattle.phase_gate.specs.Checkpointed.{IsMediumNow}
+use Rattle.any_store.specs.Checkpointed.{IsMediumNow}
 use Rattle.script_lines.specs.Generated.{generated_text}
 use Rattle.script_lines.specs.declared.generated_script.GeneratedScript.{GeneratedScript}
 use Rattle.session_laws.specs.LargeRun.{IsLargeSet, large_summary}

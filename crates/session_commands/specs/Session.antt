@@ -29,7 +29,13 @@ reported report = record {
 
 -- the sink, the disk and the report
 abbrev pub with_report : {K D : Type 0} → Output K → D → Reported → Around K D
-with_report sink disk report = record { sink = sink; disk = disk; marks = report.marks; held = report.held }
+with_report sink disk report = record {
+  sink = sink;
+  disk = disk;
+  marks = report.marks;
+  others = report.others;
+  held = report.held;
+}
 
 abbrev pub run_status : RunFault → Status
 run_status NoStore = status.NoStore

@@ -7,7 +7,8 @@ use Rattle.outside_io.specs.Outside.{Input, Output}
 use Rattle.outside_io.specs.Stream.{TakesAll}
 use Rattle.outside_io.specs.Told.{IfTold}
 use Rattle.phase_gate.specs.Around.{Around}
-use Rattle.phase_gate.specs.Checkpointed.{IsMediumNow}
+use Rattle.any_store.specs.Checkpointed.{IsMediumNow}
+use Rattle.any_store.specs.Disks.{StoreModel, one_store}
 use Rattle.recovery.specs.Refused.{IsRefusedMedium, IsUnchangedAt, IsUnharmedAt}
 use Rattle.recovery.specs.declared.fault.RecoverFault.{RecoverFault}
 use Rattle.recovery.specs.declared.fault.RecoverFault.TheVariants as recover
@@ -115,7 +116,7 @@ module _ {D : Type 0} (model : DiskModel D) (e : Election) where
         → (model.calls after < last_count → model.calls before.disk < model.calls after) → CountsFaultIf (why ≡ recover.DiskFault) (model.faults before.disk)
         (model.faults after)
         → SessionEnds model tell e (Err (recover_fault why)) script script before
-        (record { sink = before.sink; disk = after; marks = before.marks; held = before.held })
+        (record { sink = before.sink; disk = after; marks = before.marks; others = before.others; held = before.held })
     refused why after reason same unharmed told any_moment called fault = inl (
       why,
       refl,
@@ -175,8 +176,8 @@ pub has_begun : {K D : Type 0} (model : DiskModel D) (e : Election) (closed : Co
     → (model.calls after < last_count → model.calls before.disk < model.calls after)
     → ((bytes : List ℕ) → model.seen before.disk ≡ Some bytes → LeavesOnlyOnceSynced model.calls model.may_leave
     before.disk after (HoldsTheSame e bytes))
-    → HasBegun model e closed.ballots state before (record
-    { sink = before.sink; disk = after; marks = before.marks; held = held })
+    → HasBegun (one_store model) e closed.ballots state before (record
+    { sink = before.sink; disk = after; marks = before.marks; others = before.others; held = held })
 has_begun model e closed state before after held read own stored is none count told medium later steady called
     once_synced = record {
       held = read;
@@ -197,7 +198,7 @@ has_begun model e closed state before after held read own stored is none count t
     }
 
 -- and no line was handled yet
-pub begins : {K D : Type 0} (model : DiskModel D) (tell : List ℕ → List ℕ) (e : Election) (set : List Ballot)
+pub begins : {K D : Type 0} (model : StoreModel D) (tell : List ℕ → List ℕ) (e : Election) (set : List Ballot)
     (state : State) (before now : Around K D) → HasBegun model e set state before now
     → SoFar model tell e set [] state 0 before now
 begins {K} model tell e set state before now starts = record {

@@ -1,5 +1,5 @@
 -- How a session ends that began.
-use Rattle.std.proofs.Common.{◌≡◌, ℕ, ◌+◌, List, [], ◌∷◌, ◌++◌, length, take, Option, Some, Result, Ok, Err, refl, arith, ap, sym, subst, ◌∙◌, inl, inr, ⊎_elim, append_assoc}
+use Rattle.std.proofs.Common.{◌≡◌, ℕ, ◌+◌, List, [], ◌∷◌, ◌++◌, length, take, Option, Some, None, Result, Ok, Err, refl, arith, ap, sym, subst, ◌∙◌, inl, inr, ⊎_elim, append_assoc}
 use Rattle.outside_io.specs.Outside.{Input, Output}
 use Rattle.outside_io.specs.Reading.{ReadLines}
 use Rattle.outside_io.specs.Reading.Ending.{Faulted, ReadOut, TooMuch}
@@ -7,32 +7,39 @@ use Rattle.outside_io.specs.Stream.{TakesAll}
 use Rattle.outside_io.proofs.Told.{told_as}
 use Rattle.outside_io.specs.declared.lines.LineEndFault.TheVariants as line
 use Rattle.phase_gate.specs.Around.{Around}
+use Rattle.phase_gate.specs.Beside.{AddsRow}
 use Rattle.phase_gate.specs.Checkpointed.{Acknowledges}
+use Rattle.any_store.specs.Disks.{StoreModel}
 use Rattle.phase_gate.specs.LineEnds.{IsHalfTold, IsUncheckpointed, LastEnds, LineEnds}
 use Rattle.phase_gate.specs.declared.fault.SessionFault.{SessionFault}
 use Rattle.phase_gate.specs.declared.fault.SessionFault.TheVariants as session
-use Rattle.session_run.proofs.Acknowledging.{acknowledged_then, marks_then, uncheckpointed, uncheckpointed_synced}
+use Rattle.session_run.proofs.Acknowledging.{acknowledged_then, rose_then, tried_then}
 use Rattle.session_run.proofs.Beginning.{takes_none}
 use Rattle.session_run.proofs.SoFar.{IsHanded, SoFar, answers_handed, nothing_says, taken_then}
 use Rattle.session_run.proofs.SoFar.IsHanded.{whole, wide}
-use Rattle.session_run.specs.Ends.{BegunWith, HandlingEnds, HasBegun, IsDiskFailed, IsInterrupted, OfScript, StopsBehind, Tried}
+use Rattle.session_run.specs.Ends.{BegunWith, HandlingEnds, HasBegun, IsDiskFailed, IsInterrupted, OfScript, StopsBehind}
 use Rattle.session_run.specs.Ends.ComesNext.{to_end, to_line}
 use Rattle.session_run.specs.Faults.{line_fault, session_fault}
-use Rattle.session_run.specs.History.{Wrote, written_by}
+use Rattle.session_run.specs.History.{AreTried, Wrote, written_by}
 use Rattle.session_run.specs.declared.fault.RunFault.{RunFault}
 use Rattle.store_spec.specs.Ballot.{Ballot}
-use Rattle.store_spec.specs.Disk.{DiskModel}
 use Rattle.store_spec.specs.Election.{Election, IsElection}
 use Rattle.store_spec.specs.Fault.{Rose}
 use Rattle.store_spec.specs.ScriptLine.{Says}
 use Rattle.store_spec.specs.ScriptLine.ScriptLine.{Checkpoint}
-use Rattle.store_spec.specs.Session.{Answers, State, acknowledged_in, last_reply}
+use Rattle.store_spec.specs.Session.{AnswersBy, State, acknowledged_in, last_reply}
 
 -- the same, and the sink is another
 abbrev pub with_sink : {K D : Type 0} → Around K D → Output K → Around K D
-with_sink around sink = record { sink = sink; disk = around.disk; marks = around.marks; held = around.held }
+with_sink around sink = record {
+  sink = sink;
+  disk = around.disk;
+  marks = around.marks;
+  others = around.others;
+  held = around.held;
+}
 
-module _ {K D : Type 0} (model : DiskModel D) (tell : List ℕ → List ℕ) (e : Election) (election : IsElection e)
+module _ {K D : Type 0} (model : StoreModel D) (tell : List ℕ → List ℕ) (e : Election) (election : IsElection e)
     (set : List Ballot) (first : State) (before start : Around K D) (starts : HasBegun model e set first before start)
   where
     began : {S : Type 0} (lines : List (Option (List ℕ))) (state : State) (index : ℕ) (mid now : Around K D)
@@ -60,13 +67,15 @@ module _ {K D : Type 0} (model : DiskModel D) (tell : List ℕ → List ℕ) (e 
       -- what was written of the reply that comes next, and acknowledged
       wrote : (rest : List ℕ) (more : List (List Ballot)) (now : Around K D)
           → TakesAll mid.sink.taken rest now.sink.taken
-          → Acknowledges model e more mid.disk now.disk mid.marks now.marks
+          → Acknowledges model.disks e more mid.disk now.disk mid.marks now.marks → (begun : Option (ℕ × ℕ))
+          → AddsRow model.disks now.disk begun mid.marks now.marks mid.others now.others
           → Wrote model tell e set so_far.effects rest more before now
-      wrote rest more now takes did = record {
+      wrote rest more now takes did begun adds = record {
         taken = taken_then before.sink.taken mid.sink.taken now.sink.taken (written_by tell so_far.effects) rest
             so_far.taken takes;
-        acknowledged = acknowledged_then model e election set (acknowledged_in so_far.effects) more before.disk mid.disk
-            now.disk mid.marks now.marks so_far.acknowledged did;
+        acknowledged = acknowledged_then e election set before.disk mid.disk now.disk model.disks
+            (acknowledged_in so_far.effects) more begun mid.marks now.marks mid.others now.others so_far.acknowledged did
+            adds;
       }
 
       -- the script has ended, and what comes last was written
@@ -77,7 +86,7 @@ module _ {K D : Type 0} (model : DiskModel D) (tell : List ℕ → List ℕ) (e 
       played_out old new sink read steady last =
           began lines state index mid (with_sink mid sink) so_far (Ok tt) old new (
             read,
-            wrote (tell (last_reply state.phase)) [] (with_sink mid sink) last.0 (refl, refl),
+            wrote (tell (last_reply state.phase)) [] (with_sink mid sink) last.0 (refl, refl) None (inl (refl, refl)),
             so_far.held,
             steady,
             last.1 ∙ so_far.no_fault,
@@ -99,7 +108,8 @@ module _ {K D : Type 0} (model : DiskModel D) (tell : List ℕ → List ℕ) (e 
             more = [];
             next = to_end read refl refl so_far.held;
             count = last.0.0;
-            wrote = wrote (take last.0.0 (tell (last_reply state.phase))) [] (with_sink mid sink) last.0.1 (refl, refl);
+            wrote = wrote (take last.0.0 (tell (last_reply state.phase))) [] (with_sink mid sink) last.0.1 (refl, refl)
+                None (inl (refl, refl));
           }
       cut_off old new sink session.Memory read steady last =
           began lines state index mid (with_sink mid sink) so_far (Err (session_fault session.Memory)) old new
@@ -111,7 +121,8 @@ module _ {K D : Type 0} (model : DiskModel D) (tell : List ℕ → List ℕ) (e 
             more = [];
             next = to_end read refl refl so_far.held;
             count = last.0.0;
-            wrote = wrote (take last.0.0 (tell (last_reply state.phase))) [] (with_sink mid sink) last.0.1 (refl, refl);
+            wrote = wrote (take last.0.0 (tell (last_reply state.phase))) [] (with_sink mid sink) last.0.1 (refl, refl)
+                None (inl (refl, refl));
           }
 
       -- no further line came
@@ -120,32 +131,33 @@ module _ {K D : Type 0} (model : DiskModel D) (tell : List ℕ → List ℕ) (e 
           → BegunWith model tell e set (Err (line_fault line.TooLong)) old new before mid
       too_much old new read steady =
           began lines state index mid mid so_far (Err (line_fault line.TooLong)) old new
-          (read, wrote [] [] mid (takes_none mid.sink.taken) (refl, refl), so_far.held, steady, so_far.no_fault)
+          (read, wrote [] [] mid (takes_none mid.sink.taken) (refl, refl) None (inl (refl, refl)), so_far.held, steady, so_far.no_fault)
 
       pub unread : {S : Type 0} (old new : Input S) → OfScript old new (λ text left. ReadLines Faulted text left lines)
           → Rose old.faults new.faults → BegunWith model tell e set (Err (line_fault line.ReadFault)) old new before mid
       unread old new read rose =
           began lines state index mid mid so_far (Err (line_fault line.ReadFault)) old new
-          (read, wrote [] [] mid (takes_none mid.sink.taken) (refl, refl), so_far.held, rose, so_far.no_fault)
+          (read, wrote [] [] mid (takes_none mid.sink.taken) (refl, refl) None (inl (refl, refl)), so_far.held, rose, so_far.no_fault)
 
       -- one more line came, and was not handled to its end
       module _ {S : Type 0} (old new : Input S) (line : Option (List ℕ)) (bytes : List ℕ) (handed : IsHanded line bytes)
           (read : OfScript old new (StopsBehind (lines ++ line ∷ []))) (steady : new.faults ≡ old.faults)
-          (now : Around K D) where
+          (now : Around K D) (begun : Option (ℕ × ℕ))
+          (adds : AddsRow model.disks now.disk begun mid.marks now.marks mid.others now.others) where
         half_told : IsHalfTold model tell e (index + 1) state bytes mid now
             → IsInterrupted model tell e set lines so_far.effects state old new before now
         half_told half =
             let effect = half.effect in
             let is : index + 1 ≡ length lines + 1 = omega (arith, so_far.counted) in
-            let answers = subst (λ n. Answers e n state line effect) is
-            (answers_handed e (index + 1) state line bytes effect handed half.answers) in
+            let answers = subst (λ n. AnswersBy (model.closes e) e n state line effect) is
+            (answers_handed (model.closes e) e (index + 1) state line bytes effect handed half.answers) in
             record {
               reply = effect.reply;
               more = effect.acknowledged;
               next = to_line line effect read answers refl refl half.done.held;
               count = half.taken.0;
               wrote = wrote (take half.taken.0 (tell effect.reply)) effect.acknowledged now half.taken.1
-                  half.done.acknowledged;
+                  half.done.acknowledged begun adds;
             }
 
         unmade : IsUncheckpointed model e state bytes mid now
@@ -161,17 +173,14 @@ module _ {K D : Type 0} (model : DiskModel D) (tell : List ℕ → List ℕ) (e 
                 (ap (λ (s : Output K). s.taken) (sym failed.sink)) so_far.taken;
             held = failed.held ∙ so_far.held;
           };
-          tried = subst (λ marks. Tried model e set before.disk now.disk marks (acknowledged_in so_far.effects) state.set)
-              (sym failed.marks) (record {
-                told = failed.fails.told ∙ so_far.acknowledged.told;
-                marked = marks_then model e election set (acknowledged_in so_far.effects) before.disk mid.disk mid.marks
-                    so_far.acknowledged now.disk failed.fails.later;
-                crashes = uncheckpointed model e election set (acknowledged_in so_far.effects) before.disk mid.disk mid.marks
-                    so_far.acknowledged state.set now.disk failed.fails;
-                once_synced = uncheckpointed_synced model e election set (acknowledged_in so_far.effects) before.disk mid.disk
-                    mid.marks so_far.acknowledged state.set now.disk failed.fails;
-              });
-          rose = subst (λ n. Rose n (model.faults now.disk)) so_far.acknowledged.no_fault failed.fails.rose;
+          tried = subst (λ rows. AreTried model.disks e set before.disk now.disk now.marks rows
+              (acknowledged_in so_far.effects) state.set) (sym failed.others)
+              (subst (λ marks. AreTried model.disks e set before.disk now.disk marks mid.others
+              (acknowledged_in so_far.effects) state.set) (sym failed.marks)
+              (tried_then e election set before.disk mid.disk now.disk model.disks (acknowledged_in so_far.effects)
+              state.set mid.marks mid.others so_far.acknowledged failed.fails));
+          rose = rose_then e election set before.disk mid.disk now.disk model.disks (acknowledged_in so_far.effects)
+              state.set mid.marks mid.others so_far.acknowledged failed.fails;
         }
           where
             handed_whole : (line : Option (List ℕ)) (bytes : List ℕ) → IsHanded line bytes → Says e bytes Checkpoint
@@ -196,7 +205,7 @@ module _ {K D : Type 0} (model : DiskModel D) (tell : List ℕ → List ℕ) (e 
                   (line ∷ some.0.0, some.0.1 ∙ append_assoc lines (line ∷ []) some.0.0),
                   some.1,
                 )),
-                wrote [] [] mid (takes_none mid.sink.taken) (refl, refl),
+                wrote [] [] mid (takes_none mid.sink.taken) (refl, refl) None (inl (refl, refl)),
                 so_far.held,
               ),
               steady,

@@ -1,5 +1,5 @@
 -- A session that goes on, from whatever medium and set it began: line after line, and how that ends.
-use Rattle.std.proofs.Common.{◌≡◌, ◌≢◌, ◌⊎◌, ℕ, ◌+◌, ◌<◌, ◌≤◌, List, [], ◌∷◌, ◌++◌, length, false, Option, Some, None, Result, Ok, Err, refl, arith, sym, subst, ◌∙◌, inr, ⊎_elim}
+use Rattle.std.proofs.Common.{◌≡◌, ◌≢◌, ◌⊎◌, ℕ, ◌+◌, ◌<◌, ◌≤◌, List, [], ◌∷◌, ◌++◌, length, false, Option, Some, None, Result, Ok, Err, refl, arith, sym, subst, ◌∙◌, inl, inr, ⊎_elim}
 use Rattle.outside_io.proofs.Reading.{ReadSoFar, few_given, read_fault, read_first, read_nothing, read_out, read_too_much, read_whole, read_wide}
 use Rattle.outside_io.proofs.Told.{told_with}
 use Rattle.outside_io.specs.Lines.{AnswersTold}
@@ -12,7 +12,9 @@ use Rattle.outside_io.specs.declared.lines.LineEndFault.TheVariants as fault
 use Rattle.outside_io.specs.declared.lines.NextLine.{NextLine}
 use Rattle.outside_io.specs.declared.lines.NextLine.TheVariants.{Whole, TooWide, End}
 use Rattle.phase_gate.specs.Around.{Around}
-use Rattle.phase_gate.specs.Checkpointed.{Acknowledges, IsMediumNow}
+use Rattle.phase_gate.specs.Beside.{AddsRow}
+use Rattle.phase_gate.proofs.Kept.{AreSomeMedia, media_kept}
+use Rattle.any_store.specs.Disks.{StoreModel, one_store}
 use Rattle.phase_gate.specs.LineEnds.{IsHandled, LastEnds, LineEnds}
 use Rattle.phase_gate.specs.declared.fault.SessionFault.{SessionFault}
 use Rattle.phase_gate.specs.declared.telling.Telling.{Telling}
@@ -29,14 +31,14 @@ use Rattle.store_spec.specs.Disk.{DiskModel}
 use Rattle.store_spec.specs.Election.{Election, IsElection}
 use Rattle.store_spec.specs.Fault.{CountsFaultIf, Rose}
 use Rattle.store_spec.specs.Input.{first_width, script_limit}
-use Rattle.store_spec.specs.Session.{Answers as AnswersLine, State, replies}
+use Rattle.store_spec.specs.Session.{AnswersBy, State, replies}
 
 -- The lines that were read so far were handled, from whatever medium and set the session began. The disk is the medium of
 -- some set.
-pub record HandledSoFar {K D : Type 0} (model : DiskModel D) (tell : List ℕ → List ℕ) (e : Election)
+pub record HandledSoFar {K D : Type 0} (model : StoreModel D) (tell : List ℕ → List ℕ) (e : Election)
     (first state : State) (index : ℕ) (kept : Kept) (text left : Option (List ℕ)) (start now : Around K D)
     : Type 0 where
-  pub medium : (set : List Ballot) × IsMediumNow model e set now.disk
+  pub media : AreSomeMedia model.disks e now.disk
   pub from_any : (set : List Ballot) (before : Around K D) → HasBegun model e set first before start
       → ReadSoFar (λ lines. SoFar model tell e set lines state index before now) kept text left
 
@@ -83,13 +85,13 @@ read_brought {next} {answer} bytes so_far brought answers progress within step =
 
 -- ---- a session that has just begun
 
-pub handled_none : {K D : Type 0} (model : DiskModel D) (tell : List ℕ → List ℕ) (e : Election) (state : State)
+pub handled_none : {K D : Type 0} (model : StoreModel D) (tell : List ℕ → List ℕ) (e : Election) (state : State)
     (kept : Kept) (text : Option (List ℕ)) (now : Around K D)
-    → ((set : List Ballot) × IsMediumNow model e set now.disk)
+    → AreSomeMedia model.disks e now.disk
     → kept.text ≡ [] → kept.room ≡ script_limit → kept.ended ≡ false
     → HandledSoFar model tell e state state 0 kept text text now now
-handled_none model tell e state kept text now medium none room not_ended = record {
-  medium = medium;
+handled_none model tell e state kept text now media none room not_ended = record {
+  media = media;
   from_any = λ set before starts. read_nothing {P = λ lines. SoFar model tell e set lines state 0 before now} kept none
       room not_ended (begins model tell e set state before now starts);
 }
@@ -98,29 +100,20 @@ handled_none model tell e state kept text now medium none room not_ended = recor
 pub went_on : {S K D : Type 0} (model : DiskModel D) (tell_own tell : List ℕ → List ℕ) (own e : Election)
     (state : State) (answer : Result (Unit {0}) RunFault) (old new : Input S) (mid after : Around K D)
     (set : List Ballot) (before : Around K D) → tell_own ≡ tell → own ≡ e
-    → GoesOn model tell_own own state answer old new mid after → HasBegun model e set state before mid
+    → GoesOn (one_store model) tell_own own state answer old new mid after → HasBegun (one_store model) e set state before mid
     → SessionEnds model tell e answer old new before after
 went_on {S} {K} model tell_own tell own e state answer old new mid after set before told same goes starts =
-    of_both answer (subst (λ (e : Election). HasBegun model e set state before mid
-    → Begun model tell e answer old new before after) same
-    (subst (λ (tell : List ℕ → List ℕ). HasBegun model own set state before mid
-    → Begun model tell own answer old new before after) told (λ starts. (goes set before starts).0)) starts)
+    of_both answer (subst (λ (e : Election). HasBegun (one_store model) e set state before mid
+    → Begun (one_store model) tell e answer old new before after) same
+    (subst (λ (tell : List ℕ → List ℕ). HasBegun (one_store model) own set state before mid
+    → Begun (one_store model) tell own answer old new before after) told (λ starts. (goes set before starts).0)) starts)
   where
-    of_both : (answer : Result (Unit {0}) RunFault) → Begun model tell e answer old new before after
+    of_both : (answer : Result (Unit {0}) RunFault) → Begun (one_store model) tell e answer old new before after
         → SessionEnds model tell e answer old new before after
     of_both (Ok done) begun = begun
     of_both (Err fault) begun = inr begun
 
 -- ---- after lines that were handled
-
--- the disk stays the medium of some set
-medium_then : {D : Type 0} (model : DiskModel D) (e : Election) (more : List (List Ballot)) (mid now : D)
-    (marks marks_now : List ℕ) → ((set : List Ballot) × IsMediumNow model e set mid)
-    → Acknowledges model e more mid now marks marks_now → (set : List Ballot) × IsMediumNow model e set now
-medium_then {D} model e [] mid now marks marks_now medium same =
-    subst (λ (d : D). (set : List Ballot) × IsMediumNow model e set d) (sym same.0) medium
-medium_then model e (set ∷ []) mid now marks marks_now medium did = (set, did.0.now)
-medium_then model e (a ∷ b ∷ more) mid now marks marks_now medium did = absurd did
 
 -- what `next_line` answers for a fault
 abbrev pub as_answer : LineEndFault → Result NextLine LineEndFault
@@ -131,7 +124,7 @@ abbrev pub as_run : Result (Unit {0}) SessionFault → Result (Unit {0}) RunFaul
 as_run (Ok done) = Ok done
 as_run (Err why) = Err (session_fault why)
 
-module _ {S K D : Type 0} (model : DiskModel D) (tell : List ℕ → List ℕ) (e : Election) (election : IsElection e)
+module _ {S K D : Type 0} (model : StoreModel D) (tell : List ℕ → List ℕ) (e : Election) (election : IsElection e)
     (first state : State) (index : ℕ) (kept next : Kept) (old mid new : Input S) (start now : Around K D)
     (so_far : HandledSoFar model tell e first state index kept old.left mid.left start now)
     (same : mid.faults ≡ old.faults) where
@@ -168,38 +161,41 @@ module _ {S K D : Type 0} (model : DiskModel D) (tell : List ℕ → List ℕ) (
     module _ (bytes : List ℕ) (brought : IsBrought answer next.line bytes)
         (progress : answer ≢ End → next.room < kept.room) (within : length next.text ≤ next.room + 1) where
       -- a line came, and was handled, by a session that has counted its ballots
-      was_handled : (then_state : State) (after : Around K D) → ((set : List Ballot) × IsMediumNow model e set after.disk)
+      was_handled : (then_state : State) (after : Around K D) → AreSomeMedia model.disks e after.disk
           → (now.held ≡ length state.set → IsHandled model tell e (index + 1) state bytes then_state now after)
+          → (begun : Option (ℕ × ℕ)) → AddsRow model.disks after.disk begun now.marks after.marks now.others after.others
           → HandledSoFar model tell e first then_state (index + 1) next old.left new.left start after
-      was_handled then_state after medium did = record {
-        medium = medium;
+      was_handled then_state after media did begun adds = record {
+        media = media;
         from_any = λ set before starts. read_brought
             {P = λ lines. SoFar model tell e set lines state index before now}
             {Q = λ lines. SoFar model tell e set lines then_state (index + 1) before after}
             bytes (so_far.from_any set before starts) brought answers progress within
             (λ line lines handed so_far. handled_more model tell e set lines state then_state index before now after
-            line bytes election handed so_far (did so_far.held));
+            line bytes begun election handed so_far (did so_far.held) adds);
       }
 
       pub handled : (then_state : State) (after : Around K D)
-          → IsHandled model tell e (index + 1) state bytes then_state now after
+          → IsHandled model tell e (index + 1) state bytes then_state now after → (begun : Option (ℕ × ℕ))
+          → AddsRow model.disks after.disk begun now.marks after.marks now.others after.others
           → HandledSoFar model tell e first then_state (index + 1) next old.left new.left start after
       handled then_state after did = was_handled then_state after
-          (medium_then model e did.effect.acknowledged now.disk after.disk now.marks after.marks so_far.medium
-          did.done.acknowledged) (λ held. did)
+          (media_kept model.disks e did.effect.acknowledged now.disk after.disk now.marks after.marks did.done.acknowledged
+          so_far.media) (λ held. did)
 
       -- or what it brings waits
       pub queued : (then_state : State) → tell [] ≡ []
-          → AnswersLine e (index + 1) state (Some bytes) (replies [] then_state) → then_state.set ≡ state.set
+          → AnswersBy (model.closes e) e (index + 1) state (Some bytes) (replies [] then_state) → then_state.set ≡ state.set
           → HandledSoFar model tell e first then_state (index + 1) next old.left new.left start now
-      queued then_state none_told did same_set = was_handled then_state now so_far.medium
-          (queued_is model tell e state then_state index now bytes none_told did same_set)
+      queued then_state none_told did same_set = was_handled then_state now so_far.media
+          (queued_is model tell e state then_state index now bytes none_told did same_set) None (inl (refl, refl))
 
       -- or was not handled to its end
       pub failed : (why : SessionFault) (after : Around K D)
-          → LineEnds model tell e (index + 1) state bytes (Err why) now after
+          → LineEnds model tell e (index + 1) state bytes (Err why) now after → (begun : Option (ℕ × ℕ))
+          → AddsRow model.disks after.disk begun now.marks after.marks now.others after.others
           → GoesOn model tell e first (Err (session_fault why)) old new start after
-      failed why after ends set before starts =
+      failed why after ends begun adds set before starts =
           let was = so_far.from_any set before starts in
           let few = few_given was answers within in
           let read = read_first (read_brought {Q = Last set before} bytes was brought answers progress within
@@ -208,7 +204,7 @@ module _ {S K D : Type 0} (model : DiskModel D) (tell : List ℕ → List ℕ) (
           let told = subst (λ (ls : List (Option (List ℕ))). OfScript old new (StopsBehind ls)) last.3
           (told_with read.told few) in
           line_failed model tell e election set first before start starts last.2 state index now last.4 old new last.0
-          bytes last.1 told (steady ∙ same) after why ends
+          bytes last.1 told (steady ∙ same) after begun adds why ends
         where
           -- all of these lines but the last one were handled
           Last : List Ballot → Around K D → List (Option (List ℕ)) → Type 0

@@ -2,8 +2,10 @@ pub mod Acknowledging
 pub mod Beginning
 pub mod Ending
 pub mod Going
+pub mod Handling
 pub mod Marks
 pub mod Plays
 pub mod Queued
+pub mod Rows
 pub mod SoFar
 pub mod Stops

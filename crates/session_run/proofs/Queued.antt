@@ -2,15 +2,15 @@
 use Rattle.std.proofs.Common.{◌≡◌, ℕ, ◌+◌, Bool, true, false, List, [], length, Some, refl, ap, sym, subst, ◌∙◌}
 use Rattle.outside_io.specs.Stream.{TakesAll}
 use Rattle.phase_gate.specs.Around.{Around}
+use Rattle.any_store.specs.Disks.{StoreModel}
 use Rattle.phase_gate.specs.Gate.{IsQueued}
 use Rattle.phase_gate.specs.LineEnds.{IsHandled}
 use Rattle.phase_gate.specs.Telling.{told_by}
 use Rattle.phase_gate.specs.declared.telling.Telling.{Telling}
 use Rattle.phase_gate.specs.declared.telling.Telling.TheVariants.{All, Summary}
 use Rattle.session_run.proofs.Beginning.{takes_none}
-use Rattle.store_spec.specs.Disk.{DiskModel}
 use Rattle.store_spec.specs.Election.{Election}
-use Rattle.store_spec.specs.Session.{Answers, Effect, State, replies}
+use Rattle.store_spec.specs.Session.{AnswersBy, Effect, State, replies}
 
 -- what a line did that was queued
 pub was_queued : (waits : Bool) (Did : Effect → Type 0) (old new : State) → waits ≡ true
@@ -30,9 +30,9 @@ told_nothing All = refl
 told_nothing Summary = refl
 
 -- such a line was handled
-pub queued_is : {K D : Type 0} (model : DiskModel D) (tell : List ℕ → List ℕ) (e : Election) (state next : State)
+pub queued_is : {K D : Type 0} (model : StoreModel D) (tell : List ℕ → List ℕ) (e : Election) (state next : State)
     (index : ℕ) (now : Around K D) (bytes : List ℕ) → tell [] ≡ []
-    → Answers e (index + 1) state (Some bytes) (replies [] next) → next.set ≡ state.set
+    → AnswersBy (model.closes e) e (index + 1) state (Some bytes) (replies [] next) → next.set ≡ state.set
     → now.held ≡ length state.set → IsHandled model tell e (index + 1) state bytes next now now
 queued_is model tell e state next index now bytes none_told answers same held = record {
   effect = replies [] next;

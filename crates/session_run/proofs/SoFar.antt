@@ -5,26 +5,27 @@ use Rattle.std.proofs.lemmas.Grind.{flat_map-append}
 use Rattle.std.proofs.lemmas.List.{append-nil, append_assoc}
 use Rattle.outside_io.specs.Stream.{TakesAll}
 use Rattle.phase_gate.specs.Around.{Around}
+use Rattle.any_store.specs.Disks.{StoreModel}
+use Rattle.phase_gate.specs.Beside.{AddsRow}
 use Rattle.phase_gate.specs.LineEnds.{IsHandled}
 use Rattle.session_run.proofs.Acknowledging.{acknowledged_then}
 use Rattle.session_run.proofs.Plays.{one_more}
-use Rattle.session_run.specs.History.{Acknowledged, written_by}
+use Rattle.session_run.specs.History.{AreAcknowledged, written_by}
 use Rattle.store_spec.specs.Ballot.{Ballot}
-use Rattle.store_spec.specs.Disk.{DiskModel}
 use Rattle.store_spec.specs.Election.{Election, IsElection}
 use Rattle.store_spec.specs.ScriptLine.{Says, ScriptLine}
 use Rattle.store_spec.specs.ScriptLine.ScriptLine.{Open, Cast, CastInvalid, Withdraw, Find, Close, Checkpoint, Tally, Export}
 use Rattle.store_spec.specs.ScriptLine.Work.{Casting, Withdrawing, Finding}
-use Rattle.store_spec.specs.Session.{Answers, Effect, Plays, State, acknowledged_in, begun}
+use Rattle.store_spec.specs.Session.{AnswersBy, Closes, Effect, PlaysBy, State, acknowledged_in, begun}
 
 -- these lines were handled, one after another, and their replies written
-pub record SoFar {K D : Type 0} (model : DiskModel D) (tell : List ℕ → List ℕ) (e : Election) (set : List Ballot)
+pub record SoFar {K D : Type 0} (model : StoreModel D) (tell : List ℕ → List ℕ) (e : Election) (set : List Ballot)
     (lines : List (Option (List ℕ))) (state : State) (index : ℕ) (before now : Around K D) : Type 0 where
   pub effects : List Effect
-  pub plays : Plays e 1 (begun set) lines effects state
+  pub plays : PlaysBy (model.closes e) e 1 (begun set) lines effects state
   pub counted : index ≡ length lines
   pub taken : TakesAll before.sink.taken (written_by tell effects) now.sink.taken
-  pub acknowledged : Acknowledged model e set (acknowledged_in effects) before.disk now.disk now.marks
+  pub acknowledged : AreAcknowledged model.disks e set (acknowledged_in effects) before.disk now.disk now.marks now.others
   pub held : now.held ≡ length state.set
   pub no_fault : now.sink.faults ≡ before.sink.faults
 
@@ -50,9 +51,9 @@ nothing_says e Tally says = cc
 nothing_says e Export says = cc
 
 -- a line that is too wide is answered as an empty one
-pub answers_wide : (e : Election) (n : ℕ) (s : State) (effect : Effect) → Answers e n s (Some []) effect
-    → Answers e n s None effect
-answers_wide e n s effect answers =
+pub answers_wide : (closes : Closes) (e : Election) (n : ℕ) (s : State) (effect : Effect)
+    → AnswersBy closes e n s (Some []) effect → AnswersBy closes e n s None effect
+answers_wide closes e n s effect answers =
     ⊎_elim (λ malformed. malformed.1) (λ says. absurd (nothing_says e says.0 says.1)) answers
 
 -- the line that was taken, and what was handed to the session for it
@@ -60,35 +61,37 @@ pub data IsHanded : Option (List ℕ) → List ℕ → Type 0 where
   whole : (bytes : List ℕ) → IsHanded (Some bytes) bytes
   wide : IsHanded None []
 
-pub answers_handed : (e : Election) (n : ℕ) (s : State) (line : Option (List ℕ)) (bytes : List ℕ) (effect : Effect)
-    → IsHanded line bytes → Answers e n s (Some bytes) effect → Answers e n s line effect
-answers_handed e n s _ _ effect (whole bytes) answers = answers
-answers_handed e n s _ _ effect wide answers = answers_wide e n s effect answers
+pub answers_handed : (closes : Closes) (e : Election) (n : ℕ) (s : State) (line : Option (List ℕ)) (bytes : List ℕ) (effect : Effect)
+    → IsHanded line bytes → AnswersBy closes e n s (Some bytes) effect → AnswersBy closes e n s line effect
+answers_handed closes e n s _ _ effect (whole bytes) answers = answers
+answers_handed closes e n s _ _ effect wide answers = answers_wide closes e n s effect answers
 
 -- one line more
-pub handled_more : {K D : Type 0} (model : DiskModel D) (tell : List ℕ → List ℕ) (e : Election) (set : List Ballot)
+pub handled_more : {K D : Type 0} (model : StoreModel D) (tell : List ℕ → List ℕ) (e : Election) (set : List Ballot)
     (lines : List (Option (List ℕ))) (state next : State) (index : ℕ) (before mid now : Around K D)
-    (line : Option (List ℕ)) (bytes : List ℕ)
+    (line : Option (List ℕ)) (bytes : List ℕ) (begun_with : Option (ℕ × ℕ))
     → IsElection e → IsHanded line bytes → SoFar model tell e set lines state index before mid
     → IsHandled model tell e (index + 1) state bytes next mid now
+    → AddsRow model.disks now.disk begun_with mid.marks now.marks mid.others now.others
     → SoFar model tell e set (lines ++ line ∷ []) next (index + 1) before now
-handled_more model tell e set lines state next index before mid now line bytes election handed so_far did =
+handled_more model tell e set lines state next index before mid now line bytes begun_with election handed so_far did adds =
     let effect = did.effect in
     let is : index + 1 ≡ 1 + length lines = omega (arith, so_far.counted) in
-    let answers = subst (λ n. Answers e n state line effect) is
-    (answers_handed e (index + 1) state line bytes effect handed did.answers) in
+    let answers = subst (λ n. AnswersBy (model.closes e) e n state line effect) is
+    (answers_handed (model.closes e) e (index + 1) state line bytes effect handed did.answers) in
     record {
       effects = so_far.effects ++ effect ∷ [];
-      plays = subst (λ (s : State). Plays e 1 (begun set) (lines ++ line ∷ []) (so_far.effects ++ effect ∷ []) s)
-          (sym did.next_state) (one_more e 1 (begun set) lines so_far.effects state line effect so_far.plays answers);
+      plays = subst (λ (s : State). PlaysBy (model.closes e) e 1 (begun set) (lines ++ line ∷ []) (so_far.effects ++ effect ∷ []) s)
+          (sym did.next_state) (one_more (model.closes e) e 1 (begun set) lines so_far.effects state line effect so_far.plays answers);
       counted = omega (arith, so_far.counted, length-append lines (line ∷ []));
       taken = subst (λ bytes. TakesAll before.sink.taken bytes now.sink.taken)
           (sym (written_more so_far.effects effect)) (taken_then before.sink.taken mid.sink.taken now.sink.taken
           (written_by tell so_far.effects) (tell effect.reply) so_far.taken did.taken);
-      acknowledged = subst (λ sets. Acknowledged model e set sets before.disk now.disk now.marks)
+      acknowledged = subst (λ sets. AreAcknowledged model.disks e set sets before.disk now.disk now.marks now.others)
           (sym (acknowledged_more so_far.effects effect))
-          (acknowledged_then model e election set (acknowledged_in so_far.effects) effect.acknowledged before.disk
-          mid.disk now.disk mid.marks now.marks so_far.acknowledged did.done.acknowledged);
+          (acknowledged_then e election set before.disk mid.disk now.disk model.disks (acknowledged_in so_far.effects)
+          effect.acknowledged begun_with mid.marks now.marks mid.others now.others so_far.acknowledged
+          did.done.acknowledged adds);
       held = did.done.held ∙ ap (λ (s : State). length s.set) (sym did.next_state);
       no_fault = did.no_fault ∙ so_far.no_fault;
     }

@@ -6,11 +6,12 @@ use Rattle.outside_io.specs.Reading.Ending.{Faulted, ReadOut, TooMuch}
 use Rattle.outside_io.specs.Stream.{GivesAtMost, TakesAll}
 use Rattle.outside_io.specs.Told.{IfTold}
 use Rattle.phase_gate.specs.Around.{Around}
+use Rattle.any_store.specs.Disks.{OnEach, StoreModel, one_store, share_of}
 use Rattle.recovery.specs.Refused.{IsRefusedMedium, IsUnchangedAt, IsUnharmedAt}
 use Rattle.recovery.specs.declared.fault.RecoverFault.{RecoverFault}
 use Rattle.recovery.specs.declared.fault.RecoverFault.TheVariants as recover
 use Rattle.session_run.specs.Faults.{recover_fault}
-use Rattle.session_run.specs.History.{Acknowledged, AreMarks, HoldsOnceSynced, LosesNothing, LosesNothingOnceSynced, Wrote, written_by}
+use Rattle.session_run.specs.History.{AreAcknowledged, AreTried, FailsOnOne, HoldsOnceSynced, LosesNothing, Wrote, latest, written_by}
 use Rattle.session_run.specs.declared.fault.RunFault.{RunFault}
 use Rattle.session_run.specs.declared.fault.RunFault.TheVariants.{TooLong, ReadFault, DiskFault, WriteFault, Memory}
 use Rattle.store_spec.specs.Ballot.{Ballot, IsBallotSet, IsWithinLimit}
@@ -21,7 +22,7 @@ use Rattle.store_spec.specs.Input.{script_limit}
 use Rattle.store_spec.specs.Medium.{HoldsSet}
 use Rattle.store_spec.specs.ScriptLine.{Says}
 use Rattle.store_spec.specs.ScriptLine.ScriptLine.{Checkpoint}
-use Rattle.store_spec.specs.Session.{Answers, Effect, Plays, State, acknowledged_in, begun, last_reply}
+use Rattle.store_spec.specs.Session.{AnswersBy, Closes, Effect, PlaysBy, State, acknowledged_in, begun, last_reply}
 use Rattle.store_spec.specs.Session.Phase.{Closed}
 
 -- ---- no session began
@@ -60,24 +61,24 @@ StopsBehind lines text left = ReadFirst text left lines × GivesAtMost (script_l
 
 -- This is the reply that comes next, to one more line of the script or to its end, the sets that are acknowledged before
 -- it is written, and how many ballots are held then.
-pub data ComesNext {S : Type 0} (e : Election) (lines : List (Option (List ℕ))) (state : State) (old new : Input S)
+pub data ComesNext {S : Type 0} (closes : Closes) (e : Election) (lines : List (Option (List ℕ))) (state : State) (old new : Input S)
     (reply : List ℕ) (more : List (List Ballot)) (held : ℕ) : Type 0 where
   to_line : (line : Option (List ℕ)) (effect : Effect)
       → OfScript old new (StopsBehind (lines ++ line ∷ []))
-      → Answers e (length lines + 1) state line effect
+      → AnswersBy closes e (length lines + 1) state line effect
       → reply ≡ effect.reply → more ≡ effect.acknowledged → held ≡ length effect.next.set
-      → ComesNext e lines state old new reply more held
+      → ComesNext closes e lines state old new reply more held
   to_end : OfScript old new (λ text left. ReadLines ReadOut text left lines)
       → reply ≡ last_reply state.phase → more ≡ [] → held ≡ length state.set
-      → ComesNext e lines state old new reply more held
+      → ComesNext closes e lines state old new reply more held
 
 -- of what is told of the reply that comes next a part was written
-pub record IsInterrupted {S K D : Type 0} (model : DiskModel D) (tell : List ℕ → List ℕ) (e : Election)
+pub record IsInterrupted {S K D : Type 0} (model : StoreModel D) (tell : List ℕ → List ℕ) (e : Election)
     (set : List Ballot) (lines : List (Option (List ℕ))) (effects : List Effect) (state : State) (old new : Input S)
     (before after : Around K D) : Type 0 where
   pub reply : List ℕ
   pub more : List (List Ballot)
-  pub next : ComesNext e lines state old new reply more after.held
+  pub next : ComesNext (model.closes e) e lines state old new reply more after.held
   pub count : ℕ
   pub wrote : Wrote model tell e set effects (take count (tell reply)) more before after
 
@@ -91,24 +92,16 @@ pub record IsAtCheckpoint {S K D : Type 0} (tell : List ℕ → List ℕ) (e : E
   pub taken : TakesAll before.sink.taken (written_by tell effects) after.sink.taken
   pub held : after.held ≡ length state.set
 
--- these sets were acknowledged at these marks, and one more was tried, in vain
-pub record Tried {D : Type 0} (model : DiskModel D) (e : Election) (set : List Ballot) (before after : D)
-    (marks : List ℕ) (acknowledged : List (List Ballot)) (tried : List Ballot) : Type 0 where
-  pub told : is_some (model.seen after) ≡ is_some (model.seen before)
-  pub marked : AreMarks (model.calls before) marks acknowledged (model.calls after)
-  pub crashes : LosesNothing model e set before after marks acknowledged (tried ∷ [])
-  pub once_synced : LosesNothingOnceSynced model e set before after marks acknowledged (tried ∷ [])
-
--- the next line is a checkpoint, and the disk failed at it
-pub record IsDiskFailed {S K D : Type 0} (model : DiskModel D) (tell : List ℕ → List ℕ) (e : Election)
+-- the next line is a checkpoint, and one of the disks failed at it
+pub record IsDiskFailed {S K D : Type 0} (model : StoreModel D) (tell : List ℕ → List ℕ) (e : Election)
     (set : List Ballot) (lines : List (Option (List ℕ))) (effects : List Effect) (state : State) (old new : Input S)
     (before after : Around K D) : Type 0 where
   pub stops : IsAtCheckpoint tell e lines effects state old new before after
-  pub tried : Tried model e set before.disk after.disk after.marks (acknowledged_in effects) state.set
-  pub rose : Rose (model.faults before.disk) (model.faults after.disk)
+  pub tried : AreTried model.disks e set before.disk after.disk after.marks after.others (acknowledged_in effects) state.set
+  pub rose : FailsOnOne model.disks e (latest set (acknowledged_in effects)) state.set before.disk after.disk
 
 -- how the handling of lines ended, once these were handled, where `tell` says what is told of a reply
-abbrev pub HandlingEnds : {S K D : Type 0} → DiskModel D → (List ℕ → List ℕ) → Election → List Ballot
+abbrev pub HandlingEnds : {S K D : Type 0} → StoreModel D → (List ℕ → List ℕ) → Election → List Ballot
     → List (Option (List ℕ)) → List Effect → State → Result (Unit {0}) RunFault → Input S → Input S → Around K D
     → Around K D → Type 0
 HandlingEnds model tell e set lines effects state (Ok done) old new before after =
@@ -136,40 +129,42 @@ HandlingEnds model tell e set lines effects state (Err Memory) old new before af
     × (new.faults ≡ old.faults) × (after.sink.faults ≡ before.sink.faults)
 HandlingEnds model tell e set lines effects state (Err other) old new before after = ⊥
 
--- A session began with the set that the medium held, and handled lines one after another.
-pub record Begun {S K D : Type 0} (model : DiskModel D) (tell : List ℕ → List ℕ) (e : Election)
+-- A session began with the set that the disks held, each its share, and handled lines one after another.
+pub record Begun {S K D : Type 0} (model : StoreModel D) (tell : List ℕ → List ℕ) (e : Election)
     (answer : Result (Unit {0}) RunFault) (old new : Input S) (before after : Around K D) : Type 0 where
   pub set : List Ballot
-  pub held : IfSome (model.seen before.disk) (λ bytes. HoldsSet e bytes set)
+  pub held : OnEach model.disks (λ model share. IfSome (model.seen before.disk)
+      (λ bytes. HoldsSet e bytes (share_of share set)))
   pub legal : IsBallotSet e set
-  pub within_limit : IsWithinLimit e set
+  pub within_limit : OnEach model.disks (λ _ share. IsWithinLimit e (share_of share set))
   pub lines : List (Option (List ℕ))
   pub effects : List Effect
   pub state : State
-  pub plays : Plays e 1 (begun set) lines effects state
+  pub plays : PlaysBy (model.closes e) e 1 (begun set) lines effects state
   pub ends : HandlingEnds model tell e set lines effects state answer old new before after
 
 -- It began with this set.
-abbrev pub BegunWith : {S K D : Type 0} → DiskModel D → (List ℕ → List ℕ) → Election → List Ballot
+abbrev pub BegunWith : {S K D : Type 0} → StoreModel D → (List ℕ → List ℕ) → Election → List Ballot
     → Result (Unit {0}) RunFault → Input S → Input S → Around K D → Around K D → Type 0
 BegunWith model tell e set answer old new before after =
     (one : Begun model tell e answer old new before after) × (one.set ≡ set)
 
 -- ---- a session that has just begun
 
--- The recovery of a medium has handed out this set, in this state of a session, and no line was handled yet.
-pub record HasBegun {K D : Type 0} (model : DiskModel D) (e : Election) (set : List Ballot) (state : State)
+-- A recovery has handed out this set, in this state of a session, and no line was handled yet.
+pub record HasBegun {K D : Type 0} (model : StoreModel D) (e : Election) (set : List Ballot) (state : State)
     (before now : Around K D) : Type 0 where
-  pub held : IfSome (model.seen before.disk) (λ bytes. HoldsSet e bytes set)
+  pub held : OnEach model.disks (λ model share. IfSome (model.seen before.disk)
+      (λ bytes. HoldsSet e bytes (share_of share set)))
   pub legal : IsBallotSet e set
-  pub within_limit : IsWithinLimit e set
+  pub within_limit : OnEach model.disks (λ _ share. IsWithinLimit e (share_of share set))
   pub state_is : state ≡ begun set
   pub sink : now.sink ≡ before.sink
-  pub acknowledged : Acknowledged model e set [] before.disk now.disk now.marks
+  pub acknowledged : AreAcknowledged model.disks e set [] before.disk now.disk now.marks now.others
   pub count : now.held ≡ length set
 
 -- Whatever medium and set it began with, it was handled as a run promises.
-abbrev pub GoesOn : {S K D : Type 0} → DiskModel D → (List ℕ → List ℕ) → Election → State
+abbrev pub GoesOn : {S K D : Type 0} → StoreModel D → (List ℕ → List ℕ) → Election → State
     → Result (Unit {0}) RunFault → Input S → Input S → Around K D → Around K D → Type 0
 GoesOn {K} {D} model tell e state answer old new now after = (set : List Ballot) (before : Around K D)
     → HasBegun model e set state before now → BegunWith model tell e set answer old new before after
@@ -180,7 +175,7 @@ GoesOn {K} {D} model tell e state answer old new now after = (set : List Ballot)
 -- refused, or a session began.
 abbrev pub SessionEnds : {S K D : Type 0} → DiskModel D → (List ℕ → List ℕ) → Election → Result (Unit {0}) RunFault
     → Input S → Input S → Around K D → Around K D → Type 0
-SessionEnds model tell e (Ok done) old new before after = Begun model tell e (Ok done) old new before after
+SessionEnds model tell e (Ok done) old new before after = Begun (one_store model) tell e (Ok done) old new before after
 SessionEnds model tell e (Err fault) old new before after =
     ((why : RecoverFault) × (fault ≡ recover_fault why) × NotBegun model e why old new before after)
-    ⊎ Begun model tell e (Err fault) old new before after
+    ⊎ Begun (one_store model) tell e (Err fault) old new before after

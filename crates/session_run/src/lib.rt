@@ -5,4 +5,4 @@ mod fault;
 mod run;
 
 pub use fault::RunFault;
-pub use run::{play, run_session};
+pub use run::{play, play_by, run_session};

@@ -1,23 +1,32 @@
 ghost use Rattle.std.specs.Prelude.{◌≡◌, ◌≤◌, [], All, List, false, IfOk, IsErrOf, OnOk};
 ghost use Rattle.outside_io.specs.Outside.{input, output};
-ghost use Rattle.phase_gate.specs.Around.{around};
-ghost use Rattle.phase_gate.specs.Beside.{AreBeside};
-ghost use Rattle.phase_gate.specs.Checkpointed.{IsMediumNow};
+ghost use Rattle.phase_gate.specs.Around.{around, rows_of};
+ghost use Rattle.phase_gate.specs.Beside.{AddsRow, AreBeside};
+ghost use Rattle.any_store.specs.Beside.{AreRows};
+ghost use Rattle.any_store.specs.Checkpointed.{AreMedia, IsMediumNow};
+ghost use Rattle.any_store.specs.Disks.{first_of, one_store, store_model};
+ghost use Rattle.any_store.specs.Disks.StoreDisks.{Alone};
 ghost use Rattle.phase_gate.specs.LineEnds.{LineEnds, state_left};
+ghost use Rattle.phase_gate.specs.Replies.{ClosesBy, PlaysPhases, words_of};
+ghost use Rattle.phase_gate.specs.Standing.{MayWait};
 ghost use Rattle.phase_gate.specs.Telling.{told_by};
+ghost use Rattle.phase_gate.specs.Work.{AreOf, phase_of};
 ghost use Rattle.session_run.specs.Ends.{GoesOn, SessionEnds};
 ghost use Rattle.session_run.specs.History.{Stands, Stood};
 ghost use Rattle.store_spec.specs.Ballot.{Ballot};
 ghost use Rattle.store_spec.specs.Disk.{disk_model};
 ghost use Rattle.store_spec.specs.Election.{IsElection};
 ghost use Rattle.store_spec.specs.Input.{script_limit};
+ghost use Rattle.store_spec.specs.Session.{Phase as phases, closing, of_one_store};
 
 use crate::fault::RunFault;
+use any_store::{Disks, Store};
 use ballot_record::{Election, Record};
+use body_store::Closed;
 use crash_disk::Disk;
 use image_builder::Scratch;
-use outside_io::{Lines, NextLine, Sink, Source, Turns};
-use phase_gate::{Report, Session, SessionFault, Telling};
+use outside_io::{Lines, Memory, NextLine, Sink, Source, Turns};
+use phase_gate::{Replies, Report, Session, SessionFault, Telling, Work, play_phase};
 use recovery::recover;
 use std::alloc::Global;
 use std::thread::Threads;
@@ -68,11 +77,11 @@ pub fn run_session<R: Threads + Sync, S: Source, K: Sink, D: Disk, T: Turns>(
     )
 }
 
-/// Handles a script line by line, in a session that has just begun, with a reader that has read nothing yet.
+/// The same of a closed store and its disk.
 pub fn play<R: Threads + Sync, S: Source, K: Sink, D: Disk, T: Turns>(
     rt: &R,
     alloc: Global,
-    mut session: Session,
+    session: Session,
     lines: &mut Lines,
     script: &mut S,
     out: &mut K,
@@ -89,17 +98,70 @@ pub fn play<R: Threads + Sync, S: Source, K: Sink, D: Disk, T: Turns>(
     requires not_ended { lines.old.ended ≡ false }
     requires marks { report.old.marks.items ≡ [] }
     requires others { AreBeside report.old.begun report.old.marks.items report.old.others.items }
-    ensures ends { GoesOn (disk_model D.seen D.calls D.may_leave D.faults) (told_by session.telling)
+    ensures ends { GoesOn (one_store (disk_model D.seen D.calls D.may_leave D.faults)) (told_by session.telling)
         session.election session.state result
         (input S.left S.faults script.old) (input S.left S.faults script.new)
         (around (output K.taken K.faults out.old) disk.old report.old)
         (around (output K.taken K.faults out.new) disk.new report.new) }
     ensures others { AreBeside report.new.begun report.new.marks.items report.new.others.items }
     ensures begun { report.new.begun ≡ report.old.begun }
-    ensures stood { Stood (disk_model D.seen D.calls D.may_leave D.faults)
+    ensures stood { Stood (Alone (disk_model D.seen D.calls D.may_leave D.faults))
         D.leads_to disk.old disk.new report.new.marks.items }
     ensures leads { D.leads_to disk.old disk.new }
     ensures fails { IsErrOf result RunFault.DiskFault → D.fails_to disk.old disk.new }
+{
+    let phases = |store: Closed, work: Work| -> Result<(Closed, Replies), Memory>
+        requires waiting { MayWait store.election (phase_of work) }
+        requires lists { AreOf store.election work }
+        requires open { ¬ (phase_of work ≡ phases.Closed) }
+        ensures election { IfOk result (λ played. played.0.election ≡ store.election) }
+        ensures closes { IfOk result (λ played. ClosesBy (of_one_store store.election) store.ballots
+            (phase_of work) (closing (words_of played.1) played.0.ballots)) }
+    { play_phase(rt, alloc, store, work, turns) };
+    play_by(
+        rt, alloc, session, lines, script, out, disk, &phases, scratch, report,
+    )
+}
+
+/// Handles a script line by line, in a session that has just begun, with a reader that has read nothing yet. `play` plays
+/// the phases of its store.
+pub fn play_by<R, S, K, Y, M, F>(
+    rt: &R,
+    alloc: Global,
+    mut session: Session<Y>,
+    lines: &mut Lines,
+    script: &mut S,
+    out: &mut K,
+    disks: &mut M,
+    play: &F,
+    scratch: &mut Scratch,
+    report: &mut Report,
+) -> Result<(), RunFault>
+where
+    R: Threads + Sync,
+    S: Source,
+    K: Sink,
+    Y: Store,
+    M: Disks<Y>,
+    F: Fn(Y, Work) -> Result<(Y, Replies), Memory>,
+    requires plays { PlaysPhases Y.election Y.ballots Y.closes F.pre F.post play.now }
+    requires election { IsElection session.election }
+    requires media { (set : List Ballot) × AreMedia M.disks session.election set disks.old }
+    requires nothing_kept { lines.old.text ≡ [] }
+    requires room { lines.old.room ≡ script_limit }
+    requires not_ended { lines.old.ended ≡ false }
+    requires marks { report.old.marks.items ≡ [] }
+    requires others { AreRows M.disks report.old.begun report.old.marks.items (rows_of report.old) }
+    ensures ends { GoesOn (store_model Y.closes M.disks) (told_by session.telling)
+        session.election session.state result
+        (input S.left S.faults script.old) (input S.left S.faults script.new)
+        (around (output K.taken K.faults out.old) disks.old report.old)
+        (around (output K.taken K.faults out.new) disks.new report.new) }
+    ensures others { AreRows M.disks report.new.begun report.new.marks.items (rows_of report.new) }
+    ensures begun { report.new.begun ≡ report.old.begun }
+    ensures stood { Stood M.disks M.leads_to disks.old disks.new report.new.marks.items }
+    ensures leads { M.leads_to disks.old disks.new }
+    ensures fails { IsErrOf result RunFault.DiskFault → M.fails_to disks.old disks.new }
 {
     let mut index = 0;
     let mut ballot = Record::blank();
@@ -114,48 +176,53 @@ pub fn play<R: Threads + Sync, S: Source, K: Sink, D: Disk, T: Turns>(
         // Nearly all lines bring what waits for the close of a phase. A session is moved for the others alone.
         if !session.queue(line, &mut ballot)? {
             session = handle(
-                rt, alloc, session, line, index, disk, out, turns, scratch, report,
+                rt, alloc, session, line, index, disks, out, play, scratch, report,
             )?;
         }
     }
 }
 
 /// Handles a line that does not wait for the close of a phase. The room for the list of a mark is taken before it, and
-/// the list of a mark that it made is added behind it, also where the line is refused.
-fn handle<R: Threads + Sync, K: Sink, D: Disk, T: Turns>(
+/// the list of a mark that it made is added behind it, also where the line is refused: no disk was called since.
+fn handle<R, K, Y, M, F>(
     rt: &R,
     alloc: Global,
-    session: Session,
+    session: Session<Y>,
     line: &[u8],
     index: u64,
-    disk: &mut D,
+    disks: &mut M,
     out: &mut K,
-    turns: &T,
+    play: &F,
     scratch: &mut Scratch,
     report: &mut Report,
-) -> Result<Session, SessionFault>
-    requires medium { (set : List Ballot) × IsMediumNow
-        (disk_model D.seen D.calls D.may_leave D.faults) session.election set disk.old }
-    requires marks { All (λ mark. mark ≤ D.calls disk.old) report.old.marks.items }
-    requires others { AreBeside report.old.begun report.old.marks.items report.old.others.items }
-    ensures ends { LineEnds (disk_model D.seen D.calls D.may_leave D.faults)
+) -> Result<Session<Y>, SessionFault>
+where
+    R: Threads + Sync,
+    K: Sink,
+    Y: Store,
+    M: Disks<Y>,
+    F: Fn(Y, Work) -> Result<(Y, Replies), Memory>,
+    requires plays { PlaysPhases Y.election Y.ballots Y.closes F.pre F.post play.now }
+    requires media { (set : List Ballot) × AreMedia M.disks session.election set disks.old }
+    requires marks { All (λ mark. mark ≤ (first_of M.disks).calls disks.old) report.old.marks.items }
+    requires others { AreRows M.disks report.old.begun report.old.marks.items (rows_of report.old) }
+    ensures ends { LineEnds (store_model Y.closes M.disks)
         (told_by session.telling) session.election index session.state line.now
         (state_left (λ session. session.state) result)
-        (around (output K.taken K.faults out.old) disk.old report.old)
-        (around (output K.taken K.faults out.new) disk.new report.new) }
+        (around (output K.taken K.faults out.old) disks.old report.old)
+        (around (output K.taken K.faults out.new) disks.new report.new) }
     ensures election { IfOk result (λ next. next.election ≡ session.election) }
     ensures telling { IfOk result (λ next. next.telling ≡ session.telling) }
-    ensures others { AreBeside report.new.begun report.new.marks.items report.new.others.items }
+    ensures rows { AddsRow M.disks disks.new report.new.begun report.old.marks.items report.new.marks.items
+        (rows_of report.old) (rows_of report.new) }
     ensures begun { report.new.begun ≡ report.old.begun }
-    ensures stands { OnOk result (Stands (disk_model D.seen D.calls D.may_leave D.faults)
-        disk.old disk.new report.new.marks.items) }
-    ensures stood { Stood (disk_model D.seen D.calls D.may_leave D.faults)
-        D.leads_to disk.old disk.new report.new.marks.items }
-    ensures leads { D.leads_to disk.old disk.new }
-    ensures fails { IsErrOf result SessionFault.DiskFault → D.fails_to disk.old disk.new }
+    ensures stands { OnOk result (Stands M.disks disks.old disks.new report.new.marks.items) }
+    ensures stood { Stood M.disks M.leads_to disks.old disks.new report.new.marks.items }
+    ensures leads { M.leads_to disks.old disks.new }
+    ensures fails { IsErrOf result SessionFault.DiskFault → M.fails_to disks.old disks.new }
 {
-    let list = report.room(alloc)?;
-    let answer = session.line(rt, alloc, line, index, disk, out, turns, scratch, report);
-    report.complete(list);
+    let list = report.room(alloc, disks.width(report.begun))?;
+    let answer = session.line_by(rt, alloc, line, index, disks, out, play, scratch, report);
+    report.complete::<Y, M>(disks, list);
     answer
 }

@@ -3,7 +3,7 @@
 -- On the version of an election depend the most contests and the most choices (`most_contests`, `most_choices`), and so
 -- which elections and record lines there are; the width of a mark set in a cell (`set_width`), and so the sizes of a
 -- cell, a bank and a medium; and the two bytes of the version in the header. Nothing else does.
-use Rattle.std.specs.Prelude.{◌≡◌, ◌≢◌, ℕ, ◌+◌, ◌-◌, ◌*◌, ◌^◌, ◌<◌, ◌≤◌, Bool, false, if◌then◌else◌, ◌==◌, List, [], ◌∷◌, length, All, slice_get, slice_index}
+use Rattle.std.specs.Prelude.{◌≢◌, ℕ, ◌+◌, ◌-◌, ◌*◌, ◌^◌, ◌<◌, ◌≤◌, Bool, false, if◌then◌else◌, ◌==◌, List, [], ◌∷◌, length, All, slice_get, slice_index}
 use Rattle.std.specs.Int.{bit_at}
 use Rattle.std.specs.Option.{option_map_or}
 

@@ -16,6 +16,8 @@ pub mod Input
 pub mod Layout
 pub mod Medium
 pub mod Measure
+pub mod PartFigures
+pub mod Parts
 pub mod Phase
 pub mod Probe
 pub mod Report

@@ -139,6 +139,15 @@ pub record ClosesFinding (set : List Ballot) (lists : List (List ℕ)) (effect :
   pub outcome : FindOutcome (numbers_of set) lines (numbers_of set)
   pub is : effect ≡ closing (map (map (λ a. find_text a.present)) lines) set
 
+-- What the close of a phase asks that may change the set: which effects it may have on a set, by what waits in the lists.
+pub record Closes : Type 1 where
+  pub casting : List Ballot → List (List Ballot) → Effect → Type 0
+  pub withdrawing : List Ballot → List (List ℕ) → Effect → Type 0
+
+-- what it asks of one store
+abbrev pub of_one_store : Election → Closes
+of_one_store e = record { casting = ClosesCasting e; withdrawing = ClosesWithdrawing }
+
 -- ---- a line
 
 -- nothing is done but to reply
@@ -150,37 +159,47 @@ abbrev pub queues : {X : Type 0} → ℕ → State → (List (List X) → Phase)
 queues n s phase lists tab x =
     if nat_le tab (length lists) then replies [] (in_phase (phase (queued lists tab x)) s.set) else stays s (refusal n (codes "invalid"))
 
--- what a line of a form does, by the phase
-abbrev pub Does : Election → ℕ → State → ScriptLine → Phase → Effect → Type 0
-Does e n s (Open work tabs) Closed effect =
+-- what a line of a form does, by the phase, where `closes` says what a close asks
+abbrev pub DoesBy : Closes → Election → ℕ → State → ScriptLine → Phase → Effect → Type 0
+DoesBy closes e n s (Open work tabs) Closed effect =
     effect ≡ replies (counted (phase_text (opened work tabs)) tabs) (in_phase (opened work tabs) s.set)
-Does e n s Checkpoint Closed effect =
+DoesBy closes e n s Checkpoint Closed effect =
     effect ≡ record { reply = counted (codes "checkpoint") (length s.set); acknowledged = s.set ∷ []; next = s }
-Does e n s Tally Closed effect = effect ≡ stays s (tally_text e s.set)
-Does e n s Export Closed effect = effect ≡ stays s (export_text e s.set)
-Does e n s (Cast tab b) (Casts lists) effect = effect ≡ queues n s Casts lists tab b
-Does e n s (CastInvalid tab) (Casts lists) effect = effect ≡ stays s (refusal n (codes "invalid"))
-Does e n s (Withdraw tab number) (Withdraws lists) effect = effect ≡ queues n s Withdraws lists tab number
-Does e n s (Find tab number) (Finds lists) effect = effect ≡ queues n s Finds lists tab number
-Does e n s Close (Casts lists) effect = ClosesCasting e s.set lists effect
-Does e n s Close (Withdraws lists) effect = ClosesWithdrawing s.set lists effect
-Does e n s Close (Finds lists) effect = ClosesFinding s.set lists effect
-Does e n s line phase effect = effect ≡ stays s (wrong_phase n phase)
+DoesBy closes e n s Tally Closed effect = effect ≡ stays s (tally_text e s.set)
+DoesBy closes e n s Export Closed effect = effect ≡ stays s (export_text e s.set)
+DoesBy closes e n s (Cast tab b) (Casts lists) effect = effect ≡ queues n s Casts lists tab b
+DoesBy closes e n s (CastInvalid tab) (Casts lists) effect = effect ≡ stays s (refusal n (codes "invalid"))
+DoesBy closes e n s (Withdraw tab number) (Withdraws lists) effect = effect ≡ queues n s Withdraws lists tab number
+DoesBy closes e n s (Find tab number) (Finds lists) effect = effect ≡ queues n s Finds lists tab number
+DoesBy closes e n s Close (Casts lists) effect = closes.casting s.set lists effect
+DoesBy closes e n s Close (Withdraws lists) effect = closes.withdrawing s.set lists effect
+DoesBy closes e n s Close (Finds lists) effect = ClosesFinding s.set lists effect
+DoesBy closes e n s line phase effect = effect ≡ stays s (wrong_phase n phase)
 
 -- What line number n, counted from 1, does in a state. A line that is too wide is malformed.
-abbrev pub Answers : Election → ℕ → State → Option (List ℕ) → Effect → Type 0
-Answers e n s None effect = effect ≡ stays s (refusal n (codes "malformed"))
-Answers e n s (Some bytes) effect =
+abbrev pub AnswersBy : Closes → Election → ℕ → State → Option (List ℕ) → Effect → Type 0
+AnswersBy closes e n s None effect = effect ≡ stays s (refusal n (codes "malformed"))
+AnswersBy closes e n s (Some bytes) effect =
     (IsMalformed e bytes × (effect ≡ stays s (refusal n (codes "malformed"))))
-    ⊎ ((line : ScriptLine) × Says e bytes line × Does e n s line s.phase effect)
+    ⊎ ((line : ScriptLine) × Says e bytes line × DoesBy closes e n s line s.phase effect)
 
 -- ---- a script
 
 -- lines, the first of which has number n, do these things one after another, and lead from one state to another
+abbrev pub PlaysBy : Closes → Election → ℕ → State → List (Option (List ℕ)) → List Effect → State → Type 0
+PlaysBy closes e n s [] [] end = end ≡ s
+PlaysBy closes e n s (line ∷ lines) (effect ∷ effects) end = AnswersBy closes e n s line effect × PlaysBy closes e (n + 1) effect.next lines effects end
+PlaysBy closes e n s lines effects end = ⊥
+
+-- the same of one store
+abbrev pub Does : Election → ℕ → State → ScriptLine → Phase → Effect → Type 0
+Does e = DoesBy (of_one_store e) e
+
+abbrev pub Answers : Election → ℕ → State → Option (List ℕ) → Effect → Type 0
+Answers e = AnswersBy (of_one_store e) e
+
 abbrev pub Plays : Election → ℕ → State → List (Option (List ℕ)) → List Effect → State → Type 0
-Plays e n s [] [] end = end ≡ s
-Plays e n s (line ∷ lines) (effect ∷ effects) end = Answers e n s line effect × Plays e (n + 1) effect.next lines effects end
-Plays e n s lines effects end = ⊥
+Plays e = PlaysBy (of_one_store e) e
 
 -- what is written for lines
 abbrev pub written : List Effect → List ℕ

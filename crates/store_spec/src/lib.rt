@@ -1,12 +1,14 @@
 //! The definitions that the whole store is proved against, and worked figures of them.
 #![tactic(auto)]
 
+mod part_figures;
 mod report_figures;
 mod step_figures;
 mod withdraw_figures;
 
 ghost use Rattle.store_spec.specs.Figures.{ExampleHomes, ExampleSizes, ExampleSizesInVersionTwo, ExamplePlaces, ExampleLayout, ExampleImage, ExampleImageInVersionTwo, ExampleWideCell, ExampleLines};
 
+pub use part_figures::{example_borders, example_shares};
 pub use report_figures::{example_reports, example_summary};
 pub use step_figures::{example_claims, example_outcome, example_race};
 pub use withdraw_figures::{example_finding, example_stale_candidate, example_withdrawal};

@@ -1,5 +1,5 @@
 -- The tally of two lists of ballots, one after the other.
-use Rattle.std.proofs.Common.{◌≡◌, ℕ, ◌+◌, ◌-◌, ◌*◌, ◌^◌, ◌≤◌, Bool, false, true, cond, List, [], ◌∷◌, ◌++◌, length, ap, ◌∙◌, arith}
+use Rattle.std.proofs.Common.{◌≡◌, ℕ, ◌+◌, ◌-◌, ◌*◌, ◌^◌, ◌<◌, ◌≤◌, Bool, false, true, cond, List, [], ◌∷◌, ◌++◌, length, ap, ◌∙◌, arith}
 use Rattle.std.proofs.lemmas.List.Elements.{filter-append}
 use Rattle.std.proofs.lemmas.List.Sums.{sum_by-append, sum_by-cons}
 use Rattle.std.specs.Int.{bit_at}
@@ -9,7 +9,7 @@ use Rattle.store_spec.specs.Ballot.{Ballot}
 use Rattle.store_spec.specs.Election.{Election, IsElection, is_on_style}
 use Rattle.store_spec.specs.Report.{allowed_of, is_overvote, marked_in, overvotes, undervotes, votes}
 use Rattle.tally_export.proofs.Counting.{allowed_few, bit_few, one_few}
-use Rattle.tally_export.specs.Counted.{AddsBallots, AddsUp, IsTallyOf, IsUpTo}
+use Rattle.tally_export.specs.Counted.{AddsBallots, AddsUp, IsTallyOf, IsUpTo, SumsFit}
 use Rattle.tally_export.specs.declared.counts.Tally.{Tally}
 
 -- what counts no more than 64 of a ballot counts no more than 64 of each
@@ -45,6 +45,36 @@ few_counts e bs t election few is = record {
   choices = λ k c known within. omega (arith, is.choices k c known within, votes_few e bs (k + 1) c);
   under = λ k known. omega (arith, is.under k known, undervotes_few e bs (k + 1) election);
   over = λ k known. omega (arith, is.over k known, overvotes_few e bs (k + 1));
+}
+
+-- counts that are no more than 64 a ballot of so few ballots have a sum that fits
+pub sums_of_few : (e : Election) (xs ys : List Ballot) (left right : Tally) → IsElection e
+    → length xs + length ys < 2 ^ 58 → IsTallyOf e xs left → IsTallyOf e ys right → SumsFit left right
+sums_of_few e xs ys left right election few one other = record {
+  choices = λ k c known within. omega (
+    arith,
+    few,
+    one.choices k c known within,
+    other.choices k c known within,
+    votes_few e xs (k + 1) c,
+    votes_few e ys (k + 1) c,
+  );
+  under = λ k known. omega (
+    arith,
+    few,
+    one.under k known,
+    other.under k known,
+    undervotes_few e xs (k + 1) election,
+    undervotes_few e ys (k + 1) election,
+  );
+  over = λ k known. omega (
+    arith,
+    few,
+    one.over k known,
+    other.over k known,
+    overvotes_few e xs (k + 1),
+    overvotes_few e ys (k + 1),
+  );
 }
 
 -- what is counted of two lists is counted of the one and of the other

@@ -1,16 +1,16 @@
 -- The ballots of a store, listed by their places.
-use Rattle.std.proofs.Common.{◌≡◌, ℕ, ◌<◌, List, [], Option, Some, get_or, length, map, sym, ap, ◌∙◌, arith}
+use Rattle.std.proofs.Common.{◌≡◌, ℕ, ◌<◌, List, [], Option, Some, get_or, length, sym, ap, ◌∙◌, arith}
 use Rattle.std.proofs.lemmas.List.{get_or-map, get_or_default, length-map}
 use Rattle.std.proofs.lemmas.List.Elements.{Contains-get_or}
 use Rattle.ballot_record.proofs.BallotNumbers.{length-numbers_of}
 use Rattle.ballot_record.proofs.Lookups.{found_once}
 use Rattle.body_store.proofs.BallotSets.{held_layout, may_hold_set}
-use Rattle.body_store.specs.Contents.{Contents, IsStored}
-use Rattle.body_store.specs.Places.{AreAt}
+use Rattle.body_store.specs.Contents.{Contents}
 use Rattle.body_store.specs.declared.lookup.Place.{Place}
-use Rattle.store_spec.specs.Ballot.{Ballot, ballot_of, numbers_of}
+use Rattle.store_spec.specs.Ballot.{Ballot, ballot_of}
 use Rattle.store_spec.specs.Election.{cell_count}
 use Rattle.store_spec.specs.Image.{cells_of}
+use Rattle.tally_export.specs.Exported.{IsListed}
 
 abbrev nobody : Ballot
 nobody = record { number = 0; style = 0; marks = [] }
@@ -22,12 +22,6 @@ cell_at listed i = (get_or listed i (record { number = 0; cell = 0 })).cell
 -- the ballot that is found by the number in that cell
 abbrev pub found_at : Contents → List Place → ℕ → Option Ballot
 found_at store listed i = ballot_of store.ballots (get_or (cells_of store.election store.ballots) (cell_at listed i) 0)
-
--- the places of a store's ballots, in their order
-pub record IsListed (store : Contents) (listed : List Place) : Type 0 where
-  pub stored : IsStored store
-  pub numbers : map (λ place. place.number) listed ≡ numbers_of store.ballots
-  pub cells : AreAt (cells_of store.election store.ballots) listed
 
 pub as_many : (store : Contents) (listed : List Place) → IsListed store listed → length listed ≡ length store.ballots
 as_many store listed is =

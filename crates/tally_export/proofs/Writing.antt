@@ -1,7 +1,8 @@
 -- What a sink has taken of a text that is written part by part.
 use Rattle.std.proofs.Common.{◌≡◌, ℕ, ◌+◌, ◌≤◌, ◌<◌, inl, inr, List, [], ◌∷◌, ◌++◌, take, drop, get_or, length, Option, Some, None, Result, Ok, Err, refl, sym, ap, subst, ◌∙◌, arith, append_assoc, append-nil, take_at, drop-cons, add-one}
 use Rattle.std.proofs.lemmas.Bool.{cases_lt}
-use Rattle.std.proofs.lemmas.List.{take-append-le, take_all, drop_all}
+use Rattle.std.proofs.lemmas.Grind.{flat_map-append}
+use Rattle.std.proofs.lemmas.List.{drop_all, map-append, take-append-le, take_all}
 use Rattle.std.proofs.Math.Seq.{take-append-add}
 use Rattle.std.specs.Option.{option_map}
 use Rattle.std.specs.Prelude.{OnErr, map}
@@ -10,9 +11,10 @@ use Rattle.store_spec.specs.Ballot.{Ballot}
 use Rattle.store_spec.specs.BallotLine.{record_line}
 use Rattle.store_spec.specs.Election.{Election}
 use Rattle.store_spec.specs.Report.{lines_text}
+use Rattle.tally_export.specs.Exported.{records_text}
 
 -- one text was taken, and then another
-takes_on : (a b c : Option (List ℕ)) (x y : List ℕ) → TakesAll a x b → TakesAll b y c → TakesAll a (x ++ y) c
+pub takes_on : (a b c : Option (List ℕ)) (x y : List ℕ) → TakesAll a x b → TakesAll b y c → TakesAll a (x ++ y) c
 takes_on a b c x y one two = two ∙ ap (option_map (λ front. front ++ y)) one ∙ joined a where
   joined : (a : Option (List ℕ))
       → option_map (λ front. front ++ y) (option_map (λ front. front ++ x) a) ≡ option_map
@@ -21,7 +23,7 @@ takes_on a b c x y one two = two ∙ ap (option_map (λ front. front ++ y)) one 
   joined (Some front) = ap Some (append_assoc front x y)
 
 -- the first part of a text was taken
-takes_front : (a b : Option (List ℕ)) (x z : List ℕ) → TakesAll a x b → TakesSome a (x ++ z) b
+pub takes_front : (a b : Option (List ℕ)) (x z : List ℕ) → TakesAll a x b → TakesSome a (x ++ z) b
 takes_front a b x z taken = (length x, subst (λ text. TakesAll a text b) (sym (take_at x z (length x) refl)) taken)
 
 -- so many bytes of the first of two texts are the first of both
@@ -32,7 +34,7 @@ front_of count y z = elim (cases_lt (length y) count) [
 ]
 
 -- the first part of a text was taken, and then some of the next
-takes_some : (a b c : Option (List ℕ)) (x y z : List ℕ) → TakesAll a x b → TakesSome b y c
+pub takes_some : (a b c : Option (List ℕ)) (x y z : List ℕ) → TakesAll a x b → TakesSome b y c
     → TakesSome a (x ++ (y ++ z)) c
 takes_some a b c x y z one two =
     let n = front_of two.0 y z in
@@ -42,15 +44,16 @@ takes_some a b c x y z one two =
 
 -- ---- an export
 
--- the lines of the ballots that are left
-abbrev pub lines_left : Election → List Ballot → List ℕ
-lines_left e ballots = lines_text (map (record_line e) ballots)
+-- the lines of one list of ballots and then another
+pub records_append : (e : Election) (xs ys : List Ballot) → records_text e (xs ++ ys) ≡ records_text e xs ++ records_text e ys
+records_append e xs ys = ap lines_text (map-append (record_line e) xs ys)
+    ∙ flat_map-append (λ line. line ++ 10 ∷ []) (map (record_line e) xs) (map (record_line e) ys)
 
 next_line : (e : Election) (ballots : List Ballot) (i : ℕ) (b : Ballot) → i < length ballots → get_or ballots i b ≡ b
-    → lines_left e (drop i ballots) ≡ (record_line e b ++ 10 ∷ []) ++ lines_left e (drop (i + 1) ballots)
+    → records_text e (drop i ballots) ≡ (record_line e b ++ 10 ∷ []) ++ records_text e (drop (i + 1) ballots)
 next_line e ballots i b within is =
     let next : drop i ballots ≡ get_or ballots i b ∷ drop (i + 1) ballots = rw (add-one, drop-cons ballots i b) refl in
-    ap (lines_left e) next ∙ ap (λ b. lines_left e (b ∷ drop (i + 1) ballots)) is
+    ap (records_text e) next ∙ ap (λ b. records_text e (b ∷ drop (i + 1) ballots)) is
 
 -- a sink took the front of a whole text, behind which stand what is gathered and what is left
 pub record IsWritten (before now : Option (List ℕ)) (gathered left whole : List ℕ) : Type 0 where
@@ -76,11 +79,11 @@ line_gathered before now gathered more line left whole written is = record {
 -- the line of the next ballot was gathered
 pub ballot_gathered : (e : Election) (ballots : List Ballot) (i : ℕ) (b : Ballot) (before now : Option (List ℕ))
     (gathered more whole : List ℕ) → i < length ballots → get_or ballots i b ≡ b
-    → IsWritten before now gathered (lines_left e (drop i ballots)) whole
+    → IsWritten before now gathered (records_text e (drop i ballots)) whole
     → more ≡ gathered ++ (record_line e b ++ 10 ∷ [])
-    → IsWritten before now more (lines_left e (drop (i + 1) ballots)) whole
+    → IsWritten before now more (records_text e (drop (i + 1) ballots)) whole
 ballot_gathered e ballots i b before now gathered more whole within at written is =
-    line_gathered before now gathered more (record_line e b ++ 10 ∷ []) (lines_left e (drop (i + 1) ballots)) whole
+    line_gathered before now gathered more (record_line e b ++ 10 ∷ []) (records_text e (drop (i + 1) ballots)) whole
     (subst (λ left. IsWritten before now gathered left whole) (next_line e ballots i b within at) written) is
 
 -- what was gathered was written
@@ -120,8 +123,8 @@ front_written before now gathered left whole written =
 
 -- past the last ballot no line is left
 pub no_line_left : (e : Election) (ballots : List Ballot) (i : ℕ) → length ballots ≤ i
-    → lines_left e (drop i ballots) ≡ []
-no_line_left e ballots i end = ap (lines_left e) (drop_all i ballots end)
+    → records_text e (drop i ballots) ≡ []
+no_line_left e ballots i end = ap (records_text e) (drop_all i ballots end)
 
 -- what holds holds on a failure
 pub on_failure : {E : Type 0} (answer : Result (Unit {0}) E) (P : Type 0) → P → OnErr answer P

@@ -1,5 +1,5 @@
 -- Counts of the program, as those of a set of ballots. Choice c + 1 of contest k + 1 stands at places c and k.
-use Rattle.std.specs.Prelude.{◌≡◌, ◌≢◌, ℕ, ◌+◌, ◌-◌, ◌<◌, ◌≤◌, [], nat_lt, if◌then◌else◌, List, count_ones, slice_index}
+use Rattle.std.specs.Prelude.{◌≡◌, ◌≢◌, ℕ, ◌+◌, ◌-◌, ◌^◌, ◌<◌, ◌≤◌, [], nat_lt, if◌then◌else◌, List, count_ones, slice_index}
 use Rattle.std.specs.Int.{bit_at}
 use Rattle.std.specs.List.{slice_index_or}
 use Rattle.store_spec.specs.Ballot.{Ballot}
@@ -25,6 +25,13 @@ pub record IsUpTo (most : ℕ) (tally : Tally) : Type 0 where
   pub choices : (k c : ℕ) → k < MAX_CONTESTS → c < CHOICES → choice_count tally k c ≤ most
   pub under : (k : ℕ) → k < MAX_CONTESTS → slice_index tally.under k ≤ most
   pub over : (k : ℕ) → k < MAX_CONTESTS → slice_index tally.over k ≤ most
+
+-- no sum of two counts is above 2^64 - 1
+pub record SumsFit (one other : Tally) : Type 0 where
+  pub choices : (k c : ℕ) → k < MAX_CONTESTS → c < CHOICES
+      → choice_count one k c + choice_count other k c < 2 ^ 64
+  pub under : (k : ℕ) → k < MAX_CONTESTS → slice_index one.under k + slice_index other.under k < 2 ^ 64
+  pub over : (k : ℕ) → k < MAX_CONTESTS → slice_index one.over k + slice_index other.over k < 2 ^ 64
 
 -- each count is the sum of two
 pub record AddsUp (one other both : Tally) : Type 0 where

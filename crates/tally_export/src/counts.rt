@@ -60,7 +60,7 @@ fn add_counts(counts: &mut [u64], more: &[u64])
 impl Tally {
     ghost use Rattle.std.specs.Prelude.{[]};
     ghost use Rattle.store_spec.specs.Election.{Election};
-    ghost use Rattle.tally_export.specs.Counted.{AddsUp, CountsSet, IsTallyOf, IsUpTo};
+    ghost use Rattle.tally_export.specs.Counted.{AddsUp, CountsSet, IsTallyOf, IsUpTo, SumsFit};
 
     /// What no ballots add up to.
     pub fn of_none() -> Tally
@@ -120,8 +120,7 @@ impl Tally {
 
     /// Adds what other ballots add up to.
     pub fn add(&mut self, more: &Tally)
-        requires ours { IsUpTo (2 ^ 62) self.old }
-        requires theirs { IsUpTo (2 ^ 62) more.now }
+        requires { SumsFit self.old more.now }
         ensures { AddsUp self.old more.now self.new }
     {
         'contests: for place in 0..MAX_CONTESTS {

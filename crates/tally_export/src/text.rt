@@ -62,16 +62,37 @@ fn push_contests(text: &mut String, tally: &Tally, election: &Election) -> Resul
     Ok(())
 }
 
-/// The text of the tally of a store.
-fn text_of(alloc: Global, tally: &Tally, closed: &Closed) -> Result<String, Memory>
-    requires { IsTallyOf closed.now.election closed.now.ballots tally.now }
-    ensures { IfOk result
-        (λ text. string_bytes text ≡ tally_text closed.now.election closed.now.ballots) }
+/// The text of a tally, which is one of so many ballots.
+fn text_of(alloc: Global, tally: &Tally, held: usize, election: &Election) -> Result<String, Memory>
+    ensures { (ballots : List Ballot) → length ballots ≡ held
+        → IsTallyOf election.now ballots tally.now
+        → IfOk result (λ text. string_bytes text ≡ tally_text election.now ballots) }
 {
-    let ballots = closed.len();
-    let mut text = format!(in alloc; "tally {ballots}\n")?;
-    push_contests(&mut text, tally, closed.election())?;
+    let mut text = format!(in alloc; "tally {held}\n")?;
+    push_contests(&mut text, tally, election)?;
     Ok(text)
+}
+
+/// Writes the text of a tally, which is one of so many ballots.
+pub fn write_tally_of<K: Sink>(
+    alloc: Global,
+    tally: &Tally,
+    held: usize,
+    election: &Election,
+    out: &mut K,
+) -> Result<(), PutFault>
+    ensures all { (ballots : List Ballot) → length ballots ≡ held
+        → IsTallyOf election.now ballots tally.now → OnOk result (TakesAll (K.taken out.old)
+        (tally_text election.now ballots) (K.taken out.new)) }
+    ensures some { (ballots : List Ballot) → length ballots ≡ held
+        → IsTallyOf election.now ballots tally.now → OnErr result (TakesSome (K.taken out.old)
+        (tally_text election.now ballots) (K.taken out.new)) }
+    ensures fault { CountsFaultIf (result ≡ Err PutFault.WriteFault)
+        (K.faults out.old) (K.faults out.new) }
+{
+    let text = text_of(alloc, tally, held, election)?;
+    out.write_all(text.as_str().as_bytes())?;
+    Ok(())
 }
 
 /// Writes the text of the tally of a store.
@@ -89,7 +110,5 @@ pub fn write_tally<K: Sink>(
     ensures fault { CountsFaultIf (result ≡ Err PutFault.WriteFault)
         (K.faults out.old) (K.faults out.new) }
 {
-    let text = text_of(alloc, tally, closed)?;
-    out.write_all(text.as_str().as_bytes())?;
-    Ok(())
+    write_tally_of(alloc, tally, closed.len(), closed.election(), out)
 }

@@ -9,6 +9,8 @@ mod lines;
 #[cfg(test)]
 mod options;
 #[cfg(test)]
+mod parts;
+#[cfg(test)]
 mod records;
 #[cfg(test)]
 mod reports;

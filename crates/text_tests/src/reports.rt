@@ -13,7 +13,7 @@ use std::test::Fail;
 use tally_export::{PutFault, tally, tally_threads};
 
 /// A ballot with these marks.
-fn ballot(rt: &impl Abort, election: &Election, number: u64, first: u64, second: u64) -> Record
+pub fn ballot(rt: &impl Abort, election: &Election, number: u64, first: u64, second: u64) -> Record
     ensures valid { IsValid election.now (seen.ballot result) }
     ensures number { result.number ≡ number }
 {
@@ -29,7 +29,12 @@ fn ballot(rt: &impl Abort, election: &Election, number: u64, first: u64, second:
     ballot
 }
 
-fn five_ballots(alloc: Global, rt: &impl Abort, election: &Election) -> Result<BallotList, Memory>
+/// The ballots 1, 2, 3, 5 and 9.
+pub fn five_ballots(
+    alloc: Global,
+    rt: &impl Abort,
+    election: &Election,
+) -> Result<BallotList, Memory>
     ensures election { IfOk result (λ list. list.election ≡ election.now) }
     ensures listing { IfOk result (λ list. IsListing election.now list.ballots) }
     ensures count { IfOk result (λ list. length list.ballots ≡ 5) }

@@ -7,7 +7,8 @@ use Rattle.crash_disk.proofs.Moments.{le-next_count, next_count-below, settled-o
 use Rattle.image_builder.proofs.Held.{medium_holds}
 use Rattle.outside_io.proofs.Told.{told_holds}
 use Rattle.outside_io.specs.Outside.{Output}
-use Rattle.phase_gate.specs.Checkpointed.{IsMediumNow}
+use Rattle.any_store.specs.Checkpointed.{IsMediumNow}
+use Rattle.any_store.specs.Disks.{one_store}
 use Rattle.session_run.proofs.Beginning.{has_begun}
 use Rattle.session_run.specs.Ends.{HasBegun}
 use Rattle.store_spec.specs.Ballot.{Ballot}
@@ -20,7 +21,7 @@ use Rattle.twin_commands.specs.Twin.{beside}
 
 pub synced_begins : {K T : Type 0} (model : DiskModel T) (store : Contents) (sink : Output K) (start mid : T) → IsElection store.election → IsStored store → IsMediumNow model store.election store.ballots start
     → model.seen mid ≡ model.seen start → is_some (model.seen mid) ≡ is_some (model.seen start) → IsSettled model.seen model.calls model.may_leave mid → AddsNoCrashImage model.calls model.may_leave start mid → model.faults mid ≡ model.faults start
-    → HasBegun model store.election store.ballots (begun store.ballots) (beside sink start [] (length store.ballots)) (beside sink mid [] (length store.ballots))
+    → HasBegun (one_store model) store.election store.ballots (begun store.ballots) (beside sink start [] (length store.ballots)) (beside sink mid [] (length store.ballots))
 synced_begins model store sink start mid election stored medium same told settled adds steady =
     let e = store.election in
     let set = store.ballots in

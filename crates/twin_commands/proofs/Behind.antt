@@ -1,7 +1,8 @@
 -- What a session does behind the line that tells how two disks were found.
 use Rattle.std.proofs.Common.{◌≡◌, ℕ, List, [], length, Result, subst}
 use Rattle.outside_io.specs.Outside.{Input, Output}
-use Rattle.phase_gate.specs.Around.{Around}
+use Rattle.phase_gate.specs.Around.{Around, with_rows}
+use Rattle.any_store.specs.Disks.{one_store}
 use Rattle.phase_gate.specs.Telling.{told_by}
 use Rattle.phase_gate.specs.declared.telling.Telling.{Telling}
 use Rattle.phase_gate.specs.declared.telling.Telling.TheVariants.{All}
@@ -13,13 +14,14 @@ use Rattle.store_spec.specs.Election.{Election}
 use Rattle.store_spec.specs.Session.{State, begun}
 use Rattle.twin_commands.specs.Twin.{beside}
 
-pub goes_from : {S K D : Type 0} (model : DiskModel D) (e own : Election) (set : List Ballot) (t : Telling) (s : State) (answer : Result (Unit {0}) RunFault) (old new : Input S) (mid : Output K) (disk : D) (marks : List ℕ) (held : ℕ) (after : Around K D)
-    → t ≡ All → own ≡ e → s ≡ begun set → marks ≡ [] → held ≡ length set
-    → GoesOn model (told_by t) own s answer old new (beside mid disk marks held) after
-    → GoesOn model (λ text. text) e (begun set) answer old new (beside mid disk [] (length set)) after
-goes_from model e own set t s answer old new mid disk marks held after telling same state none count goes =
-    subst (λ held. GoesOn model (λ text. text) e (begun set) answer old new (beside mid disk [] held) after) count
-    (subst (λ marks. GoesOn model (λ text. text) e (begun set) answer old new (beside mid disk marks held) after) none
-    (subst (λ s. GoesOn model (λ text. text) e s answer old new (beside mid disk marks held) after) state
-    (subst (λ e. GoesOn model (λ text. text) e s answer old new (beside mid disk marks held) after) same
-    (subst (λ t. GoesOn model (told_by t) own s answer old new (beside mid disk marks held) after) telling goes))))
+pub goes_from : {S K D : Type 0} (model : DiskModel D) (e own : Election) (set : List Ballot) (t : Telling) (s : State) (answer : Result (Unit {0}) RunFault) (old new : Input S) (mid : Output K) (disk : D) (marks : List ℕ) (rows : List (List ℕ)) (held : ℕ) (after : Around K D)
+    → t ≡ All → own ≡ e → s ≡ begun set → marks ≡ [] → rows ≡ [] → held ≡ length set
+    → GoesOn (one_store model) (told_by t) own s answer old new (with_rows (beside mid disk marks held) rows) after
+    → GoesOn (one_store model) (λ text. text) e (begun set) answer old new (beside mid disk [] (length set)) after
+goes_from model e own set t s answer old new mid disk marks rows held after telling same state none no_rows count goes =
+    subst (λ held. GoesOn (one_store model) (λ text. text) e (begun set) answer old new (beside mid disk [] held) after) count
+    (subst (λ rows. GoesOn (one_store model) (λ text. text) e (begun set) answer old new (with_rows (beside mid disk [] held) rows) after) no_rows
+    (subst (λ marks. GoesOn (one_store model) (λ text. text) e (begun set) answer old new (with_rows (beside mid disk marks held) rows) after) none
+    (subst (λ s. GoesOn (one_store model) (λ text. text) e s answer old new (with_rows (beside mid disk marks held) rows) after) state
+    (subst (λ e. GoesOn (one_store model) (λ text. text) e s answer old new (with_rows (beside mid disk marks held) rows) after) same
+    (subst (λ t. GoesOn (one_store model) (told_by t) own s answer old new (with_rows (beside mid disk marks held) rows) after) telling goes)))))

@@ -2,6 +2,9 @@
 use Rattle.std.proofs.Common.{◌≡◌, ◌≢◌, ◌⊎◌, ℕ, ◌+◌, ◌-◌, ◌<◌, ◌≤◌, min, List, [], length, Option, Some, None, Result, Ok, Err, ⊎_elim, refl, sym, ◌∙◌, subst, arith}
 use Rattle.std.specs.Prelude.{All}
 use Rattle.outside_io.specs.Outside.{Input, Output}
+use Rattle.any_store.specs.Disks.{one_store}
+use Rattle.any_store.specs.Disks.StoreDisks.{Alone}
+use Rattle.phase_gate.specs.Around.{with_rows}
 use Rattle.session_run.specs.Ends.{HandlingEnds, IsInterrupted, OfScript, StopsBehind}
 use Rattle.session_run.specs.History.{Stood, Wrote}
 use Rattle.session_run.specs.declared.fault.RunFault.{RunFault}
@@ -19,19 +22,19 @@ use Rattle.twin_media.specs.Leads.{TwinFails, TwinLeads}
 use Rattle.twin_media.specs.State.{TwinState, second_moment, twin_leaves}
 
 -- where no checkpoint failed, no count of faults rose
-pub no_fault_in : {S K T : Type 0} (model : DiskModel T) (tell : List ℕ → List ℕ) (e : Election) (set : List Ballot) (lines : List (Option (List ℕ))) (effects : List Effect) (state : State) (answer : Result (Unit {0}) RunFault) (old new : Input S) (sink sunk : Output K) (start now : T) (marks : List ℕ) (count held : ℕ)
-    → answer ≢ Err run.DiskFault → HandlingEnds model tell e set lines effects state answer old new (beside sink start [] count) (beside sunk now marks held) → model.faults now ≡ model.faults start
-no_fault_in model tell e set lines effects state (Ok done) old new sink sunk start now marks count held not ends = ends.1.acknowledged.no_fault
-no_fault_in model tell e set lines effects state (Err run.TooLong) old new sink sunk start now marks count held not ends = ends.1.acknowledged.no_fault
-no_fault_in model tell e set lines effects state (Err run.ReadFault) old new sink sunk start now marks count held not ends = ends.1.acknowledged.no_fault
-no_fault_in model tell e set lines effects state (Err run.DiskFault) old new sink sunk start now marks count held not ends = absurd (not refl)
-no_fault_in model tell e set lines effects state (Err run.WriteFault) old new sink sunk start now marks count held not ends = ends.0.wrote.acknowledged.no_fault
-no_fault_in model tell e set lines effects state (Err run.Memory) old new sink sunk start now marks count held not ends =
+pub no_fault_in : {S K T : Type 0} (model : DiskModel T) (tell : List ℕ → List ℕ) (e : Election) (set : List Ballot) (lines : List (Option (List ℕ))) (effects : List Effect) (state : State) (answer : Result (Unit {0}) RunFault) (old new : Input S) (sink sunk : Output K) (start now : T) (marks : List ℕ) (count held : ℕ) (rows : List (List ℕ))
+    → answer ≢ Err run.DiskFault → HandlingEnds (one_store model) tell e set lines effects state answer old new (beside sink start [] count) (with_rows (beside sunk now marks held) rows) → model.faults now ≡ model.faults start
+no_fault_in model tell e set lines effects state (Ok done) old new sink sunk start now marks count held rows not ends = ends.1.acknowledged.no_fault
+no_fault_in model tell e set lines effects state (Err run.TooLong) old new sink sunk start now marks count held rows not ends = ends.1.acknowledged.no_fault
+no_fault_in model tell e set lines effects state (Err run.ReadFault) old new sink sunk start now marks count held rows not ends = ends.1.acknowledged.no_fault
+no_fault_in model tell e set lines effects state (Err run.DiskFault) old new sink sunk start now marks count held rows not ends = absurd (not refl)
+no_fault_in model tell e set lines effects state (Err run.WriteFault) old new sink sunk start now marks count held rows not ends = ends.0.wrote.acknowledged.no_fault
+no_fault_in model tell e set lines effects state (Err run.Memory) old new sink sunk start now marks count held rows not ends =
     ⊎_elim
-    (λ (none : OfScript old new (StopsBehind lines) × Wrote model tell e set effects [] [] (beside sink start [] count) (beside sunk now marks held) × (held ≡ length state.set)). none.1.acknowledged.no_fault)
-    (λ (cut : IsInterrupted model tell e set lines effects state old new (beside sink start [] count) (beside sunk now marks held)). cut.wrote.acknowledged.no_fault)
+    (λ (none : OfScript old new (StopsBehind lines) × Wrote (one_store model) tell e set effects [] [] (beside sink start [] count) (with_rows (beside sunk now marks held) rows) × (held ≡ length state.set)). none.1.acknowledged.no_fault)
+    (λ (cut : IsInterrupted (one_store model) tell e set lines effects state old new (beside sink start [] count) (with_rows (beside sunk now marks held) rows)). cut.wrote.acknowledged.no_fault)
     ends.0
-no_fault_in model tell e set lines effects state (Err other) old new sink sunk start now marks count held not ends = absurd ends
+no_fault_in model tell e set lines effects state (Err other) old new sink sunk start now marks count held rows not ends = absurd ends
 
 module _ {A B T : Type 0} (m : DiskModel A) (leads : A → A → Type 0) (n : DiskModel B) (other_leads : B → B → Type 0) (view : T → TwinState A B) where
   abbrev pub both : DiskModel T
@@ -130,7 +133,7 @@ module _ {A B T : Type 0} (m : DiskModel A) (leads : A → A → Type 0) (n : Di
       second_counts = let counts = twins.counted now in omega (arith, begins.calls, first_at, second_at, counts.second_passed, counts.second_counted, counts.all_passed none)
 
   -- all marks were made by calls that did not fail
-  pub marked_by : (twins : IsTwin) (start mid now : T) (marks : List ℕ) → (view start).failed ≡ None → both_lead start mid → both.faults mid ≡ both.faults start → Stood both both_lead mid now marks → All (λ mark. mark ≤ (view now).passed) marks
+  pub marked_by : (twins : IsTwin) (start mid now : T) (marks : List ℕ) → (view start).failed ≡ None → both_lead start mid → both.faults mid ≡ both.faults start → Stood (Alone both) both_lead mid now marks → All (λ mark. mark ≤ (view now).passed) marks
   marked_by twins start mid now marks none run same stood =
       let mid_none : (view mid).failed ≡ None = run.none_failed same ∙ none in
       let at_none : (view stood.mid).failed ≡ None = stood.before.none_failed stood.stands.steady ∙ mid_none in

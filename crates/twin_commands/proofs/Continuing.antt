@@ -8,8 +8,11 @@ use Rattle.image_builder.proofs.Held.{medium_holds}
 use Rattle.outside_io.proofs.Told.{told_holds}
 use Rattle.outside_io.specs.Outside.{Input, Output}
 use Rattle.outside_io.specs.Stream.{TakesSome}
-use Rattle.phase_gate.specs.Beside.{calls_beside}
-use Rattle.phase_gate.specs.Checkpointed.{IsMediumNow}
+use Rattle.phase_gate.specs.Around.{with_rows}
+use Rattle.any_store.specs.Beside.{calls_beside}
+use Rattle.any_store.specs.Checkpointed.{IsMediumNow}
+use Rattle.any_store.specs.Disks.{one_store}
+use Rattle.any_store.specs.Disks.StoreDisks.{Alone}
 use Rattle.run_outcome.specs.Status.{ended_as}
 use Rattle.run_outcome.specs.World.{Reported, nothing_reported}
 use Rattle.run_outcome.specs.declared.status.Status.{Status}
@@ -105,20 +108,20 @@ module _ {A B T : Type 0} (m : DiskModel A) (one_leads : A → A → Type 0) (n 
         reported = f.reported ∙ nothing;
       }
 
-      module _ (s : SyncsAndGoesOn (both m one_leads n two_leads view) (both_lead m one_leads n two_leads view) store.election store.ballots paired answer (m.calls (view start).first, n.calls (view start).second) old new sink (beside sunk now report.marks report.held) report start) where
+      module _ (s : SyncsAndGoesOn (both m one_leads n two_leads view) (both_lead m one_leads n two_leads view) store.election store.ballots paired answer (m.calls (view start).first, n.calls (view start).second) old new sink (with_rows (beside sunk now report.marks report.held) report.others) report start) where
         next : (view s.mid).calls ≡ (view start).calls + 1
         next = let few = begins.few in s.images.counted ∙ next_count-below (view start).calls (omega (arith, begins.calls, few))
 
-        has : (mid : Output K) → HasBegun (both m one_leads n two_leads view) store.election store.ballots (begun store.ballots) (beside mid start [] (length store.ballots)) (beside mid s.mid [] (length store.ballots))
+        has : (mid : Output K) → HasBegun (one_store (both m one_leads n two_leads view)) store.election store.ballots (begun store.ballots) (beside mid start [] (length store.ballots)) (beside mid s.mid [] (length store.ballots))
         has mid = synced_begins (both m one_leads n two_leads view) store mid start s.mid election stored medium_both s.same_bytes (ap is_some s.same_bytes) s.settled s.images s.steady
 
-        plays : (mid : Output K) → GoesOn (both m one_leads n two_leads view) (λ text. text) store.election (begun store.ballots) answer old new (beside mid s.mid [] (length store.ballots)) (beside sunk now report.marks report.held)
+        plays : (mid : Output K) → GoesOn (one_store (both m one_leads n two_leads view)) (λ text. text) store.election (begun store.ballots) answer old new (beside mid s.mid [] (length store.ballots)) (with_rows (beside sunk now report.marks report.held) report.others)
             → TwinPlays m n store.election store.ballots a report old new mid sunk (view start).first (view now).first (view start).second (view now).second
         plays mid goes =
             let one = goes store.ballots (beside mid start [] (length store.ballots)) (has mid) in
             twin_plays m one_leads n two_leads view twins start s.mid now begins s.leads s.steady next leads alike report.marks s.stood
             store.election store.ballots a report old new mid sunk answer refl s.others fails told
-            (λ is. blames_of a (subst (λ r. HandlingEnds (both m one_leads n two_leads view) (λ text. text) store.election one.0.set one.0.lines one.0.effects one.0.state r old new (beside mid start [] (length store.ballots)) (beside sunk now report.marks report.held)) is one.0.ends).0.rose zero_faults few (blame is))
+            (λ is. blames_of a (subst (λ r. HandlingEnds (one_store (both m one_leads n two_leads view)) (λ text. text) store.election one.0.set one.0.lines one.0.effects one.0.state r old new (beside mid start [] (length store.ballots)) (with_rows (beside sunk now report.marks report.held) report.others)) is one.0.ends).0.rose zero_faults few (blame is))
             one
 
         cut : new ≡ old → now ≡ s.mid → report.marks ≡ [] → report.held ≡ length store.ballots → answer ≡ Err run.WriteFault → TakesSome sink.taken (paired_text paired) sunk.taken → Rose sink.faults sunk.faults
@@ -126,7 +129,7 @@ module _ {A B T : Type 0} (m : DiskModel A) (one_leads : A → A → Type 0) (n 
         cut script there none count is part rose =
             let mid_none : (view s.mid).failed ≡ None = s.leads.none_failed s.steady ∙ begins.none in
             let now_none : (view now).failed ≡ None = subst (λ t. (view t).failed ≡ None) (sym there) mid_none in
-            let stood = subst (Stood (both m one_leads n two_leads view) (both_lead m one_leads n two_leads view) s.mid now) none s.stood in
+            let stood = subst (Stood (Alone (both m one_leads n two_leads view)) (both_lead m one_leads n two_leads view) s.mid now) none s.stood in
             let was = subst (λ t. Acknowledged (both m one_leads n two_leads view) store.election store.ballots [] start t []) (sym there) (has sink).acknowledged in
             record {
               script = script;
@@ -135,8 +138,8 @@ module _ {A B T : Type 0} (m : DiskModel A) (one_leads : A → A → Type 0) (n 
               marks = none;
               others = s.others ∙ ap (map (calls_beside (Some (m.calls (view start).first, n.calls (view start).second)))) none;
               held = count;
-              first = first_apart m one_leads n two_leads view twins start s.mid now begins s.leads s.steady next leads alike [] stood store.election store.ballots [] [] (begun store.ballots) a old new sink sunk report.held now_none [] was;
-              second = second_apart m one_leads n two_leads view twins start s.mid now begins s.leads s.steady next leads alike [] stood store.election store.ballots [] [] (begun store.ballots) a old new sink sunk report.held now_none [] was;
+              first = first_apart m one_leads n two_leads view twins start s.mid now begins s.leads s.steady next leads alike [] stood store.election store.ballots [] [] (begun store.ballots) a old new sink sunk report.held report.others now_none [] was;
+              second = second_apart m one_leads n two_leads view twins start s.mid now begins s.leads s.steady next leads alike [] stood store.election store.ballots [] [] (begun store.ballots) a old new sink sunk report.held report.others now_none [] was;
             }
 
         went_on : WentOn m n store.election store.ballots paired a report old new sink sunk (view start).first (view now).first (view start).second (view now).second
@@ -152,6 +155,6 @@ module _ {A B T : Type 0} (m : DiskModel A) (one_leads : A → A → Type 0) (n 
 
       pub continues : (was : Reported) → was ≡ nothing_reported
           → (((answer ≡ Err run.DiskFault) × FailsSync (both m one_leads n two_leads view) old new sink sunk was report start now)
-          ⊎ SyncsAndGoesOn (both m one_leads n two_leads view) (both_lead m one_leads n two_leads view) store.election store.ballots paired answer (m.calls (view start).first, n.calls (view start).second) old new sink (beside sunk now report.marks report.held) report start)
+          ⊎ SyncsAndGoesOn (both m one_leads n two_leads view) (both_lead m one_leads n two_leads view) store.election store.ballots paired answer (m.calls (view start).first, n.calls (view start).second) old new sink (with_rows (beside sunk now report.marks report.held) report.others) report start)
           → Continues m n store.election store.ballots paired a report old new sink sunk (view start).first (view now).first (view start).second (view now).second
       continues was nothing either = ⊎_elim (λ failed. inl (fails_both was nothing failed.0 failed.1)) (λ s. inr (went_on s)) either

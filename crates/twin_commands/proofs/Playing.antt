@@ -4,12 +4,15 @@ use Rattle.std.proofs.lemmas.List.{map-id}
 use Rattle.std.proofs.lemmas.Simd.{map-map}
 use Rattle.std.specs.Prelude.{All}
 use Rattle.outside_io.specs.Outside.{Input, Output}
+use Rattle.phase_gate.specs.Around.{with_rows}
+use Rattle.any_store.specs.Disks.{one_store}
+use Rattle.any_store.specs.Disks.StoreDisks.{Alone}
 use Rattle.run_outcome.specs.Status.{ended_as}
 use Rattle.run_outcome.specs.World.{Reported}
 use Rattle.run_outcome.specs.declared.status.Status.{Status}
 use Rattle.session_commands.specs.Session.{run_status}
-use Rattle.session_run.specs.Ends.{BegunWith, HandlingEnds, Tried}
-use Rattle.session_run.specs.History.{Acknowledged, Stood}
+use Rattle.session_run.specs.Ends.{BegunWith, HandlingEnds}
+use Rattle.session_run.specs.History.{Acknowledged, Stood, Tried}
 use Rattle.session_run.specs.declared.fault.RunFault.{RunFault}
 use Rattle.session_run.specs.declared.fault.RunFault.TheVariants as run
 use Rattle.store_spec.specs.Ballot.{Ballot}
@@ -27,7 +30,7 @@ use Rattle.twin_media.specs.State.{TwinState}
 module _ {A B T : Type 0} (m : DiskModel A) (one_leads : A → A → Type 0) (n : DiskModel B) (two_leads : B → B → Type 0) (view : T → TwinState A B) (twins : IsTwin m one_leads n two_leads view) (start mid now : T)
     (begins : Begins m one_leads n two_leads view start) (to_mid : both_lead m one_leads n two_leads view start mid) (steady : (view mid).faults ≡ (view start).faults) (next : (view mid).calls ≡ (view start).calls + 1)
     (leads : both_lead m one_leads n two_leads view start now) (alike : (view now).failed ≡ None → m.seen (view now).first ≡ n.seen (view now).second)
-    (marks : List ℕ) (stood : Stood (both m one_leads n two_leads view) (both_lead m one_leads n two_leads view) mid now marks) where
+    (marks : List ℕ) (stood : Stood (Alone (both m one_leads n two_leads view)) (both_lead m one_leads n two_leads view) mid now marks) where
   all : All (λ mark. mark ≤ (view now).passed) marks
   all = marked_by m one_leads n two_leads view twins start mid now marks begins.none to_mid steady stood
 
@@ -42,7 +45,7 @@ module _ {A B T : Type 0} (m : DiskModel A) (one_leads : A → A → Type 0) (n 
   abbrev pub others : List ℕ
   others = map (shift_of m one_leads n two_leads view start) marks
 
-  module _ {S K : Type 0} (e : Election) (set : List Ballot) (lines : List (Option (List ℕ))) (effects : List Effect) (state : State) (a : Status) (old new : Input S) (sink sunk : Output K) (held : ℕ) where
+  module _ {S K : Type 0} (e : Election) (set : List Ballot) (lines : List (Option (List ℕ))) (effects : List Effect) (state : State) (a : Status) (old new : Input S) (sink sunk : Output K) (held : ℕ) (rows : List (List ℕ)) where
     module _ (none : (view now).failed ≡ None) where
       ends : ((view now).failed ≡ None) ⊎ TwinFails (view start) (view now)
       ends = inl none
@@ -59,22 +62,22 @@ module _ {A B T : Type 0} (m : DiskModel A) (one_leads : A → A → Type 0) (n 
           marks sets was.marked all called (sym (alike none)) (second_counts m one_leads n two_leads view twins start now begins leads ends none) (λ bytes sees. begins.other_law (view now).second bytes sees) (leads.steady none).1 was
 
       both_handled : (answer : Result (Unit {0}) RunFault) → answer ≢ Err run.DiskFault
-          → HandlingEnds (both m one_leads n two_leads view) (λ text. text) e set lines effects state answer old new (beside sink start [] (length set)) (beside sunk now marks held)
-          → HandlingEnds m (λ text. text) e set lines effects state answer old new (beside sink (view start).first [] (length set)) (beside sunk (view now).first marks held)
-          × HandlingEnds n (λ text. text) e set lines effects state answer old new (beside sink (view start).second [] (length set)) (beside sunk (view now).second others held)
+          → HandlingEnds (one_store (both m one_leads n two_leads view)) (λ text. text) e set lines effects state answer old new (beside sink start [] (length set)) (with_rows (beside sunk now marks held) rows)
+          → HandlingEnds (one_store m) (λ text. text) e set lines effects state answer old new (beside sink (view start).first [] (length set)) (beside sunk (view now).first marks held)
+          × HandlingEnds (one_store n) (λ text. text) e set lines effects state answer old new (beside sink (view start).second [] (length set)) (beside sunk (view now).second others held)
       both_handled answer not was = (
-        handled (both m one_leads n two_leads view) m (λ text. text) e set lines effects state old new sink sunk start now (view start).first (view now).first marks marks (length set) held first_apart answer not was,
-        handled (both m one_leads n two_leads view) n (λ text. text) e set lines effects state old new sink sunk start now (view start).second (view now).second marks others (length set) held second_apart answer not was,
+        handled (both m one_leads n two_leads view) m (λ text. text) e set lines effects state old new sink sunk start now (view start).first (view now).first marks marks (length set) held rows first_apart answer not was,
+        handled (both m one_leads n two_leads view) n (λ text. text) e set lines effects state old new sink sunk start now (view start).second (view now).second marks others (length set) held rows second_apart answer not was,
       )
 
     not_failed : (answer : Result (Unit {0}) RunFault) → answer ≢ Err run.DiskFault
-        → HandlingEnds (both m one_leads n two_leads view) (λ text. text) e set lines effects state answer old new (beside sink start [] (length set)) (beside sunk now marks held) → (view now).failed ≡ None
-    not_failed answer not was = leads.none_failed (no_fault_in (both m one_leads n two_leads view) (λ text. text) e set lines effects state answer old new sink sunk start now marks (length set) held not was) ∙ begins.none
+        → HandlingEnds (one_store (both m one_leads n two_leads view)) (λ text. text) e set lines effects state answer old new (beside sink start [] (length set)) (with_rows (beside sunk now marks held) rows) → (view now).failed ≡ None
+    not_failed answer not was = leads.none_failed (no_fault_in (both m one_leads n two_leads view) (λ text. text) e set lines effects state answer old new sink sunk start now marks (length set) held rows not was) ∙ begins.none
 
     went_well : (answer : Result (Unit {0}) RunFault) → (not : answer ≢ Err run.DiskFault)
-        → HandlingEnds (both m one_leads n two_leads view) (λ text. text) e set lines effects state answer old new (beside sink start [] (length set)) (beside sunk now marks held)
-        → HandlingEnds m (λ text. text) e set lines effects state answer old new (beside sink (view start).first [] (length set)) (beside sunk (view now).first marks held)
-        × HandlingEnds n (λ text. text) e set lines effects state answer old new (beside sink (view start).second [] (length set)) (beside sunk (view now).second others held)
+        → HandlingEnds (one_store (both m one_leads n two_leads view)) (λ text. text) e set lines effects state answer old new (beside sink start [] (length set)) (with_rows (beside sunk now marks held) rows)
+        → HandlingEnds (one_store m) (λ text. text) e set lines effects state answer old new (beside sink (view start).first [] (length set)) (beside sunk (view now).first marks held)
+        × HandlingEnds (one_store n) (λ text. text) e set lines effects state answer old new (beside sink (view start).second [] (length set)) (beside sunk (view now).second others held)
     went_well answer not was = both_handled (not_failed answer not was) answer not was
 
     -- where a checkpoint failed
@@ -101,10 +104,10 @@ module _ {A B T : Type 0} (m : DiskModel A) (one_leads : A → A → Type 0) (n 
 
     both_handle : (answer : Result (Unit {0}) RunFault) → (answer ≡ Err run.DiskFault → TwinFails (view start) (view now)) → (answer ≢ Err run.DiskFault → a ≡ ended_as run_status answer)
         → (answer ≡ Err run.DiskFault → Blames m n (view start).first (view now).first (view start).second (view now).second a)
-        → HandlingEnds (both m one_leads n two_leads view) (λ text. text) e set lines effects state answer old new (beside sink start [] (length set)) (beside sunk now marks held)
+        → HandlingEnds (one_store (both m one_leads n two_leads view)) (λ text. text) e set lines effects state answer old new (beside sink start [] (length set)) (with_rows (beside sunk now marks held) rows)
         → TwinHandles m n e set lines effects state answer a old new (beside sink (view start).first [] (length set)) (beside sunk (view now).first marks held) (beside sink (view start).second [] (length set)) (beside sunk (view now).second others held)
     both_handle (Err run.DiskFault) fails told blame was = (
-      at_checkpoint (both m one_leads n two_leads view) m (λ text. text) e set lines effects state old new sink sunk start now (view start).first (view now).first marks marks (length set) held was.0.stops,
+      at_checkpoint (both m one_leads n two_leads view) m (λ text. text) e set lines effects state old new sink sunk start now (view start).first (view now).first marks marks (length set) held rows was.0.stops,
       first_tried (fails refl) was.0.tried,
       second_tried (fails refl) was.0.tried,
       blame refl,
@@ -126,7 +129,7 @@ module _ {A B T : Type 0} (m : DiskModel A) (one_leads : A → A → Type 0) (n 
       → report.marks ≡ marks → report.others ≡ map (λ mark. shift_of m one_leads n two_leads view start mark ∷ []) marks
       → (answer ≡ Err run.DiskFault → TwinFails (view start) (view now)) → (answer ≢ Err run.DiskFault → a ≡ ended_as run_status answer)
       → (answer ≡ Err run.DiskFault → Blames m n (view start).first (view now).first (view start).second (view now).second a)
-      → BegunWith (both m one_leads n two_leads view) (λ text. text) e set answer old new (beside sink start [] (length set)) (beside sunk now marks report.held)
+      → BegunWith (one_store (both m one_leads n two_leads view)) (λ text. text) e set answer old new (beside sink start [] (length set)) (with_rows (beside sunk now marks report.held) report.others)
       → TwinPlays m n e set a report old new sink sunk (view start).first (view now).first (view start).second (view now).second
   twin_plays e set a report old new sink sunk answer same lists fails told blame one =
       let b = one.0 in
@@ -139,6 +142,6 @@ module _ {A B T : Type 0} (m : DiskModel A) (one_leads : A → A → Type 0) (n 
         marks = others;
         others = lists_of report lists;
         handles = subst (λ ms. TwinHandles m n e set b.lines b.effects b.state answer a old new (beside sink (view start).first [] (length set)) (beside sunk (view now).first ms report.held) (beside sink (view start).second [] (length set)) (beside sunk (view now).second others report.held)) (sym same)
-            (both_handle e set b.lines b.effects b.state a old new sink sunk report.held answer fails told blame
-            (subst (λ set_here. HandlingEnds (both m one_leads n two_leads view) (λ text. text) e set_here b.lines b.effects b.state answer old new (beside sink start [] (length set)) (beside sunk now marks report.held)) one.1 b.ends));
+            (both_handle e set b.lines b.effects b.state a old new sink sunk report.held report.others answer fails told blame
+            (subst (λ set_here. HandlingEnds (one_store (both m one_leads n two_leads view)) (λ text. text) e set_here b.lines b.effects b.state answer old new (beside sink start [] (length set)) (with_rows (beside sunk now marks report.held) report.others)) one.1 b.ends));
       }

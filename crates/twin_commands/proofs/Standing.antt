@@ -1,12 +1,12 @@
 -- Which set a stop leaves on one of two disks.
-use Rattle.std.proofs.Common.{◌≡◌, ◌⊎◌, ℕ, ◌+◌, ◌<◌, ◌≤◌, List, [], ◌∷◌, Some, inl, inr, ⊎_elim, refl, sym, subst, arith}
+use Rattle.std.proofs.Common.{◌≡◌, ℕ, ◌+◌, ◌<◌, ◌≤◌, List, [], ◌∷◌, Some, inl, inr, ⊎_elim, refl, sym, subst, arith}
 use Rattle.std.proofs.lemmas.Bool.{cases_lt}
 use Rattle.std.specs.Prelude.{Any, IsSome}
 use Rattle.checkpoint.proofs.Unused.{unused_holds}
 use Rattle.crash_disk.proofs.Moments.{settled-only, started, syncs_first}
 use Rattle.image_builder.proofs.Held.{medium_holds, one_held}
 use Rattle.outside_io.proofs.Told.{some_told}
-use Rattle.phase_gate.specs.Checkpointed.{IsMediumNow}
+use Rattle.any_store.specs.Checkpointed.{IsMediumNow}
 use Rattle.run_outcome.proofs.Laws.{at_told}
 use Rattle.session_run.specs.History.{HoldsOne, LosesNothing}
 use Rattle.store_spec.specs.Ballot.{Ballot}

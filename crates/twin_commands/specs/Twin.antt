@@ -4,8 +4,10 @@ use Rattle.std.specs.Prelude.{◌≡◌, ◌≢◌, ◌↔◌, ◌⊎◌, ◌+�
 use Rattle.outside_io.specs.Outside.{Input, Output}
 use Rattle.outside_io.specs.Stream.{TakesAll, TakesSome}
 use Rattle.phase_gate.specs.Around.{Around}
-use Rattle.phase_gate.specs.Beside.{calls_beside}
-use Rattle.phase_gate.specs.Checkpointed.{IsMediumNow}
+use Rattle.any_store.specs.Beside.{calls_beside}
+use Rattle.any_store.specs.Checkpointed.{IsMediumNow}
+use Rattle.any_store.specs.Disks.{one_store}
+use Rattle.any_store.specs.Disks.StoreDisks.{Alone}
 use Rattle.recovery.specs.declared.fault.MediumWhy.TheVariants as media
 use Rattle.run_outcome.specs.Row.{Content, EndsWell, IsOne, OfOne, Row}
 use Rattle.run_outcome.specs.Status.{ended_as}
@@ -13,8 +15,8 @@ use Rattle.run_outcome.specs.World.{Reported, World, nothing_reported}
 use Rattle.run_outcome.specs.declared.status.Status.{Status}
 use Rattle.run_outcome.specs.declared.status.Status.TheVariants as status
 use Rattle.session_commands.specs.Session.{run_status}
-use Rattle.session_run.specs.Ends.{GoesOn, HandlingEnds, IsAtCheckpoint, Tried}
-use Rattle.session_run.specs.History.{Acknowledged, Stood}
+use Rattle.session_run.specs.Ends.{GoesOn, HandlingEnds, IsAtCheckpoint}
+use Rattle.session_run.specs.History.{Acknowledged, Stood, Tried}
 use Rattle.session_run.specs.declared.fault.RunFault.{RunFault}
 use Rattle.session_run.specs.declared.fault.RunFault.TheVariants as run
 use Rattle.store_spec.specs.Ballot.{Ballot, IsBallotSet, IsWithinLimit}
@@ -127,9 +129,9 @@ pub record ArePaired {D : Type 0} (model : DiskModel D) (e : Election) (paired :
 
 -- ---- a session on both
 
--- one of the disks as a session meets it, with its own marks
+-- one of the disks as a session meets it, with its own marks, and no further disk
 abbrev pub beside : {K D : Type 0} → Output K → D → List ℕ → ℕ → Around K D
-beside sink disk marks held = record { sink = sink; disk = disk; marks = marks; held = held }
+beside sink disk marks held = record { sink = sink; disk = disk; marks = marks; others = []; held = held }
 
 -- How the handling of lines ended on both disks, once these were handled: on each as in a session on it alone, but that only
 -- one of them failed where a checkpoint did.
@@ -144,8 +146,8 @@ TwinHandles m n e set lines effects state (Err run.DiskFault) a old new first fi
     × (new.faults ≡ old.faults) × (first_after.sink.faults ≡ first.sink.faults)
 TwinHandles m n e set lines effects state answer a old new first first_after second second_after =
     (a ≡ ended_as run_status answer)
-    × HandlingEnds m (λ text. text) e set lines effects state answer old new first first_after
-    × HandlingEnds n (λ text. text) e set lines effects state answer old new second second_after
+    × HandlingEnds (one_store m) (λ text. text) e set lines effects state answer old new first first_after
+    × HandlingEnds (one_store n) (λ text. text) e set lines effects state answer old new second second_after
 
 -- a script was handled line by line, behind the line that tells how the disks were found
 pub record TwinPlays {S K A B : Type 0} (m : DiskModel A) (n : DiskModel B) (e : Election) (set : List Ballot) (a : Status)
@@ -202,7 +204,7 @@ GoesOnBehind {S} {K} model e set paired answer old new sink after disk =
     ((new ≡ old) × (after.disk ≡ disk) × (after.marks ≡ []) × (after.held ≡ length set)
     × (answer ≡ Err run.WriteFault) × TakesSome sink.taken (paired_text paired) after.sink.taken × Rose sink.faults after.sink.faults)
     ⊎ ((mid : Output K) × TakesAll sink.taken (paired_text paired) mid.taken × (mid.faults ≡ sink.faults)
-    × GoesOn model (λ text. text) e (begun set) answer old new (beside mid disk [] (length set)) after)
+    × GoesOn (one_store model) (λ text. text) e (begun set) answer old new (beside mid disk [] (length set)) after)
 
 -- Two disks that were made the medium of this set are one, and a call on both failed before anything was told. A crash
 -- leaves the set of each.
@@ -249,7 +251,7 @@ pub record SyncsAndGoesOn {S K D : Type 0} (model : DiskModel D) (leads_to : D �
   pub leads : leads_to disk mid
   pub begun_is : report.begun ≡ Some begun
   pub others : report.others ≡ map (calls_beside (Some begun)) report.marks
-  pub stood : Stood model leads_to mid after.disk after.marks
+  pub stood : Stood (Alone model) leads_to mid after.disk after.marks
   pub goes_on : GoesOnBehind model e set paired answer old new sink after mid
 
 -- All that a run of `twin` promises under an election.

@@ -1,6 +1,6 @@
 //! Laws of two disks of which one is lost. Each function here states a law and does nothing.
 
-ghost use Rattle.phase_gate.specs.Checkpointed.{IsMediumNow};
+ghost use Rattle.any_store.specs.Checkpointed.{IsMediumNow};
 ghost use Rattle.run_outcome.specs.World.{Reported, World};
 ghost use Rattle.run_outcome.specs.declared.status.Status.{Status};
 ghost use Rattle.run_outcome.specs.declared.status.Status.TheVariants as statuses;

@@ -4,7 +4,8 @@ ghost use Rattle.body_store.specs.Contents.{IsStored};
 ghost use Rattle.outside_io.specs.Outside.{input, output};
 ghost use Rattle.phase_gate.specs.Around.{around};
 ghost use Rattle.phase_gate.specs.Beside.{AreBeside};
-ghost use Rattle.phase_gate.specs.Checkpointed.{IsMediumNow};
+ghost use Rattle.any_store.specs.Checkpointed.{IsMediumNow};
+ghost use Rattle.any_store.specs.Disks.StoreDisks.{Alone};
 ghost use Rattle.run_outcome.specs.Row.{OfOne};
 ghost use Rattle.run_outcome.specs.Status.{ended, ended_as};
 ghost use Rattle.run_outcome.specs.World.{nothing_reported};
@@ -74,7 +75,7 @@ fn go_on<R: Threads + Sync, S: Source, K: Sink, D: Disk, T: Turns>(
         (around (output K.taken K.faults out.new) disk.new report.new) disk.old }
     ensures others { AreBeside report.new.begun report.new.marks.items report.new.others.items }
     ensures begun { report.new.begun ≡ report.old.begun }
-    ensures stood { Stood (disk_model D.seen D.calls D.may_leave D.faults)
+    ensures stood { Stood (Alone (disk_model D.seen D.calls D.may_leave D.faults))
         D.leads_to disk.old disk.new report.new.marks.items }
     ensures leads { D.leads_to disk.old disk.new }
     ensures fails { IsErrOf result RunFault.DiskFault → D.fails_to disk.old disk.new }

@@ -15,7 +15,7 @@ ghost use Rattle.twin_media.specs.Pairing.{IsKeptOr};
 
 use crate::fault::{DiskWhy, FindFault};
 use ballot_record::Election;
-use bank_medium::{Bank, settle};
+use bank_medium::{Bank, same_bytes, settle};
 use body_store::Closed;
 use checkpoint::{checkpoint, fill_unused};
 use crash_disk::Disk;
@@ -119,7 +119,7 @@ pub(crate) fn same_set(one: &Closed, two: &Closed) -> bool
     requires { one.now.election ≡ two.now.election }
     ensures { IsTrue result ↔ (one.now.ballots ≡ two.now.ballots) }
 {
-    one.image() == two.image()
+    same_bytes(one.image(), two.image())
 }
 
 /// Makes a disk the medium of the set that it was found to hold.

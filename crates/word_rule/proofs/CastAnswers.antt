@@ -2,7 +2,6 @@
 use Rattle.std.proofs.Common.{◌≡◌, ℕ, [], refl, sym, ap, ◌∙◌, subst, pos_of_ne-zero}
 use Rattle.atomic_table.specs.Table.{Allows, Me}
 use Rattle.atomic_table.specs.declared.shared.Seat.{Seat}
-use Rattle.crossbeam_utils.specs.Padded.{padded_value}
 use Rattle.step_core.proofs.CastBegins.{begins_on}
 use Rattle.step_core.specs.CastTables.{BeginsAt, FitsIn, LeadsTo}
 use Rattle.step_core.specs.Shape.{table_of}
@@ -16,10 +15,11 @@ use Rattle.store_spec.specs.Measure.{Falls}
 use Rattle.word_rule.proofs.CastFound.{one_row}
 use Rattle.word_rule.proofs.CastKept.{allows, state_after}
 use Rattle.word_rule.specs.CastSeats.{IsCast, IsToldAlike, MakesRow, StepsFrom, begins}
-use Rattle.word_rule.specs.CastWords.{IsAbout, IsSeat, MayBegin}
+use Rattle.word_rule.specs.CastWords.{IsAbout, MayBegin, StandsFor}
+use Rattle.word_rule.specs.Places.{IsSeat}
 use Rattle.word_rule.specs.Seats.{IsSeated, SharedWords, words_of}
 use Rattle.word_rule.specs.Steps.{step_of}
-use Rattle.word_rule.specs.declared.cast.CastSeat.TheInside as seats
+use Rattle.word_rule.specs.declared.cast.Standing.{Standing}
 use Rattle.word_rule.specs.declared.seats.Known.{Known}
 use Rattle.word_rule.specs.declared.seats.Opening.{Opening}
 
@@ -125,10 +125,12 @@ allows_first opening slots id me x shape act same is weight rest may =
     (subst (λ (s : CastState). GoesFrom (table_of me.0.shape) (numbers_in me.0.base) s (Probing x 0)) (sym rest) (x, may, refl)))
 
 -- a seat that rests, where it rested before, is kept with what it stood for
-pub rest_again : (of : SharedWords) (s : seats.Inside) (seat : OneSeat) → IsSeat s → s.seat.me.0.view.state ≡ Rest → IsAbout of Rest seat → IsSeat (record { standing = s.standing; seat = seat })
-rest_again of s seat kept rested about = record {
-  state = kept.state ∙ rested ∙ sym about.state_is;
-  first = subst (λ (state : CastState). BeginsAt (table_of seat.me.0.shape) state (padded_value s.standing).first) (sym about.state_is) tt;
+pub rest_again : (of : SharedWords) (standing : Standing) (seat now : OneSeat) → IsSeat StandsFor standing seat → seat.me.0.view.state ≡ Rest → IsAbout of Rest now → IsSeat StandsFor standing now
+rest_again of standing seat now kept rested about = record {
+  stands = record {
+    state = kept.stands.state ∙ rested ∙ sym about.state_is;
+    first = subst (λ (state : CastState). BeginsAt (table_of now.me.0.shape) state standing.first) (sym about.state_is) tt;
+    fits = subst (FitsIn (table_of now.me.0.shape)) (sym about.state_is) tt;
+  };
   single = about.single;
-  fits = subst (FitsIn (table_of seat.me.0.shape)) (sym about.state_is) tt;
 }

@@ -1,7 +1,6 @@
 -- The rule of casting holds when the words are new, and where seats are made and taken in.
-use Rattle.std.proofs.Common.{◌≡◌, ◌≢◌, ◌==◌, not, ℕ, ◌+◌, ◌^◌, ◌<◌, ⊎_elim, List, [], ◌∷◌, ◌++◌, length, take, replicate, refl, sym, ap, ◌∙◌, subst, arith, pow_pos}
+use Rattle.std.proofs.Common.{◌≡◌, ◌≢◌, ◌==◌, not, ℕ, ◌^◌, ◌<◌, ⊎_elim, List, [], ◌∷◌, refl, sym, ap, ◌∙◌, subst, arith, pow_pos}
 use Rattle.std.proofs.lemmas.Bool.{cases_eq, cond-true, cond-false, eq-eqb, ne_eqb}
-use Rattle.std.proofs.lemmas.List.{length-append, length-replicate}
 use Rattle.std.proofs.lemmas.List.Elements.{All-cons, All-nil}
 use Rattle.std.proofs.lemmas.List.Sums.{sum_by-cons}
 use Rattle.std.specs.List.{All, sum_by}
@@ -14,10 +13,9 @@ use Rattle.step_core.specs.declared.shape.Shape.{Shape}
 use Rattle.store_spec.specs.CastInvariant.{HasRoomFor, HoldSame}
 use Rattle.store_spec.specs.CastStep.{fresh_view, joined_view}
 use Rattle.store_spec.specs.Layout.{numbers_in}
-use Rattle.word_rule.proofs.Opened.{base_is}
 use Rattle.word_rule.specs.CastSeats.{IsAtRest, IsCast}
 use Rattle.word_rule.specs.CastWords.{MayHold}
-use Rattle.word_rule.specs.Seats.{KeepsSeats}
+use Rattle.word_rule.specs.Seats.{KeepsSeats, Opens}
 
 pub keeps_seats : KeepsSeats IsCast fresh_view joined_view IsAtRest
 keeps_seats = record {
@@ -58,14 +56,6 @@ numbers_some (cell ∷ cells) = ⊎_elim
 
 -- ---- new words
 
--- where there is room, there is a cell
-pub some_cell : (shape : Shape) (cells : List ℕ) → MayHold shape cells → 0 < shape.cells
-some_cell shape cells may = let room = may.room in let some : 0 < 2 ^ shape.order.bits = pow_pos shape.order.bits in omega arith
-
--- the words are the cells and the claim words
-pub laid_size : (shape : Shape) (cells words : List ℕ) → MayHold shape cells → words ≡ cells ++ replicate shape.claims 0 → length words ≡ shape.cells + shape.claims
-laid_size shape cells words may laid = omega (arith, ap length laid, length-append cells (replicate {A = ℕ} shape.claims 0), length-replicate {A = ℕ} shape.claims 0, may.size)
-
 -- there is room for what stands in the cells
 has_room : (shape : Shape) (cells : List ℕ) → MayHold shape cells → HasRoomFor (table_of shape) (numbers_in cells)
 has_room shape cells may = record {
@@ -76,13 +66,15 @@ has_room shape cells may = record {
 }
 
 -- the rule holds of the cells with free claim words, and one new view
-pub opens : (shape : Shape) (cells words : List ℕ) → MayHold shape cells → words ≡ cells ++ replicate shape.claims 0 → IsCast shape (take shape.cells words) words (fresh_view ∷ [])
-opens shape cells words may laid =
-    let new : IsCast shape cells (cells ++ replicate shape.claims 0) (fresh_view ∷ []) = record {
-      room = has_room shape cells may;
-      invariant = core.opening (table_of shape) (numbers_in cells) cells (fresh_view ∷ []) may.ordered may.size (numbers_weigh cells)
-          (once_distinct (numbers_in cells) (distinct_in (homes_of shape) cells may.ordered))
-          (All-cons (λ view. view ≡ fresh_view) fresh_view [] refl (All-nil (λ view. view ≡ fresh_view)));
-    } in
-    subst (λ (l : List ℕ). IsCast shape (take shape.cells l) l (fresh_view ∷ [])) (sym laid)
-    (subst (λ (b : List ℕ). IsCast shape b (cells ++ replicate shape.claims 0) (fresh_view ∷ [])) (sym (base_is shape.cells cells (replicate shape.claims 0) may.size)) new)
+pub opens : (shape : Shape) (cells : List ℕ) → MayHold shape cells → Opens IsCast fresh_view shape.claims shape cells
+opens shape cells may = record {
+  some = let room = may.room in let some : 0 < 2 ^ shape.order.bits = pow_pos shape.order.bits in omega arith;
+  size = may.size;
+  small = may.small;
+  kept = record {
+    room = has_room shape cells may;
+    invariant = core.opening (table_of shape) (numbers_in cells) cells (fresh_view ∷ []) may.ordered may.size (numbers_weigh cells)
+        (once_distinct (numbers_in cells) (distinct_in (homes_of shape) cells may.ordered))
+        (All-cons (λ view. view ≡ fresh_view) fresh_view [] refl (All-nil (λ view. view ≡ fresh_view)));
+  };
+}

@@ -1,61 +1,80 @@
 -- Seats that are taken in by the first one, one after another.
-use Rattle.std.proofs.Common.{◌≡◌, ◌≢◌, ℕ, List, [], ◌∷◌, map, sym, ap, ◌∙◌, subst, arith}
+use Rattle.std.proofs.Common.{◌≡◌, ℕ, ◌<◌, List, [], ◌∷◌, ◌++◌, length, length-append, map, sym, ap, ◌∙◌, subst, append-nil, append_assoc, arith}
+use Rattle.std.proofs.lemmas.Grind.{flat_map-append}
+use Rattle.std.proofs.lemmas.List.{map_push}
+use Rattle.std.proofs.lemmas.List.Concat.{flat_map-cons}
 use Rattle.std.proofs.lemmas.List.Elements.{All-head, All-tail}
-use Rattle.std.specs.List.{All}
-use Rattle.atomic_table.specs.Seated.{TableId}
+use Rattle.std.specs.List.{All, flat_map}
+use Rattle.atomic_table.specs.Table.{Me}
 use Rattle.atomic_table.specs.declared.shared.Seat.{Seat}
-use Rattle.word_rule.specs.Seats.{IsSeatAt, all_taken_in, first_with_all, taken_in}
+use Rattle.word_rule.specs.Places.{AreWhole, HasTakenIn, IsSingle, Place, place_of}
+use Rattle.word_rule.specs.Seats.{SharedWords, taken_in}
 use Rattle.word_rule.specs.declared.seats.Known.{Known}
 
-module _ {V : Type 0} (table : TableId) (both : V → V → V) (rests : V → Type 0) where
-  abbrev Place : Type 0
-  Place = Seat (Unit {0}) (Known V)
+module _ {V : Type 0} (both : V → V → V) (rests : V → Type 0) (words : SharedWords) where
+  abbrev OneSeat : Type 0
+  OneSeat = Seat (Unit {0}) (Known V)
 
-  abbrev known_at : Place → Known V
-  known_at seat = seat.me.0
+  abbrev pub IsLeft : Place V → Type 0
+  IsLeft place = (place.words ≡ words) × rests place.view
 
-  -- the first seat has taken in some, and with those that are left it becomes this
-  pub record IsJoining (end : Known V) (whole : Place) (left : List Place) : Type 0 where
-    pub of : whole.table_id ≡ table
-    pub holds_none : whole.me.1 ≡ []
-    pub heavy : whole.me.0.weight ≢ 0
-    pub at_rest : rests whole.me.0.view
-    pub each : All (IsSeatAt table rests) left
-    pub ends : all_taken_in both whole.me.0 (map known_at left) ≡ end
+  -- the first seat has taken in some, and these are left
+  pub record IsJoining (seats : List (Place V)) (whole : OneSeat) (left : List (Place V)) : Type 0 where
+    pub taken : List (Place V)
+    pub are : taken ++ left ≡ seats
+    pub some : 0 < length taken
+    pub has : HasTakenIn both rests words taken whole
+    pub each : All IsLeft left
 
-  pub none_joined : (fresh : V) (whole : Place) (left seats : List Place) → seats ≡ whole ∷ left → All (IsSeatAt table rests) seats → IsJoining (first_with_all fresh both (map known_at seats)) whole left
-  none_joined fresh whole left seats are each =
-      let each_left : All (IsSeatAt table rests) (whole ∷ left) = subst (All (IsSeatAt table rests)) are each in
-      let first = All-head (IsSeatAt table rests) whole left each_left in
+  pub all_left : (seats : List (Place V)) → AreWhole rests words seats → All IsLeft seats
+  all_left seats whole = λ k d within. (whole.belong k d within, whole.such k d within)
+
+  pub none_joined : (seats left : List (Place V)) (first : Place V) (whole : OneSeat) → AreWhole rests words seats → seats ≡ first ∷ left → place_of whole ≡ first → IsSingle whole → IsJoining seats whole left
+  none_joined seats left first whole all are is single =
+      let each : All IsLeft (first ∷ left) = subst (All IsLeft) are (all_left seats all) in
+      let own = All-head IsLeft first left each in
       record {
-        of = first.of;
-        holds_none = first.holds_none;
-        heavy = λ none. (let one = first.weight in omega arith);
-        at_rest = first.at_rest;
-        each = All-tail (IsSeatAt table rests) whole left each_left;
-        ends = ap (λ (ss : List Place). first_with_all fresh both (map known_at ss)) (sym are);
-      }
-
-  pub one_joined : ((view gone : V) → rests view → rests gone → rests (both view gone)) → (end : Known V) (whole now seat : Place) (left left_now : List Place) → IsJoining end whole left → left ≡ seat ∷ left_now → now.table_id ≡ whole.table_id → now.me ≡ (taken_in both whole.me.0 seat.me.0, whole.me.1) → IsJoining end now left_now
-  one_joined still end whole now seat left left_now h are of is =
-      let each_left : All (IsSeatAt table rests) (seat ∷ left_now) = subst (All (IsSeatAt table rests)) are h.each in
-      let own = All-head (IsSeatAt table rests) seat left_now each_left in
-      let known = ap (λ (me : Known V × List (ℕ × Unit {0})). me.0) is in
-      record {
-        of = of ∙ h.of;
-        holds_none = ap (λ (me : Known V × List (ℕ × Unit {0})). me.1) is ∙ h.holds_none;
-        heavy = λ none. (let one = own.weight in let weight = ap (λ (k : Known V). k.weight) known in omega arith);
-        at_rest = subst (λ (k : Known V). rests k.view) (sym known) (still whole.me.0.view seat.me.0.view h.at_rest own.at_rest);
-        each = All-tail (IsSeatAt table rests) seat left_now each_left;
-        ends = ap (λ (k : Known V). all_taken_in both k (map known_at left_now)) known
-            ∙ ap (λ (ss : List Place). all_taken_in both whole.me.0 (map known_at ss)) (sym are) ∙ h.ends;
+        taken = first ∷ [];
+        are = sym are;
+        some = omega arith;
+        has = record {
+          of = ap (λ (p : Place V). p.words.table) is ∙ ap (λ (w : SharedWords). w.table) own.0;
+          holds_none = single.holds_none;
+          weight = single.weight;
+          at_rest = subst (λ (p : Place V). rests p.view) (sym is) own.1;
+          lists = λ list joins. ap (λ (p : Place V). list p.view) is ∙ sym (flat_map-cons list first.view [] ∙ append-nil (list first.view));
+        };
+        each = All-tail IsLeft first left each;
       }
 
   -- what is known of the seat that is taken in next
-  pub next_joined : (end : Known V) (whole seat : Place) (left left_now : List Place) → IsJoining end whole left → left ≡ seat ∷ left_now → IsSeatAt table rests seat
-  next_joined end whole seat left left_now h are = All-head (IsSeatAt table rests) seat left_now (subst (All (IsSeatAt table rests)) are h.each)
+  pub next_left : (seats left now : List (Place V)) (next : Place V) (whole : OneSeat) → IsJoining seats whole left → left ≡ next ∷ now → IsLeft next
+  next_left seats left now next whole h are = All-head IsLeft next now (subst (All IsLeft) are h.each)
 
-  pub all_joined : (end : Known V) (whole : Place) (left : List Place) → IsJoining end whole left → left ≡ [] → whole.me ≡ (end, [])
-  all_joined end whole left h none =
-      let known : whole.me.0 ≡ end = ap (λ (ss : List Place). all_taken_in both whole.me.0 (map known_at ss)) (sym none) ∙ h.ends in
-      λ i. (known i, h.holds_none i)
+  pub one_joined : ((view gone : V) → rests view → rests gone → rests (both view gone)) → (seats left left_now : List (Place V)) (next : Place V) (whole now seat : OneSeat) → IsJoining seats whole left → left ≡ next ∷ left_now → place_of seat ≡ next → IsSingle seat → now.table_id ≡ whole.table_id → now.me ≡ (taken_in both whole.me.0 seat.me.0, whole.me.1) → IsJoining seats now left_now
+  one_joined still seats left left_now next whole now seat h are is single of me_is =
+      let known = ap (λ (me : Me (Unit {0}) (Known V)). me.0) me_is in
+      let view = ap (λ (p : Place V). p.view) is in
+      let own = next_left seats left left_now next whole h are in
+      record {
+        taken = h.taken ++ next ∷ [];
+        are = append_assoc h.taken (next ∷ []) left_now ∙ ap (λ (l : List (Place V)). h.taken ++ l) (sym are) ∙ h.are;
+        some = omega (arith, length-append h.taken (next ∷ []));
+        has = record {
+          of = of ∙ h.has.of;
+          holds_none = ap (λ (me : Me (Unit {0}) (Known V)). me.1) me_is ∙ h.has.holds_none;
+          weight = omega (arith, ap (λ (k : Known V). k.weight) known, h.has.weight, single.weight, length-append h.taken (next ∷ []));
+          at_rest = subst (λ (k : Known V). rests k.view) (sym known) (still whole.me.0.view seat.me.0.view h.has.at_rest (subst rests (sym view) own.1));
+          lists = λ list joins.
+              ap (λ (k : Known V). list k.view) known ∙ joins whole.me.0.view seat.me.0.view
+              ∙ ap (λ (l : List ℕ). l ++ list seat.me.0.view) (h.has.lists list joins)
+              ∙ ap (λ (v : V). flat_map list (map (λ p. p.view) h.taken) ++ list v) view
+              ∙ ap (λ (l : List ℕ). flat_map list (map (λ p. p.view) h.taken) ++ l) (sym (flat_map-cons list next.view [] ∙ append-nil (list next.view)))
+              ∙ sym (flat_map-append list (map (λ p. p.view) h.taken) (next.view ∷ []))
+              ∙ ap (flat_map list) (sym (map_push (λ (p : Place V). p.view) h.taken next));
+        };
+        each = All-tail IsLeft next left_now (subst (All IsLeft) are h.each);
+      }
+
+  pub all_joined : (seats left : List (Place V)) (whole : OneSeat) → IsJoining seats whole left → left ≡ [] → HasTakenIn both rests words seats whole
+  all_joined seats left whole h none = subst (λ (l : List (Place V)). HasTakenIn both rests words l whole) (sym (append-nil h.taken) ∙ ap (λ (l : List (Place V)). h.taken ++ l) (sym none) ∙ h.are) h.has

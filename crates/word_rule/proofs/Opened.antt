@@ -1,22 +1,27 @@
 -- New words and their first seat, and the seats that are dealt.
-use Rattle.std.proofs.Common.{◌≡◌, ◌≢◌, ℕ, List, [], ◌∷◌, ◌++◌, length, map, take, refl, sym, ap, ◌∙◌, subst, arith}
+use Rattle.std.proofs.Common.{◌≡◌, ◌≢◌, ℕ, ◌+◌, List, [], ◌∷◌, ◌++◌, length, replicate, take, refl, sym, ap, ◌∙◌, subst, arith}
 use Rattle.std.proofs.Math.Seq.{take-append_seam}
-use Rattle.std.proofs.lemmas.List.{length-map}
-use Rattle.std.proofs.lemmas.List.Elements.{All-cons, All-map, All-nil}
+use Rattle.std.proofs.lemmas.List.{length-append, length-replicate}
+use Rattle.std.proofs.lemmas.List.Elements.{All-cons, All-nil}
 use Rattle.std.proofs.lemmas.List.Sums.{sum_by-cons}
-use Rattle.std.specs.List.{All}
-use Rattle.atomic_table.specs.Seated.{TableId}
 use Rattle.atomic_table.specs.Table as table
-use Rattle.atomic_table.specs.declared.shared.Seat.{Seat}
 use Rattle.step_core.specs.declared.shape.Shape.{Shape}
-use Rattle.word_rule.specs.Places.{AreAll, Place, place_of}
-use Rattle.word_rule.specs.Seats.{AreDealt, IsSeated, base_of, knows, words_of}
+use Rattle.word_rule.specs.Seats.{IsSeated, Opens, base_of, knows}
 use Rattle.word_rule.specs.declared.seats.Known.{Known}
 use Rattle.word_rule.specs.declared.seats.Opening.{Opening}
 
--- the cells at the opening are the first words
-pub base_is : (count : ℕ) (cells more : List ℕ) → length cells ≡ count → take count (cells ++ more) ≡ cells
-base_is count cells more size = ap (λ n. take n (cells ++ more)) (sym size) ∙ take-append_seam cells more
+-- words that are the cells and those behind them, which are 0
+module _ {V : Type 0} (holds : Shape → List ℕ → List ℕ → List V → Type 0) (fresh : V) (behind : ℕ) (shape : Shape) (cells words : List ℕ) (opens : Opens holds fresh behind shape cells) (laid : words ≡ cells ++ replicate behind 0) where
+  pub laid_size : length words ≡ shape.cells + behind
+  laid_size = omega (arith, ap length laid, length-append cells (replicate {A = ℕ} behind 0), length-replicate {A = ℕ} behind 0, opens.size)
+
+  -- the cells at the opening are the first words
+  pub base_is : take shape.cells words ≡ cells
+  base_is = ap (take shape.cells) laid ∙ ap (λ n. take n (cells ++ replicate behind 0)) (sym opens.size) ∙ take-append_seam cells (replicate behind 0)
+
+  -- the phase's own rule holds
+  pub kept_laid : holds shape (take shape.cells words) words (fresh ∷ [])
+  kept_laid = subst (λ (b : List ℕ). holds shape b words (fresh ∷ [])) (sym base_is) (subst (λ (l : List ℕ). holds shape cells l (fresh ∷ [])) (sym laid) opens.kept)
 
 module _ {V : Type 0} (fresh : V) (opening : Opening) where
   -- the rule of the seats holds of new words and a first seat, where the phase's own rule does
@@ -28,14 +33,4 @@ module _ {V : Type 0} (fresh : V) (opening : Opening) where
         spent = All-cons (λ (k : Known V). k.weight ≡ 0 → k.view ≡ fresh) first [] (λ n. refl) (All-nil (λ (k : Known V). k.weight ≡ 0 → k.view ≡ fresh));
         weights = omega (arith, sum_by-cons (λ (k : Known V). k.weight) first []);
         kept = kept;
-      }
-
-  -- the dealt seats are as many new ones as were asked for
-  pub all_new : (of : TableId) (count : ℕ) (seats : List (Seat (Unit {0}) (Known V))) (places : List (Place V)) → AreDealt of opening fresh count seats → count ≡ opening.seats → places ≡ map place_of seats → AreAll fresh (words_of of (knows opening 1 fresh)) places
-  all_new of count seats places dealt asked are =
-      let IsNew : Place V → Type 0 = λ place. place ≡ record { words = words_of of (knows opening 1 fresh); view = fresh } in
-      record {
-        count = ap length are ∙ length-map seats place_of ∙ dealt.all ∙ asked;
-        each = subst (All IsNew) (sym are) (All-map IsNew place_of seats
-            (λ k d lt. let is = dealt.each k d lt in λ i. record { words = words_of (is.0 i) ((is.1 i).0); view = (is.1 i).0.view }));
       }

@@ -3,6 +3,7 @@ use Rattle.std.proofs.Common.{◌≡◌, ◌≢◌, ◌⊎◌, ℕ, ◌+◌, Lis
 use Rattle.std.specs.List.{Contains}
 use Rattle.atomic_table.specs.Table.{Allows, Me, Step}
 use Rattle.atomic_table.specs.declared.shared.Seat.{Seat}
+use Rattle.atomic_table.specs.declared.shared.Shared.{Shared}
 use Rattle.step_core.specs.Shape.{homes_of}
 use Rattle.step_core.specs.WithdrawTables.{FitsIn, LeadsTo, state_of}
 use Rattle.step_core.specs.declared.shape.Shape.{Shape}
@@ -15,19 +16,25 @@ use Rattle.store_spec.specs.WithdrawStep.WithdrawNote.{Gone}
 use Rattle.store_spec.specs.WithdrawStep.WithdrawState.{Rest}
 use Rattle.word_rule.proofs.WithdrawAfter.{SeatAfter, after_first, after_later, first_row_made, flagged_is, gone_again, row_made, same_later}
 use Rattle.word_rule.proofs.WithdrawAllows.{first_allowed, later_allowed}
-use Rattle.word_rule.specs.Places.{words_seen}
+use Rattle.word_rule.specs.Places.{AreWords, words_seen}
 use Rattle.word_rule.specs.Seats as rule
 use Rattle.word_rule.specs.Seats.{SharedWords, words_of}
 use Rattle.word_rule.specs.WithdrawSeats.{Began, IsWithdrawn, WentOn}
-use Rattle.word_rule.specs.WithdrawWords.{AreWords, IsAbout, MakesFirstRow, MakesRow}
+use Rattle.word_rule.specs.WithdrawWords.{IsAbout, MakesFirstRow, MakesRow, MayEmpty}
 use Rattle.word_rule.specs.declared.seats.Known.{Known}
-use Rattle.word_rule.specs.declared.withdraw.WithdrawWords.TheInside as words
+use Rattle.word_rule.specs.declared.seats.Opening.{Opening}
 
 abbrev Here : Type 0
 Here = Me (Unit {0}) (Known WithdrawView)
 
 abbrev OneSeat : Type 0
 OneSeat = Seat (Unit {0}) (Known WithdrawView)
+
+abbrev Words : Type 0 → Type 0
+Words Q = Shared (Unit {0}) (Known WithdrawView) Opening Q
+
+abbrev AreWithdrawWords : {Q : Type 0} → Shape → Words Q → Type 0
+AreWithdrawWords shape shared = AreWords MayEmpty (λ (shape : Shape). shape.cells) shape shared
 
 -- a seat of words has their shape
 pub shape_of_seat : (of : SharedWords) (state : definition.WithdrawState) (seat : OneSeat) → IsAbout of state seat → seat.me.0.shape ≡ of.shape
@@ -46,19 +53,19 @@ still_about of from seat now new view about table is after =
     }
 
 -- words have the shape that is stored with them
-pub stored_shape : (w : words.Inside) (of : SharedWords) → words_seen w.table.shared ≡ of → AreWords w → w.shape ≡ of.shape
-stored_shape w of words_is kept = kept.shape ∙ ap (λ (v : SharedWords). v.shape) words_is
+pub stored_shape : {Q : Type 0} (shape : Shape) (shared : Words Q) (of : SharedWords) → words_seen shared ≡ of → AreWithdrawWords shape shared → shape ≡ of.shape
+stored_shape shape shared of words_is kept = kept.shape_is ∙ ap (λ (v : SharedWords). v.shape) words_is
 
-module _ (w : words.Inside) (of : SharedWords) (state : definition.WithdrawState) (seat : OneSeat) (words_is : words_seen w.table.shared ≡ of) (kept : AreWords w) (about : IsAbout of state seat) where
+module _ {Q : Type 0} (shape : Shape) (shared : Words Q) (of : SharedWords) (state : definition.WithdrawState) (seat : OneSeat) (words_is : words_seen shared ≡ of) (kept : AreWithdrawWords shape shared) (about : IsAbout of state seat) where
   base_size : length seat.me.0.base ≡ seat.me.0.shape.cells
-  base_size = ap (λ (v : SharedWords). length v.base) (about.belongs ∙ sym words_is) ∙ kept.base ∙ ap (λ (h : Shape). h.cells) (stored_shape w of words_is kept ∙ sym (shape_of_seat of state seat about))
+  base_size = ap (λ (v : SharedWords). length v.base) (about.belongs ∙ sym words_is) ∙ kept.opened.size ∙ ap (λ (v : SharedWords). v.shape.cells) (words_is ∙ sym about.belongs)
 
   some_weight : seat.me.0.weight ≢ 0
   some_weight = λ z. let one = about.single.weight in let no : ⊥ = omega arith in no
 
   -- the act of a state, as the code has it
-  pub allows_act : (slots : ℕ) (step : Step (Unit {0})) (act : Act) → state ≢ Rest → act ≡ withdraw_act state → Allows (rule.IsSeated IsWithdrawn fresh_view w.table.shared.key) slots seat.id seat.me (word_of act) (left_by act) (WentOn step seat.me)
-  allows_act slots step act moves is = later_allowed w.table.shared.key slots seat.id seat.me some_weight base_size act step
+  pub allows_act : (slots : ℕ) (step : Step (Unit {0})) (act : Act) → state ≢ Rest → act ≡ withdraw_act state → Allows (rule.IsSeated IsWithdrawn fresh_view shared.key) slots seat.id seat.me (word_of act) (left_by act) (WentOn step seat.me)
+  allows_act slots step act moves is = later_allowed shared.key slots seat.id seat.me some_weight base_size act step
       (λ e. moves (sym about.state_is ∙ e)) (is ∙ ap withdraw_act (sym about.state_is))
 
   -- the first step for a number
@@ -66,9 +73,9 @@ module _ (w : words.Inside) (of : SharedWords) (state : definition.WithdrawState
     seated_here : IsSeated seat.me.0.base x place
     seated_here = subst (λ (l : List ℕ). IsSeated l x place) (sym (ap (λ (v : SharedWords). v.base) about.belongs)) seated
 
-    pub allows_first : (slots word : ℕ) (step : Step (Unit {0})) → state ≡ Rest → step.word ≡ word → word ≡ w.shape.cells + place → Allows (rule.IsSeated IsWithdrawn fresh_view w.table.shared.key) slots seat.id seat.me word (λ found. 1) (Began step seat.me)
-    allows_first slots word step rests word_is flag_is = first_allowed w.table.shared.key slots seat.id seat.me some_weight base_size x place word step (about.state_is ∙ rests) seated_here word_is
-        (flag_is ∙ ap (λ (h : Shape). h.cells + place) (stored_shape w of words_is kept ∙ sym (shape_of_seat of state seat about)))
+    pub allows_first : (slots word : ℕ) (step : Step (Unit {0})) → state ≡ Rest → step.word ≡ word → word ≡ shape.cells + place → Allows (rule.IsSeated IsWithdrawn fresh_view shared.key) slots seat.id seat.me word (λ found. 1) (Began step seat.me)
+    allows_first slots word step rests word_is flag_is = first_allowed shared.key slots seat.id seat.me some_weight base_size x place word step (about.state_is ∙ rests) seated_here word_is
+        (flag_is ∙ ap (λ (h : Shape). h.cells + place) (stored_shape shape shared of words_is kept ∙ sym (shape_of_seat of state seat about)))
 
 -- what a first step leaves of a seat
 pub record HasBegun (of : SharedWords) (x : ℕ) (seat now : OneSeat) (new : WithdrawState) (note : WithdrawNote) : Type 0 where

@@ -1,12 +1,11 @@
 -- The rule of withdrawing holds when the words are new, and where seats are made and taken in.
-use Rattle.std.proofs.Common.{◌≡◌, ℕ, List, [], ◌∷◌, ◌++◌, replicate, take, refl, sym, subst}
+use Rattle.std.proofs.Common.{◌≡◌, ℕ, List, [], ◌∷◌, ◌++◌, replicate, refl, subst}
 use Rattle.std.proofs.lemmas.List.Elements.{All-cons, All-nil}
 use Rattle.step_core.proofs.WithdrawSeats as laws
 use Rattle.step_core.specs.Shape.{homes_of}
 use Rattle.step_core.specs.declared.shape.Shape.{Shape}
 use Rattle.store_spec.specs.WithdrawStep.{fresh_view}
-use Rattle.word_rule.proofs.Opened.{base_is}
-use Rattle.word_rule.specs.Seats.{KeepsSeats}
+use Rattle.word_rule.specs.Seats.{KeepsSeats, Opens}
 use Rattle.word_rule.specs.WithdrawSeats.{IsAtRest, IsWithdrawn, joined_view}
 use Rattle.word_rule.specs.WithdrawWords.{MayEmpty}
 
@@ -17,9 +16,12 @@ keeps_seats = record {
   still = λ view gone rests rests_gone. refl;
 }
 
-pub opens : (shape : Shape) (cells words : List ℕ) → MayEmpty shape cells → words ≡ cells ++ replicate shape.cells 0 → IsWithdrawn shape (take shape.cells words) words (fresh_view ∷ [])
-opens shape cells words may laid =
-    let opened = laws.opened (homes_of shape) cells (fresh_view ∷ []) may.base (All-cons (λ v. v ≡ fresh_view) fresh_view [] refl (All-nil (λ v. v ≡ fresh_view))) in
-    let new : IsWithdrawn shape cells (cells ++ replicate shape.cells 0) (fresh_view ∷ []) = subst (λ (n : ℕ). IsWithdrawn shape cells (cells ++ replicate n 0) (fresh_view ∷ [])) may.size opened in
-    subst (λ (l : List ℕ). IsWithdrawn shape (take shape.cells l) l (fresh_view ∷ [])) (sym laid)
-    (subst (λ (b : List ℕ). IsWithdrawn shape b (cells ++ replicate shape.cells 0) (fresh_view ∷ [])) (sym (base_is shape.cells cells (replicate shape.cells 0) may.size)) new)
+-- the rule holds of the cells with no flag set, and one new view
+pub opens : (shape : Shape) (cells : List ℕ) → MayEmpty shape cells → Opens IsWithdrawn fresh_view shape.cells shape cells
+opens shape cells may = record {
+  some = may.some;
+  size = may.size;
+  small = may.small;
+  kept = subst (λ (n : ℕ). IsWithdrawn shape cells (cells ++ replicate n 0) (fresh_view ∷ [])) may.size
+      (laws.opened (homes_of shape) cells (fresh_view ∷ []) may.base (All-cons (λ v. v ≡ fresh_view) fresh_view [] refl (All-nil (λ v. v ≡ fresh_view))));
+}

@@ -1,17 +1,15 @@
 -- Shared words of casting and their seats, as callers see them.
 use Rattle.std.specs.Prelude.{◌≡◌, ◌≢◌, ℕ, ◌+◌, ◌^◌, ◌<◌, ◌≤◌, List, ◌++◌, length, map, All, Contains}
 use Rattle.atomic_table.specs.declared.shared.Seat.{Seat}
-use Rattle.crossbeam_utils.specs.Padded.{padded_value}
 use Rattle.step_core.specs.CastTables.{BeginsAt, FitsIn, state_of}
 use Rattle.step_core.specs.Shape.{homes_of, table_of}
 use Rattle.step_core.specs.declared.shape.Shape.{Shape}
 use Rattle.store_spec.specs.CastInvariant.{EachOnce, accepted_of}
 use Rattle.store_spec.specs.CastStep.{CastState, CastView}
 use Rattle.store_spec.specs.Layout.{IsOrdered, layout_of, numbers_in}
-use Rattle.word_rule.specs.Places.{IsSingle, Place, place_of}
+use Rattle.word_rule.specs.Places.{IsSingle, Place}
 use Rattle.word_rule.specs.Seats.{SharedWords, words_of}
-use Rattle.word_rule.specs.declared.cast.CastSeat.TheInside as seats
-use Rattle.word_rule.specs.declared.cast.CastWords.TheInside as words
+use Rattle.word_rule.specs.declared.cast.Standing.{Standing}
 use Rattle.word_rule.specs.declared.seats.Known.{Known}
 
 -- what words may be made of: ordered cells, with room for what stands in them, each claim word and each home
@@ -47,22 +45,11 @@ cells_after words seats = layout_of (homes_of words.shape) words.shape.cells (nu
 
 -- ---- how words and seats are kept
 
-pub record AreWords (w : words.Inside) : Type 0 where
-  pub shape : w.shape ≡ w.table.shared.key.shape
-  pub count : w.table.shared.table_id.words ≡ w.shape.cells + w.shape.claims
-  pub some : 0 < w.shape.cells
-  pub some_seat : 0 < w.table.shared.key.seats
-  pub no_slots : w.table.shared.table_id.slots ≡ 0
-  pub small : w.shape.cells + w.shape.claims < 2 ^ 32
-
-abbrev pub seat_seen : seats.Inside → Place CastView
-seat_seen s = place_of s.seat
-
-pub record IsSeat (s : seats.Inside) : Type 0 where
-  pub state : state_of (padded_value s.standing).state ≡ s.seat.me.0.view.state
-  pub first : BeginsAt (table_of s.seat.me.0.shape) s.seat.me.0.view.state (padded_value s.standing).first
-  pub single : IsSingle s.seat
-  pub fits : FitsIn (table_of s.seat.me.0.shape) s.seat.me.0.view.state
+-- The state in memory is that of the seat, and a number that looks for a claim word began at the one that is kept with it.
+pub record StandsFor (shape : Shape) (standing : Standing) (view : CastView) : Type 0 where
+  pub state : state_of standing.state ≡ view.state
+  pub first : BeginsAt (table_of shape) view.state standing.first
+  pub fits : FitsIn (table_of shape) view.state
 
 -- a seat of these words that is about this state
 pub record IsAbout (of : SharedWords) (state : CastState) (seat : Seat (Unit {0}) (Known CastView)) : Type 0 where

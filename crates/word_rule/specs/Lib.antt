@@ -5,8 +5,6 @@ pub mod Places
 pub mod Seats
 pub mod Steps
 pub mod Stores
-pub mod Tray
-pub mod TrayKept
 pub mod WithdrawRemoval
 pub mod WithdrawSeats
 pub mod WithdrawWords

@@ -1,9 +1,8 @@
 -- What the seats of shared words know, whatever the phase, and what holds of all of them. A seat stands for so many of
 -- the seats that were asked for: that is its weight. One of weight 0 was taken in by another and is spent.
-use Rattle.std.specs.Prelude.{◌≡◌, ◌≢◌, ℕ, List, [], ◌∷◌, ◌++◌, ◌+◌, ◌-◌, take, map, sum_by, All, Some, length, slice_get, slice_set}
+use Rattle.std.specs.Prelude.{◌≡◌, ◌≢◌, ℕ, List, [], ◌∷◌, ◌++◌, ◌+◌, ◌-◌, ◌^◌, ◌<◌, replicate, take, map, sum_by, All, Some, length, slice_get, slice_set}
 use mathlib.Core.Option.{some}
 use lib.ListN.{get_elem?}
-use Rattle.atomic_table.specs.declared.shared.Seat.{Seat}
 use Prim.Native.Nat.{zero-le}
 use Rattle.atomic_table.specs.Seated.{TableId}
 use Rattle.atomic_table.specs.Table.{State}
@@ -66,26 +65,13 @@ module _ {V : Type 0} where
         → holds shape base words (slice_set (slice_set views id (both view gone)) other fresh)
     pub still : (view gone : V) → rests view → rests gone → rests (both view gone)
 
-  -- as many seats of the table as were asked for, each new and of weight 1
-  pub record AreDealt (table : TableId) (opening : Opening) (fresh : V) (count : ℕ) (seats : List (Seat (Unit {0}) (Known V))) : Type 0 where
-    pub all : length seats ≡ count
-    pub each : All (λ seat. (seat.table_id ≡ table) × (seat.me ≡ (knows opening 1 fresh, []))) seats
-
-  -- a seat of the table that is at rest, stands for itself alone and holds no slot
-  pub record IsSeatAt (table : TableId) (rests : V → Type 0) (seat : Seat (Unit {0}) (Known V)) : Type 0 where
-    pub of : seat.table_id ≡ table
-    pub holds_none : seat.me.1 ≡ []
-    pub weight : seat.me.0.weight ≡ 1
-    pub at_rest : rests seat.me.0.view
-
-  -- the first seat with all others taken in, one after another
-  abbrev pub all_taken_in : (V → V → V) → Known V → List (Known V) → Known V
-  all_taken_in both known [] = known
-  all_taken_in both known (other ∷ others) = all_taken_in both (taken_in both known other) others
-
-  abbrev pub first_with_all : V → (V → V → V) → List (Known V) → Known V
-  first_with_all fresh both [] = spent fresh
-  first_with_all fresh both (known ∷ others) = all_taken_in both known others
+  -- There is a cell and the words are few, and the phase's rule holds of the cells, with so many words behind them that are
+  -- 0, and one new view.
+  pub record Opens (holds : Shape → List ℕ → List ℕ → List V → Type 0) (fresh : V) (behind : ℕ) (shape : Shape) (cells : List ℕ) : Type 0 where
+    pub some : 0 < shape.cells
+    pub size : length cells ≡ shape.cells
+    pub small : shape.cells + behind < 2 ^ 32
+    pub kept : holds shape cells (cells ++ replicate behind 0) (fresh ∷ [])
 
   -- What is known of a table at its end: its rule held of the last words, whose first are these, and a seat knew this.
   pub record HasEnded (holds : Shape → List ℕ → List ℕ → List V → Type 0) (fresh : V) (opening : Opening) (id : ℕ) (known : Known V) (cells : List ℕ) : Type 0 where

@@ -1,10 +1,10 @@
 -- Shared words of withdrawing and their seats, as callers see them.
 use Rattle.std.specs.Prelude.{◌≡◌, ℕ, ◌+◌, ◌^◌, ◌<◌, ◌≤◌, List, length, map, All, Contains}
 use Rattle.atomic_table.specs.declared.shared.Seat.{Seat}
-use Rattle.crossbeam_utils.specs.Padded.{padded_value}
 use Rattle.step_core.specs.Shape.{homes_of}
 use Rattle.step_core.specs.WithdrawTables.{FitsIn, state_of}
 use Rattle.step_core.specs.declared.shape.Shape.{Shape}
+use Rattle.step_core.specs.declared.withdraw.WithdrawState as states
 use Rattle.store_spec.specs.Layout.{layout_of, numbers_in}
 use Rattle.store_spec.specs.WithdrawInvariant.{IsBase, IsOf, begun_by, times}
 use Rattle.store_spec.specs.WithdrawPhase.{without}
@@ -12,11 +12,9 @@ use Rattle.store_spec.specs.WithdrawStep.{FirstRow, WithdrawState, WithdrawView,
 use Rattle.store_spec.specs.WithdrawStep as definition
 use Rattle.step_core.specs.WithdrawTables.{LeadsTo}
 use Rattle.word_rule.specs.Chain.{Chain}
-use Rattle.word_rule.specs.Places.{IsSingle, Place, place_of}
-use Rattle.word_rule.specs.Seats.{SharedWords, base_of, words_of}
+use Rattle.word_rule.specs.Places.{IsSingle, Place}
+use Rattle.word_rule.specs.Seats.{SharedWords, words_of}
 use Rattle.word_rule.specs.declared.seats.Known.{Known}
-use Rattle.word_rule.specs.declared.withdraw.WithdrawSeat.TheInside as seats
-use Rattle.word_rule.specs.declared.withdraw.WithdrawWords.TheInside as words
 
 -- what words may be made of: ordered cells, of which the last is empty, with a flag for each
 pub record MayEmpty (shape : Shape) (cells : List ℕ) : Type 0 where
@@ -60,24 +58,10 @@ cells_after words seats = layout_of (homes_of words.shape) words.shape.cells (wi
 
 -- ---- how words and seats are kept
 
-pub record AreWords (w : words.Inside) : Type 0 where
-  pub shape : w.shape ≡ w.table.shared.key.shape
-  pub count : w.table.shared.table_id.words ≡ w.shape.cells + w.shape.cells
-  pub base : length (base_of w.table.shared.key) ≡ w.shape.cells
-  pub some : 0 < w.shape.cells
-  pub no_slots : w.table.shared.table_id.slots ≡ 0
-  pub small : w.shape.cells + w.shape.cells < 2 ^ 32
-  pub no_claims : w.shape.claims ≡ 0
-  pub some_seat : 0 < w.table.shared.key.seats
-  pub begins : IsBase (homes_of w.shape) (base_of w.table.shared.key)
-
-abbrev pub seat_seen : seats.Inside → Place WithdrawView
-seat_seen s = place_of s.seat
-
-pub record IsSeat (s : seats.Inside) : Type 0 where
-  pub state : state_of (padded_value s.state) ≡ s.seat.me.0.view.state
-  pub single : IsSingle s.seat
-  pub fits : FitsIn s.seat.me.0.shape.cells s.seat.me.0.view.state
+-- the state in memory is that of the seat
+pub record StandsFor (shape : Shape) (standing : states.WithdrawState) (view : WithdrawView) : Type 0 where
+  pub state : state_of standing ≡ view.state
+  pub fits : FitsIn shape.cells view.state
 
 -- a seat of these words that is about this state
 pub record IsAbout (of : SharedWords) (state : WithdrawState) (seat : Seat (Unit {0}) (Known WithdrawView)) : Type 0 where

@@ -3,28 +3,24 @@
 #[cfg(test)]
 mod tests;
 
-ghost use Rattle.std.specs.Prelude.{◌≡◌, ◌≢◌, ℕ, ◌+◌, ◌^◌, ◌<◌, ◌≤◌, All, IfOk, length, map};
+ghost use Rattle.std.specs.Prelude.{◌≡◌, ◌≢◌, ℕ, ◌+◌, ◌^◌, ◌<◌};
 ghost use Rattle.step_core.specs.CastTables.{BeginsAt, note_of, state_of};
 ghost use Rattle.step_core.specs.Shape.{table_of};
-ghost use Rattle.store_spec.specs.CastStep.{cast_measure, fresh_view, number_of, view_after};
+ghost use Rattle.store_spec.specs.CastStep.{cast_measure, number_of, view_after};
 ghost use Rattle.store_spec.specs.CastStep.CastNote.{Quiet};
 ghost use Rattle.store_spec.specs.CastStep.CastState.{Carrying, Probing, Rest};
 ghost use Rattle.store_spec.specs.Measure.{Falls};
-ghost use Rattle.word_rule.specs.CastSeats.{CastsByRows, IsAnswer, IsAtRest, IsToldAlike, MakesNextRow, MakesRow, Probes};
-ghost use Rattle.word_rule.specs.CastWords.{AgreeOn, IsAbout, MayBegin, MayHold, cells_after};
+ghost use Rattle.word_rule.specs.CastSeats.{CastsByRows, IsAnswer, IsToldAlike, MakesNextRow, MakesRow, Probes};
+ghost use Rattle.word_rule.specs.CastWords.{IsAbout, MayBegin};
 ghost use Rattle.word_rule.specs.Chain.{Rows};
-ghost use Rattle.word_rule.specs.Places.{AreAll, AreMadeOf, AreWhole, IsSingle, place_of};
 
-use crate::seats::{Known, Opening, Phase, Seated, close_table, deal_seats, join_seats, lay_out};
+use crate::seats::{Known, Phase, SeatOf};
 use crate::steps::perform;
-use atomic_table::{Play, Seat, Table};
-use crossbeam_utils::CachePadded;
-use outside_io::Memory;
+use crate::words::WordsOf;
+use atomic_table::{Play, Seat};
 use probe_order::first_claim_place;
-use std::alloc::Global;
 use std::collections::LinkedList;
 use std::marker::Model;
-use std::snapshot::Snapshot;
 use step_core::{CastNote, CastState, Shape, cast_act_from, cast_after, cast_first};
 
 /// What a seat of casting knows in its phase: its state, and the numbers that it has accepted, has found taken, and has
@@ -56,6 +52,9 @@ pub struct Casting;
 impl Phase<CastSight> for Casting {
     ghost use Rattle.store_spec.specs.CastStep.{fresh_view, joined_view};
     ghost use Rattle.word_rule.specs.CastSeats.{IsAtRest, IsCast};
+    ghost use Rattle.word_rule.specs.CastWords.{AgreeOn, MayHold, StandsFor, cells_after};
+
+    type Standing = Standing;
 
     ghost holds = { IsCast };
 
@@ -64,6 +63,29 @@ impl Phase<CastSight> for Casting {
     ghost both = { joined_view };
 
     ghost rests = { IsAtRest };
+
+    ghost may_open = { MayHold };
+
+    ghost behind = { λ shape. shape.claims };
+
+    ghost stands = { StandsFor };
+
+    ghost cells_after = { cells_after };
+
+    ghost agree_on = { AgreeOn };
+
+    fn words_behind(shape: &Shape) -> usize {
+        shape.claims
+    }
+
+    fn at_rest() -> Standing {
+        Standing {
+            state: CastState::Rest,
+            first: 0,
+        }
+    }
+
+    fn laws() {}
 }
 
 /// The first step of a number.
@@ -85,50 +107,17 @@ impl Play<(), Known<CastSight>> for GoesOn {
 }
 
 /// Shared words of a casting phase: the cells, and behind them the claim words.
-#[derive(Drop)]
-pub struct CastWords {
-    shape: Shape,
-    table: Table<(), Known<CastSight>, Opening, Seated<Casting>, Global>,
-}
-
-impl Model for CastWords {
-    ghost use Rattle.word_rule.specs.CastWords.{AreWords};
-    ghost use Rattle.word_rule.specs.Places.{words_seen};
-    ghost use Rattle.word_rule.specs.Seats.{SharedWords};
-
-    ghost Value = { SharedWords };
-
-    ghost view = { λ w. words_seen w.table.shared };
-
-    ghost invariant = { AreWords };
-}
+pub type CastWords = WordsOf<CastSight, Casting>;
 
 /// What a seat is about, and the claim word at which the number that it probes for began.
-#[derive(Clone, Copy)]
-struct Standing {
+#[derive(Clone, Copy, Drop)]
+pub struct Standing {
     state: CastState,
     first: usize,
 }
 
-/// A seat at shared words of casting. One thread at a time makes its steps. Nothing else lies on the cache lines of its
-/// state.
-#[derive(Drop)]
-pub struct CastSeat {
-    standing: CachePadded<Standing>,
-    seat: Seat<(), Known<CastSight>>,
-}
-
-impl Model for CastSeat {
-    ghost use Rattle.store_spec.specs.CastStep.{CastView};
-    ghost use Rattle.word_rule.specs.CastWords.{IsSeat, seat_seen};
-    ghost use Rattle.word_rule.specs.Places.{Place};
-
-    ghost Value = { Place CastView };
-
-    ghost view = { seat_seen };
-
-    ghost invariant = { IsSeat };
-}
+/// A seat at shared words of casting.
+pub type CastSeat = SeatOf<CastSight, Casting>;
 
 impl CastSeat {
     /// What it is about.
@@ -140,30 +129,6 @@ impl CastSeat {
 }
 
 impl CastWords {
-    /// Words over ordered cells, with free claim words, and so many new seats. Each seat but one costs a step on word 0.
-    pub fn new(
-        alloc: Global,
-        shape: Shape,
-        cells: &[u64],
-        seats: usize,
-    ) -> Result<(CastWords, Vec<CastSeat>), Memory>
-        requires some_seat { 1 ≤ seats }
-        requires may_hold { MayHold shape cells.now }
-        ensures words { IfOk result (λ made. AreMadeOf shape cells.now seats made.0) }
-        ensures seats { IfOk result (λ made. AreAll fresh_view made.0 made.1.items) }
-    {
-        let words = lay_out(alloc, cells, shape.claims)?;
-        let opening = Opening {
-            shape,
-            seats,
-            words: Snapshot::of(&words),
-        };
-        let (table, first) = Table::of_words(alloc, &words, &opening)?;
-        let dealt = deal_seats(alloc, &table.shared, first, seats)?;
-        let seats = new_seats(alloc, dealt)?;
-        Ok((CastWords { shape, table }, seats))
-    }
-
     /// The first step of a number, by a seat at rest: its first claim word is tried.
     pub fn first(&self, seat: &mut CastSeat, number: u64) -> CastNote
         requires belongs { seat.old.words ≡ self.now }
@@ -322,58 +287,4 @@ impl CastWords {
         let found = perform::<_, _, _, GoesOn>(&self.table.shared, seat, act);
         cast_after(&shape, state, found)
     }
-
-    /// One look at a cell, without a seat. It promises nothing of the answer.
-    pub fn peek(&self, cell: usize) -> u64
-        requires { cell < self.now.shape.cells }
-    {
-        self.table.shared.peek(cell)
-    }
-
-    /// The cells at the end, from all seats. Each seat but one costs one step on word 0.
-    pub fn close(self, alloc: Global, seats: Vec<CastSeat>) -> Result<Vec<u64>, Memory>
-        requires { AreWhole IsAtRest self seats.items }
-        ensures cells { IfOk result (λ cells. cells.items ≡ cells_after self seats.items) }
-        ensures lists { IfOk result (λ _. AgreeOn self seats.items) }
-    {
-        let Self { shape, table } = self;
-        let left = left_seats(alloc, seats)?;
-        let mut cells = Vec::with_capacity(alloc, shape.cells)?;
-        let whole = join_seats(&table.shared, left);
-        close_table(table, whole, shape.cells, &mut cells);
-        Ok(cells)
-    }
-}
-
-/// Seats at rest of seats that were dealt.
-fn new_seats(alloc: Global, dealt: Vec<Seat<(), Known<CastSight>>>) -> Result<Vec<CastSeat>, Memory>
-    requires single { All IsSingle dealt.items }
-    requires fresh { All (λ seat. seat.me.0.view ≡ fresh_view) dealt.items }
-    ensures { IfOk result (λ seats. seats.items ≡ map place_of dealt.items) }
-{
-    let mut seats = Vec::with_capacity(alloc, dealt.len())?;
-    for seat in dealt {
-        let standing = CachePadded::new(Standing {
-            state: CastState::Rest,
-            first: 0,
-        });
-        seats.push(CastSeat { standing, seat })?;
-    }
-    Ok(seats)
-}
-
-/// What is left of seats whose states are done with.
-fn left_seats(
-    alloc: Global,
-    seats: Vec<CastSeat>,
-) -> Result<Vec<Seat<(), Known<CastSight>>>, Memory>
-    ensures places { IfOk result (λ left. map place_of left.items ≡ seats.items) }
-    ensures single { IfOk result (λ left. All IsSingle left.items) }
-{
-    let mut left = Vec::with_capacity(alloc, seats.len())?;
-    for seat in seats {
-        let CastSeat { standing: _, seat } = seat;
-        left.push(seat)?;
-    }
-    Ok(left)
 }

@@ -8,9 +8,8 @@ mod draws;
 pub mod laws;
 mod seats;
 mod steps;
-mod tray;
 mod withdraw;
+mod words;
 
-pub use cast::{CastSeat, CastWords};
-pub use tray::Tray;
-pub use withdraw::{WithdrawSeat, WithdrawWords};
+pub use cast::{CastSeat, CastSight, CastWords};
+pub use withdraw::{WithdrawSeat, WithdrawSight, WithdrawWords};

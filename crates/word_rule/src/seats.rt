@@ -1,13 +1,15 @@
-//! The seats of shared words, whatever the phase: their making, and their taking in.
+//! The seats of shared words, whatever the phase: what they know, their making, and their taking in.
 
-ghost use Rattle.std.specs.Prelude.{◌≡◌, ◌+◌, ◌^◌, ◌<◌, ◌≤◌, ◌++◌, [], All, IfOk, OnOk, length, map, replicate, vec_capacity};
-ghost use Rattle.word_rule.specs.Seats.{AreDealt, HasEnded, IsSeatAt, KeepsSeats, first_with_all, knows};
+ghost use Rattle.std.specs.Prelude.{◌≡◌, ◌<◌, ◌≤◌, [], IfOk};
+ghost use Rattle.word_rule.specs.Places.{AreAll, AreWhole, HasTakenIn, IsSingle, place_of, words_seen};
+ghost use Rattle.word_rule.specs.Seats.{knows};
 
-use atomic_table::{Join, Seat, Shared, Split, Table, TableRule};
+use atomic_table::{Join, Seat, Shared, Split, TableRule};
+use crossbeam_utils::CachePadded;
 use outside_io::Memory;
 use std::alloc::Global;
 use std::collections::LinkedList;
-use std::marker::PhantomData;
+use std::marker::{Model, PhantomData};
 use std::snapshot::Snapshot;
 use step_core::Shape;
 
@@ -29,11 +31,16 @@ pub struct Known<V> {
     pub view: V,
 }
 
-/// What a phase keeps between any two steps of the shape, the cells at the opening, the words and all views, how its
-/// views begin and are joined, and which of them are at rest.
+/// What a phase is: what it keeps between any two steps of the shape, the cells at the opening, the words and all views,
+/// how its views begin and are joined, which of them are at rest, and what comes of all seats at the end.
 pub trait Phase<V> {
-    ghost use Rattle.std.specs.Prelude.{ℕ, List};
+    ghost use Rattle.std.specs.Prelude.{◌≡◌, ℕ, List, take};
     ghost use Rattle.step_core.specs.declared.shape.Shape.{Shape};
+    ghost use Rattle.word_rule.specs.Places.{HaveEnded, Place};
+    ghost use Rattle.word_rule.specs.Seats.{KeepsSeats, Opens, SharedWords};
+
+    /// What is kept of a seat in memory.
+    type Standing: Copy + Drop;
 
     ghost holds: { Shape → List ℕ → List ℕ → List V → Type 0 };
 
@@ -42,6 +49,39 @@ pub trait Phase<V> {
     ghost both: { V → V → V };
 
     ghost rests: { V → Type 0 };
+
+    /// Words may be made of such cells.
+    ghost may_open: { Shape → List ℕ → Type 0 };
+
+    /// How many words are behind the cells.
+    ghost behind: { Shape → ℕ };
+
+    /// In words of a shape, this is kept of a seat that knows this.
+    ghost stands: { Shape → Self.Standing → V → Type 0 };
+
+    /// The cells at the end.
+    ghost cells_after: { SharedWords → List (Place V) → List ℕ };
+
+    /// What the lists of all seats are like at the end.
+    ghost agree_on: { SharedWords → List (Place V) → Type 0 };
+
+    /// How many words are behind the cells.
+    fn words_behind(shape: &Shape) -> usize
+        ensures { result ≡ behind shape.now };
+
+    /// What is kept of a new seat.
+    fn at_rest() -> Self::Standing
+        ensures { (shape : Shape) → stands shape result fresh };
+
+    /// The rule holds of new words, and where seats are made and taken in. Once all seats are one, at rest, the cells and
+    /// the lists are as they are said to be.
+    fn laws()
+        ensures opens { (shape : Shape) (cells : List ℕ) → may_open shape cells
+            → Opens holds fresh (behind shape) shape cells }
+        ensures keeps { KeepsSeats holds fresh both rests }
+        ensures closes { (words : SharedWords) (seats : List (Place V)) (last : List ℕ)
+            → may_open words.shape words.base → HaveEnded holds fresh both rests words seats last
+            → (take words.shape.cells last ≡ cells_after words seats) × agree_on words seats };
 }
 
 /// The rule of a phase's words and seats.
@@ -83,103 +123,89 @@ impl<V, Q: Phase<V>> Join<Known<V>> for TakeIn<Q> {
     ghost spent = { spent Q.fresh };
 }
 
-/// How many words are put at once. A block of this size is copied in the widest steps that the processor has.
-const BLOCK: usize = 250;
-
-const ZEROS: [u64; BLOCK] = [0; BLOCK];
-
-/// The cells, and behind them so many words that are 0.
-pub fn lay_out(alloc: Global, cells: &[u64], more: usize) -> Result<Vec<u64>, Memory>
-    requires { length cells.now + more < 2 ^ 32 }
-    ensures { IfOk result (λ v. v.items ≡ cells.now ++ replicate more 0) }
-{
-    let mut words = Vec::with_capacity(alloc, cells.len() + more)?;
-    while words.len() < cells.len() {
-        let at = words.len();
-        let count = BLOCK.min(cells.len() - at);
-        words.extend_from_slice(&cells[at..at + count])?;
-    }
-    put_zeros(&mut words, more)?;
-    Ok(words)
+/// A seat at shared words. One thread at a time makes its steps. Nothing else lies on the cache lines of what is kept of
+/// it in memory.
+#[derive(Drop)]
+pub struct SeatOf<V, Q: Phase<V>> {
+    pub(crate) standing: CachePadded<Q::Standing>,
+    pub(crate) seat: Seat<(), Known<V>>,
 }
 
-/// Puts so many words that are 0 behind others.
-fn put_zeros(words: &mut Vec<u64>, more: usize) -> Result<(), Memory>
-    ensures { OnOk result (words.new.items ≡ words.old.items ++ replicate more 0) }
-{
-    let mut left = more;
-    while left > 0 {
-        let count = BLOCK.min(left);
-        words.extend_from_slice(&ZEROS[..count])?;
-        left -= count;
-    }
-    Ok(())
+impl<V, Q: Phase<V>> Model for SeatOf<V, Q> {
+    ghost use Rattle.crossbeam_utils.specs.Padded.{padded_value};
+    ghost use Rattle.word_rule.specs.Places.{IsSeat, Place, place_of};
+
+    ghost Value = { Place V };
+
+    ghost view = { λ s. place_of s.seat };
+
+    ghost invariant = { λ s. IsSeat Q.stands (padded_value s.standing) s.seat };
 }
 
-/// As many seats as the first stands for: one after another is cut off it.
+impl<V, Q: Phase<V>> SeatOf<V, Q> {
+    /// A new seat.
+    fn new(seat: Seat<(), Known<V>>) -> SeatOf<V, Q>
+        requires single { IsSingle seat }
+        requires fresh { seat.me.0.view ≡ Q.fresh }
+        ensures { result ≡ place_of seat }
+    {
+        SeatOf {
+            standing: CachePadded::new(Q::at_rest()),
+            seat,
+        }
+    }
+
+    /// What is left of a seat once its steps are done.
+    fn into_seat(self) -> Seat<(), Known<V>>
+        ensures place { place_of result ≡ self }
+        ensures single { IsSingle result }
+    {
+        let Self { standing: _, seat } = self;
+        seat
+    }
+}
+
+/// As many new seats as the first stands for: one after another is cut off it.
 pub fn deal_seats<V, Q: Phase<V>>(
     alloc: Global,
     shared: &Shared<(), Known<V>, Opening, Seated<Q>>,
     first: Seat<(), Known<V>>,
     count: usize,
-) -> Result<Vec<Seat<(), Known<V>>>, Memory>
-    requires laws { KeepsSeats Q.holds Q.fresh Q.both Q.rests }
+) -> Result<Vec<SeatOf<V, Q>>, Memory>
     requires table { (first.table_id ≡ shared.now.table_id) × (0 < shared.now.table_id.words) }
     requires first { first.me ≡ (knows shared.now.key count Q.fresh, []) }
     requires some { 1 ≤ count }
-    ensures { IfOk result (λ seats. AreDealt shared.now.table_id shared.now.key Q.fresh count
-        seats.items) }
+    requires asked { count ≡ shared.now.key.seats }
+    ensures { IfOk result (λ seats. AreAll Q.fresh (words_seen shared.now) seats.items) }
 {
+    Q::laws();
     let mut first = first;
     let mut seats = Vec::with_capacity(alloc, count)?;
     for _ in 1..count {
-        seats.push(shared.split_seat::<Cut<Q>>(&mut first))?;
+        seats.push(SeatOf::new(shared.split_seat::<Cut<Q>>(&mut first)))?;
     }
-    seats.push(first)?;
+    seats.push(SeatOf::new(first))?;
     Ok(seats)
 }
 
 /// One seat that has taken in all others, in their order.
 pub fn join_seats<V, Q: Phase<V>>(
     shared: &Shared<(), Known<V>, Opening, Seated<Q>>,
-    seats: Vec<Seat<(), Known<V>>>,
+    seats: Vec<SeatOf<V, Q>>,
 ) -> Seat<(), Known<V>>
-    requires laws { KeepsSeats Q.holds Q.fresh Q.both Q.rests }
     requires words { 0 < shared.now.table_id.words }
-    requires some { 1 ≤ length seats.items }
-    requires each { All (IsSeatAt shared.now.table_id Q.rests) seats.items }
-    ensures table { result.table_id ≡ shared.now.table_id }
-    ensures joined { result.me
-        ≡ (first_with_all Q.fresh Q.both (map (λ seat. seat.me.0) seats.items), []) }
+    requires some { 0 < shared.now.key.seats }
+    requires whole { AreWhole Q.rests (words_seen shared.now) seats.items }
+    ensures { HasTakenIn Q.both Q.rests (words_seen shared.now) seats.items result }
 {
+    Q::laws();
     let mut seats = seats.into_iter();
-    let Some(mut whole) = seats.next() else {
+    let Some(first) = seats.next() else {
         unreachable!();
     };
+    let mut whole = first.into_seat();
     for seat in seats {
-        shared.join_seat::<TakeIn<Q>>(&mut whole, seat);
+        shared.join_seat::<TakeIn<Q>>(&mut whole, seat.into_seat());
     }
     whole
-}
-
-/// Puts so many first words of a table at its end, which a seat saw, into an empty list, which has room for them.
-pub fn close_table<V, Q: Phase<V>>(
-    table: Table<(), Known<V>, Opening, Seated<Q>, Global>,
-    seat: Seat<(), Known<V>>,
-    count: usize,
-    cells: &mut Vec<u64>,
-)
-    requires table { seat.table_id ≡ table.shared.table_id }
-    requires no_slots { table.shared.table_id.slots ≡ 0 }
-    requires within { count ≤ table.shared.table_id.words }
-    requires none { cells.old.items ≡ [] }
-    requires room { count ≤ vec_capacity cells.old }
-    ensures ended { HasEnded Q.holds Q.fresh table.shared.key seat.id seat.me.0 cells.new.items }
-    ensures size { length cells.new.items ≡ count }
-{
-    let closed = table.close_with(seat);
-    for place in 0..count {
-        cells.push_reserved(closed.word(place));
-    }
-    closed.free();
 }

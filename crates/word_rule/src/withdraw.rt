@@ -3,28 +3,23 @@
 #[cfg(test)]
 mod tests;
 
-ghost use Rattle.std.specs.Prelude.{◌≡◌, ◌≢◌, ◌⊎◌, ℕ, ◌+◌, ◌^◌, ◌<◌, ◌≤◌, All, Contains, IfOk, length, map};
+ghost use Rattle.std.specs.Prelude.{◌≡◌, ◌≢◌, ◌⊎◌, ℕ, ◌+◌, ◌^◌, ◌<◌, Contains};
 ghost use Rattle.step_core.specs.Shape.{homes_of};
 ghost use Rattle.step_core.specs.WithdrawTables.{note_of, state_of};
 ghost use Rattle.store_spec.specs.Measure.{Falls};
-ghost use Rattle.store_spec.specs.WithdrawStep.{IsSeated, fresh_view, number_of, withdraw_measure};
+ghost use Rattle.store_spec.specs.WithdrawStep.{IsSeated, number_of, withdraw_measure};
 ghost use Rattle.store_spec.specs.WithdrawStep.WithdrawNote.{Gone};
 ghost use Rattle.store_spec.specs.WithdrawStep.WithdrawState.{Chosen, Rest};
 ghost use Rattle.word_rule.specs.Chain.{Rows};
-ghost use Rattle.word_rule.specs.Places.{AreAll, AreMadeOf, AreWhole, IsSingle, place_of};
 ghost use Rattle.word_rule.specs.WithdrawRemoval.{HasRemoved, Removes};
-ghost use Rattle.word_rule.specs.WithdrawSeats.{IsAtRest};
-ghost use Rattle.word_rule.specs.WithdrawWords.{AgreeOn, IsAbout, MakesFirstRow, MakesRow, MayEmpty, WithdrawsByRows, cells_after};
+ghost use Rattle.word_rule.specs.WithdrawWords.{IsAbout, MakesFirstRow, MakesRow, WithdrawsByRows};
 
-use crate::seats::{Known, Opening, Phase, Seated, close_table, deal_seats, join_seats, lay_out};
+use crate::seats::{Known, Phase, SeatOf};
 use crate::steps::perform;
-use atomic_table::{Play, Seat, Table};
-use crossbeam_utils::CachePadded;
-use outside_io::Memory;
-use std::alloc::Global;
+use crate::words::WordsOf;
+use atomic_table::{Play, Seat};
 use std::collections::LinkedList;
 use std::marker::Model;
-use std::snapshot::Snapshot;
 use step_core::{
     Act, Shape, WithdrawNote, WithdrawState, withdraw_act, withdraw_after, withdraw_first,
 };
@@ -52,6 +47,9 @@ pub struct Withdrawing;
 impl Phase<WithdrawSight> for Withdrawing {
     ghost use Rattle.store_spec.specs.WithdrawStep.{fresh_view};
     ghost use Rattle.word_rule.specs.WithdrawSeats.{IsAtRest, IsWithdrawn, joined_view};
+    ghost use Rattle.word_rule.specs.WithdrawWords.{AgreeOn, MayEmpty, StandsFor, cells_after};
+
+    type Standing = WithdrawState;
 
     ghost holds = { IsWithdrawn };
 
@@ -60,6 +58,26 @@ impl Phase<WithdrawSight> for Withdrawing {
     ghost both = { joined_view };
 
     ghost rests = { IsAtRest };
+
+    ghost may_open = { MayEmpty };
+
+    ghost behind = { λ shape. shape.cells };
+
+    ghost stands = { StandsFor };
+
+    ghost cells_after = { cells_after };
+
+    ghost agree_on = { AgreeOn };
+
+    fn words_behind(shape: &Shape) -> usize {
+        shape.cells
+    }
+
+    fn at_rest() -> WithdrawState {
+        WithdrawState::Rest
+    }
+
+    fn laws() {}
 }
 
 /// The first step for a number, on its flag.
@@ -81,79 +99,21 @@ impl Play<(), Known<WithdrawSight>> for GoesOn {
 }
 
 /// Shared words of a withdrawing phase: the cells, and behind them a flag for each.
-#[derive(Drop)]
-pub struct WithdrawWords {
-    shape: Shape,
-    table: Table<(), Known<WithdrawSight>, Opening, Seated<Withdrawing>, Global>,
-}
+pub type WithdrawWords = WordsOf<WithdrawSight, Withdrawing>;
 
-impl Model for WithdrawWords {
-    ghost use Rattle.word_rule.specs.Places.{words_seen};
-    ghost use Rattle.word_rule.specs.Seats.{SharedWords};
-    ghost use Rattle.word_rule.specs.WithdrawWords.{AreWords};
-
-    ghost Value = { SharedWords };
-
-    ghost view = { λ w. words_seen w.table.shared };
-
-    ghost invariant = { AreWords };
-}
-
-/// A seat at shared words of withdrawing. One thread at a time makes its steps. Nothing else lies on the cache lines of
-/// its state.
-#[derive(Drop)]
-pub struct WithdrawSeat {
-    state: CachePadded<WithdrawState>,
-    seat: Seat<(), Known<WithdrawSight>>,
-}
-
-impl Model for WithdrawSeat {
-    ghost use Rattle.store_spec.specs.WithdrawStep.{WithdrawView};
-    ghost use Rattle.word_rule.specs.Places.{Place};
-    ghost use Rattle.word_rule.specs.WithdrawWords.{IsSeat, seat_seen};
-
-    ghost Value = { Place WithdrawView };
-
-    ghost view = { seat_seen };
-
-    ghost invariant = { IsSeat };
-}
+/// A seat at shared words of withdrawing.
+pub type WithdrawSeat = SeatOf<WithdrawSight, Withdrawing>;
 
 impl WithdrawSeat {
     /// What it is about.
     pub fn state(&self) -> WithdrawState
         ensures { state_of result ≡ self.now.view.state }
     {
-        *self.state
+        *self.standing
     }
 }
 
 impl WithdrawWords {
-    /// Words over ordered cells, of which the last is empty, with no flag set, and so many new seats. Each seat but one
-    /// costs one step on word 0.
-    pub fn new(
-        alloc: Global,
-        shape: Shape,
-        cells: &[u64],
-        seats: usize,
-    ) -> Result<(WithdrawWords, Vec<WithdrawSeat>), Memory>
-        requires some_seat { 1 ≤ seats }
-        requires may_empty { MayEmpty shape cells.now }
-        ensures words { IfOk result (λ made. AreMadeOf shape cells.now seats made.0) }
-        ensures seats { IfOk result (λ made. AreAll fresh_view made.0 made.1.items) }
-    {
-        let words = lay_out(alloc, cells, shape.cells)?;
-        let opening = Opening {
-            shape,
-            seats,
-            words: Snapshot::of(&words),
-        };
-        let (table, first) = Table::of_words(alloc, &words, &opening)?;
-        let dealt = deal_seats(alloc, &table.shared, first, seats)?;
-        let seats = new_seats(alloc, dealt)?;
-        Ok((WithdrawWords { shape, table }, seats))
-    }
-
     /// The first step for a number, by a seat at rest: a swap of the flag of the cell that held the number at the
     /// opening.
     pub fn first(&self, seat: &mut WithdrawSeat, number: u64, place: usize) -> WithdrawNote
@@ -169,7 +129,7 @@ impl WithdrawWords {
             → note_of result ≡ Gone }
     {
         let (state, note) = self.begin(&mut seat.seat, number, place);
-        *seat.state = state;
+        *seat.standing = state;
         note
     }
 
@@ -183,9 +143,9 @@ impl WithdrawWords {
         ensures falls { Falls (withdraw_measure self.now.shape.cells seat.new.view.state)
             (withdraw_measure self.now.shape.cells seat.old.view.state) }
     {
-        let state = *seat.state;
+        let state = *seat.standing;
         let (after, told) = self.step(self.shape, &mut seat.seat, state);
-        *seat.state = after;
+        *seat.standing = after;
         told
     }
 
@@ -285,58 +245,4 @@ impl WithdrawWords {
         let found = perform::<_, _, _, GoesOn>(&self.table.shared, seat, act);
         withdraw_after(&shape, state, found)
     }
-
-    /// One look at a cell, without a seat. It promises nothing of the answer.
-    pub fn peek(&self, cell: usize) -> u64
-        requires { cell < self.now.shape.cells }
-    {
-        self.table.shared.peek(cell)
-    }
-
-    /// The cells at the end, from all seats. Each seat but one costs one step on word 0.
-    pub fn close(self, alloc: Global, seats: Vec<WithdrawSeat>) -> Result<Vec<u64>, Memory>
-        requires { AreWhole IsAtRest self seats.items }
-        ensures cells { IfOk result (λ cells. cells.items ≡ cells_after self seats.items) }
-        ensures lists { IfOk result (λ _. AgreeOn self seats.items) }
-    {
-        let Self { shape, table } = self;
-        let left = left_seats(alloc, seats)?;
-        let mut cells = Vec::with_capacity(alloc, shape.cells)?;
-        let whole = join_seats(&table.shared, left);
-        close_table(table, whole, shape.cells, &mut cells);
-        Ok(cells)
-    }
-}
-
-/// Withdrawers at rest at seats that were dealt.
-fn new_seats(
-    alloc: Global,
-    dealt: Vec<Seat<(), Known<WithdrawSight>>>,
-) -> Result<Vec<WithdrawSeat>, Memory>
-    requires single { All IsSingle dealt.items }
-    requires fresh { All (λ seat. seat.me.0.view ≡ fresh_view) dealt.items }
-    ensures { IfOk result (λ seats. seats.items ≡ map place_of dealt.items) }
-{
-    let mut seats = Vec::with_capacity(alloc, dealt.len())?;
-    for seat in dealt {
-        let state = CachePadded::new(WithdrawState::Rest);
-        seats.push(WithdrawSeat { state, seat })?;
-    }
-    Ok(seats)
-}
-
-/// The seats of withdrawers that are done.
-fn left_seats(
-    alloc: Global,
-    seats: Vec<WithdrawSeat>,
-) -> Result<Vec<Seat<(), Known<WithdrawSight>>>, Memory>
-    ensures places { IfOk result (λ left. map place_of left.items ≡ seats.items) }
-    ensures single { IfOk result (λ left. All IsSingle left.items) }
-{
-    let mut left = Vec::with_capacity(alloc, seats.len())?;
-    for seat in seats {
-        let WithdrawSeat { state: _, seat } = seat;
-        left.push(seat)?;
-    }
-    Ok(left)
 }

@@ -1,7 +1,6 @@
 use Rattle.std.proofs.Common.{sym, ◌∙◌, inl, subst}
 use Rattle.outside_io.proofs.Told.{told_holds}
 use Rattle.outside_io.specs.Told.{IfTold}
-use Rattle.std.specs.Prelude.{◌≡◌}
 use Rattle.crash_disk.proofs.Moments.{synced_first}
 use Rattle.checkpoint.proofs.Starting.{run_filling, run_looking}
 use Rattle.checkpoint.proofs.fresh.fill.Goals as goal

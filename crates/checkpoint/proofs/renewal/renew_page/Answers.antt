@@ -1,6 +1,4 @@
 use Rattle.std.proofs.Common.{◌≡◌, ◌+◌, ◌≤◌, ℕ, List, Option, length, refl, ◌∙◌, subst}
-use Rattle.std.proofs.lemmas.Bool.Decides.{Decides-eqb}
-use Rattle.std.proofs.lemmas.Slice.Eq.{slice_eq-Decides}
 use Rattle.std.specs.Prelude.{slice_range, option_map, IfSome}
 use Rattle.bank_medium.specs.Banks.{place_of}
 use Rattle.checkpoint.proofs.Pages.{page_moment, page_same}
@@ -16,11 +14,11 @@ stands new old found page p n at j kept same both within read =
     let there = subst (λ i. IfSome old (λ bytes. found ≡ slice_range (slice_range bytes p (p + n)) at (at + i))) both read in
     kept ∙ page_same old page p n at (length page) within refl (subst (λ (xs : List ℕ). IfSome old (λ bytes. xs ≡ slice_range (slice_range bytes p (p + n)) at (at + length page))) same there)
 
-pub returns-then-eq-clause-written : goal.returns-then-eq-clause-written
-returns-then-eq-clause-written g c =
+pub returns-then-same_bytes-clause-written : goal.returns-then-same_bytes-clause-written
+returns-then-same_bytes-clause-written g c =
     let e = c.args.election.now in
     let page = c.args.page.now in
-    let same : c.read_page.new.out ≡ page = (slice_eq-Decides Decides-eqb c.read_page.new.out page c.eq.result c.eq.ensures).0 c.if-eq.true in
+    let same : c.read_page.new.out ≡ page = c.same_bytes.ensures.0 c.if-same_bytes.true in
     stands (g.D.Disk.seen c.read_page.new.disk) (g.D.Disk.seen c.args.disk.now) c.read_page.new.out page (place_of e c.args.bank) (bank_size e) c.args.at (length c.args.found.now)
     c.read_page.ensures.same_bytes same c.requires.one_page c.requires.within c.in_ok-read_page.ensures.read
 

@@ -1,7 +1,9 @@
 use Rattle.std.proofs.Common.{◌+◌, ◌∙◌, [], ap, subst, sym}
 use Rattle.outside_io.specs.Outside.{output}
-use Rattle.phase_gate.proofs.Acknowledging.{medium_now}
-use Rattle.phase_gate.proofs.Kept.{IsSomeMedium, medium_after}
+use Rattle.any_store.specs.Disks.{one_store}
+use Rattle.any_store.specs.Disks.StoreDisks.{Alone}
+use Rattle.any_store.proofs.Acknowledging.{medium_now}
+use Rattle.phase_gate.proofs.Kept.{AreSomeMedia, media_after}
 use Rattle.medium_tests.proofs.sessions.handle.Goals as goal
 use Rattle.phase_gate.specs.Around.{around}
 use Rattle.phase_gate.specs.Telling.{told_by}
@@ -11,7 +13,7 @@ use Rattle.body_store.specs.Contents.{Contents}
 pub lines-init : goal.lines-init
 lines-init g c =
     let model = disk_model g.D.Disk.seen g.D.Disk.calls g.D.Disk.may_leave g.D.Disk.faults in
-    subst (λ e. IsSomeMedium model e c.init.new.disk) (sym (c.telling-session.ensures.election ∙ ap (λ (s : Contents). s.election) c.in_ok-closed.ensures)) (
+    subst (λ e. AreSomeMedia (Alone model) e c.init.new.disk) (sym (c.telling-session.ensures.election ∙ ap (λ (s : Contents). s.election) c.in_ok-closed.ensures)) (
       [],
       medium_now model c.example-election.result [] c.args.disk.now c.init.new.disk c.in_ok-init.ensures.settled
           c.in_ok-init.ensures.medium,
@@ -22,7 +24,7 @@ lines-preserved g c =
     let model = disk_model g.D.Disk.seen g.D.Disk.calls g.D.Disk.may_leave g.D.Disk.faults in
     let before = around (output g.K.Sink.taken g.K.Sink.faults c.lines.out) c.lines.disk c.lines.report in
     let after = around (output g.K.Sink.taken g.K.Sink.faults c.line.new.out) c.line.new.disk c.line.new.report in
-    subst (λ e. IsSomeMedium model e c.line.new.disk) (sym c.in_ok-session.ensures.election)
-    (medium_after model (told_by c.lines.session.telling) c.lines.session.election (c.lines.at + 1)
+    subst (λ e. AreSomeMedia (Alone model) e c.line.new.disk) (sym c.in_ok-session.ensures.election)
+    (media_after (one_store model) (told_by c.lines.session.telling) c.lines.session.election (c.lines.at + 1)
     c.lines.session.state c.in_ok-session.session.state c.as_bytes-bytes.result.now before after
     c.in_ok-session.ensures.ends c.lines.invariant)

@@ -1,7 +1,7 @@
 use Rattle.std.proofs.Common.{◌≡◌, refl}
 use Rattle.merge_commands.proofs.merge.united.Goals as goal
 use Rattle.merge_commands.specs.Merge.{MergesNone}
-use Rattle.merge_media.proofs.Media.{handed_on, zip_same}
+use Rattle.recovery.proofs.OneByOne.{handed_on, zip_same}
 use Rattle.recovery.proofs.OnlyReading.{nothing_called}
 use Rattle.recovery.specs.ReadsOnly.{WritesNothing}
 use Rattle.run_outcome.specs.declared.status.Status.TheVariants as status

@@ -1,8 +1,8 @@
 use Rattle.std.proofs.Common.{◌≡◌, ◌+◌, ◌*◌, ◌≤◌, List, [], ◌∷◌, length, take, drop}
 use Rattle.std.specs.List.{AllZip}
 use Rattle.merge_media.proofs.merging.join_each.Given as goal
-use Rattle.merge_media.specs.Merging.{EachHolds, NoneRose}
 use Rattle.merge_media.specs.Union.{Joins}
+use Rattle.recovery.specs.Media.{EachHolds, NoneRose}
 use Rattle.recovery.specs.ReadsOnly.{WritesNothing}
 use Rattle.store_spec.specs.Ballot.{Ballot}
 use Rattle.store_spec.specs.Disk.{disk_model}

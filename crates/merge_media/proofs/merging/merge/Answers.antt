@@ -1,11 +1,11 @@
 use Rattle.std.proofs.Common.{◌∷◌, length, sym, ap, subst, ◌∙◌, arith}
 use Rattle.body_store.specs.Contents.{Contents}
-use Rattle.merge_media.proofs.Media.{handed_on, zip_same}
 use Rattle.merge_media.proofs.Merged.{begun_run, merged_run, refuses_all, refuses_begun, refuses_joining}
 use Rattle.merge_media.proofs.merging.merge.Goals as goal
 use Rattle.merge_media.specs.Merging.{MergeRefuses}
-use Rattle.recovery.proofs.Recovered.{medium_now, medium_then}
+use Rattle.recovery.proofs.OneByOne.{handed_on, zip_same}
 use Rattle.recovery.proofs.OnlyReading.{nothing_called}
+use Rattle.recovery.proofs.Recovered.{medium_now, medium_then}
 use Rattle.recovery.specs.ReadsOnly.{WritesNothing}
 use Rattle.store_spec.specs.Disk.{disk_model}
 use Rattle.store_spec.specs.Election.{IsElection}

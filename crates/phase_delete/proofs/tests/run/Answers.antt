@@ -3,26 +3,28 @@ use Rattle.std.proofs.lemmas.List.{length-map, take_at}
 use Rattle.std.proofs.lemmas.List.Elements.{All-map}
 use Rattle.std.specs.List.{zip}
 use Rattle.phase_delete.proofs.tests.run.Goals as goal
-use Rattle.phase_delete.specs.Withdrawer.{AreAll, WithdrawerView, new_withdrawer}
+use Rattle.phase_delete.specs.Ends.{WithdrawerView}
+use Rattle.phase_kind.specs.Worker.{AreAll, new_worker}
+use Rattle.store_spec.specs.WithdrawStep.{fresh_view}
 use Rattle.word_rule.proofs.AtPlaces.{planned_room}
 
-pub run_withdraw-requires-clause-belong : goal.run_withdraw-requires-clause-belong
-run_withdraw-requires-clause-belong g c κs bounds =
-    subst (All (λ (tab : WithdrawerView). tab.phase ≡ c.in-Ok.phase)) (sym (c.deref_mut.ensures.value ∙ c.in-Ok.ensures.withdrawers)) (All-map (λ (tab : WithdrawerView). tab.phase ≡ c.in-Ok.phase) (new_withdrawer c.in-Ok.phase) c.deref.result.now (λ k d within. refl))
+pub run-requires-clause-belong : goal.run-requires-clause-belong
+run-requires-clause-belong g c κs bounds =
+    subst (All (λ (tab : WithdrawerView). tab.phase ≡ c.in-Ok.phase)) (sym (c.deref_mut.ensures.value ∙ c.in-Ok.ensures.workers)) (All-map (λ (tab : WithdrawerView). tab.phase ≡ c.in-Ok.phase) (new_worker fresh_view c.in-Ok.phase) c.deref.result.now (λ k d within. refl))
 
-pub run_withdraw-requires-clause-room : goal.run_withdraw-requires-clause-room
-run_withdraw-requires-clause-room g c κs bounds =
+pub run-requires-clause-room : goal.run-requires-clause-room
+run-requires-clause-room g c κs bounds =
     let planned : c.deref.result.now ≡ map (λ list. length list.items) c.args.work.now = c.deref.ensures.value ∙ c.in_ok-plan.ensures in
-    let tabs : c.deref_mut.result.now ≡ map (new_withdrawer c.in-Ok.phase) (map (λ list. length list.items) c.args.work.now) =
-    c.deref_mut.ensures.value ∙ c.in-Ok.ensures.withdrawers ∙ ap (map (new_withdrawer c.in-Ok.phase)) planned in
-    subst (λ (tabs : List WithdrawerView). All (λ at. length at.1.items ≤ at.0.room) (zip tabs c.args.work.now)) (sym tabs) (planned_room (λ (tab : WithdrawerView). tab.room) (new_withdrawer c.in-Ok.phase) (λ list. length list.items) (λ n. omega arith) c.args.work.now)
+    let tabs : c.deref_mut.result.now ≡ map (new_worker fresh_view c.in-Ok.phase) (map (λ list. length list.items) c.args.work.now) =
+    c.deref_mut.ensures.value ∙ c.in-Ok.ensures.workers ∙ ap (map (new_worker fresh_view c.in-Ok.phase)) planned in
+    subst (λ (tabs : List WithdrawerView). All (λ at. length at.1.items ≤ at.0.room) (zip tabs c.args.work.now)) (sym tabs) (planned_room (λ (tab : WithdrawerView). tab.room) (new_worker fresh_view c.in-Ok.phase) (λ list. length list.items) (λ n. omega arith) c.args.work.now)
 
-pub close-requires : goal.close-requires
-close-requires g c =
-    let after = c.run_withdraw.new.tabs in
-    let all : length after ≡ c.in-Ok.tabs.len = omega (arith, c.run_withdraw.ensures.as_many, ap length c.deref_mut.ensures.value, c.in-Ok.tabs.ok.0) in
+pub close-requires-clause-all : goal.close-requires-clause-all
+close-requires-clause-all g c κs =
+    let after = c.run.new.workers in
+    let all : length after ≡ c.in-Ok.tabs.len = omega (arith, c.run.ensures.as_many, ap length c.deref_mut.ensures.value, c.in-Ok.tabs.ok.0) in
     let whole : take c.in-Ok.tabs.len (after ++ drop (length after) c.in-Ok.tabs.items) ≡ after = take_at after (drop (length after) c.in-Ok.tabs.items) c.in-Ok.tabs.len all in
     subst (λ (tabs : List WithdrawerView). AreAll c.in-Ok.phase tabs) (sym whole) (record {
-      all = c.run_withdraw.ensures.as_many ∙ ap length (c.deref_mut.ensures.value ∙ c.in-Ok.ensures.withdrawers) ∙ length-map c.deref.result.now (new_withdrawer c.in-Ok.phase) ∙ sym c.in-Ok.ensures.seats;
-      belong = c.run_withdraw.ensures.belong;
+      all = c.run.ensures.as_many ∙ ap length (c.deref_mut.ensures.value ∙ c.in-Ok.ensures.workers) ∙ length-map c.deref.result.now (new_worker fresh_view c.in-Ok.phase) ∙ sym c.in-Ok.ensures.seats;
+      belong = c.run.ensures.belong;
     })

@@ -3,9 +3,8 @@ use Rattle.std.proofs.lemmas.List.{get_or-map, get_or-set_other, length-map, map
 use Rattle.phase_insert.proofs.Rows.{all_finals_more}
 use Rattle.phase_insert.proofs.closing.all_finals.Goals as goal
 use Rattle.phase_insert.specs.Ends.{AreAllFinals}
-use Rattle.phase_insert.specs.Tray.{IsPaired, casts_of}
+use Rattle.phase_insert.specs.Tray.{CastTray, IsPaired, casts_of}
 use Rattle.phase_insert.specs.declared.reply.Final.{Final}
-use Rattle.phase_insert.specs.declared.tray.CastTray.{CastTray}
 
 -- as many lists as trays
 as_many : (lists : List (Vec Final Global)) (trays : List CastTray)
@@ -17,7 +16,7 @@ as_many lists trays room =
 pub tray_finals-requires-clause-election : goal.tray_finals-requires-clause-election
 tray_finals-requires-clause-election c =
     let tray = c.index-trays-place.result in
-    ap (λ (tray : CastTray). tray.ballots.election) c.index-trays-place.is ∙ c.requires.elections c.loop-place.place tray c.loop-place-test.true
+    ap (λ (tray : CastTray). tray.items.election) c.index-trays-place.is ∙ c.requires.elections c.loop-place.place tray c.loop-place-test.true
 
 pub tray_finals-requires-clause-paired : goal.tray_finals-requires-clause-paired
 tray_finals-requires-clause-paired c = subst IsPaired (sym c.index-trays-place.is) (c.requires.paired c.loop-place.place c.index-trays-place.result c.loop-place-test.true)

@@ -1,7 +1,8 @@
 use Rattle.std.proofs.Common.{[], ◌∷◌, ◌++◌, append_assoc, arith, get_or, sym, take, ap, ◌∙◌}
 use Rattle.std.proofs.lemmas.List.{take_all}
 use Rattle.std.proofs.lemmas.Option.{slice_get-get_or}
-use Rattle.phase_insert.proofs.Casts.{cast_of, length-casts, no_ballot, take_next}
+use Rattle.phase_insert.proofs.Casts.{cast_of, no_ballot}
+use Rattle.phase_kind.proofs.Trays.{length-told, take_next}
 use Rattle.phase_insert.proofs.Trays.{ballots_that-push}
 use Rattle.phase_insert.proofs.closing.push_accepted.Goals as goal
 use Rattle.phase_insert.specs.Tray.{ballots_that, casts_of, is_accepted}
@@ -14,7 +15,7 @@ loop-place-preserved c =
     let place = c.loop-place.place in
     let none = cast_of no_ballot Accepted in
     let cast = get_or casts place none in
-    let there = slice_get-get_or casts place none (omega (arith, length-casts tray.ballots.ballots tray.replies.items c.requires.paired, c.len-place-end.ensures, c.loop-place-test.true, tray.replies.ok.0)) in
+    let there = slice_get-get_or casts place none (omega (arith, length-told tray.items.ballots tray.replies.items c.requires.paired, c.len-place-end.ensures, c.loop-place-test.true, tray.replies.ok.0)) in
     let put = c.in_ok-push_if_accepted.ensures in
     let first = c.args.accepted.now.ballots in
     record {
@@ -31,4 +32,4 @@ returns-clause-pushed c =
     let tray = c.args.tray.now in
     c.loop-place.invariant.ballots
     ∙ ap (λ l. c.args.accepted.now.ballots ++ ballots_that is_accepted l)
-    (take_all c.loop-place.place (casts_of tray) (omega (arith, length-casts tray.ballots.ballots tray.replies.items c.requires.paired, c.len-place-end.ensures, c.loop-place-test.false, tray.replies.ok.0)))
+    (take_all c.loop-place.place (casts_of tray) (omega (arith, length-told tray.items.ballots tray.replies.items c.requires.paired, c.len-place-end.ensures, c.loop-place-test.false, tray.replies.ok.0)))

@@ -2,16 +2,17 @@ use Rattle.std.proofs.Common.{◌≡◌, ℕ, List, Option, Some, sym, subst, ap
 use Rattle.bank_medium.specs.Banks.{bank_named}
 use Rattle.outside_io.proofs.Told.{told_holds}
 use Rattle.outside_io.specs.Told.{IfTold}
+use Rattle.recovery.proofs.OneByOne.{handed_on}
 use Rattle.recovery.proofs.OnlyReading.{nothing_joined, reads_joined}
-use Rattle.recovery.proofs.Unharmed.{each_fault, half_restored, only_fault, unharmed}
+use Rattle.recovery.proofs.Paging.{shown_image, stored_election}
+use Rattle.recovery.proofs.Runs.{looked, restored_told}
+use Rattle.recovery.proofs.Unharmed.{each_fault, half_restored, unharmed}
+use Rattle.recovery.proofs.restoring.restore.Goals as goal
+use Rattle.recovery.specs.Canonical.{IsReadAs}
 use Rattle.recovery.specs.Refused.{IsUnharmedAt}
 use Rattle.recovery.specs.declared.fault.RecoverFault.{RecoverFault}
 use Rattle.recovery.specs.declared.fault.RecoverFault.TheVariants.{DiskFault}
 use Rattle.store_spec.specs.Disk.{disk_model}
-use Rattle.recovery.proofs.Paging.{shown_image, stored_election}
-use Rattle.recovery.proofs.Runs.{looked, restored_told}
-use Rattle.recovery.proofs.restoring.restore.Goals as goal
-use Rattle.recovery.specs.Canonical.{IsReadAs}
 use Rattle.store_spec.specs.Image.{image_of}
 use Rattle.store_spec.specs.Medium.{IsMediumOf}
 
@@ -76,7 +77,7 @@ pub returns-in_err-make_canonical-clause-unharmed : goal.returns-in_err-make_can
 returns-in_err-make_canonical-clause-unharmed g c =
     let model = disk_model g.D.Disk.seen g.D.Disk.calls g.D.Disk.may_leave g.D.Disk.faults in
     let e = c.args.election.now in
-    only_fault c.from_residual-in_err-make_canonical.result (λ (fault : RecoverFault). (bytes : List ℕ) → g.D.Disk.seen c.args.disk.now ≡ Some bytes → IsUnharmedAt model e bytes fault c.args.disk.now c.make_canonical.new.disk)
+    handed_on c.from_residual-in_err-make_canonical.result (λ (fault : RecoverFault). (bytes : List ℕ) → g.D.Disk.seen c.args.disk.now ≡ Some bytes → IsUnharmedAt model e bytes fault c.args.disk.now c.make_canonical.new.disk)
     DiskFault c.from_residual-in_err-make_canonical.ensures.1
     (λ bytes sees. half_restored model e bytes c.in_ok-closed.closed.ballots c.args.disk.now c.choose.new.disk c.read_bank.new.disk c.make_canonical.new.disk (bank_named c.in_ok-bank.bank)
     c.choose.ensures.reads c.read_bank.ensures.reads sees c.in_ok-closed.ensures.read (λ x is. c.make_canonical.ensures.any_moment x c.in_ok-closed.closed.ballots is

@@ -1,58 +1,83 @@
-use Rattle.std.proofs.Common.{◌≤◌, ◌∙◌, ap, refl, sym, subst, List, ℕ}
-use Rattle.std.specs.Prelude.{All, OnOk}
+use Rattle.std.proofs.Common.{◌≤◌, ◌∙◌, ap, sym, subst, List, ℕ}
+use Rattle.std.specs.Prelude.{All, OnOk, vec_capacity}
 use Rattle.outside_io.specs.Outside.{output}
 use Rattle.phase_gate.specs.Around.{around}
-use Rattle.phase_gate.specs.Beside.{AreBeside, IsOneMore}
+use Rattle.any_store.specs.Beside.{row_width}
+use Rattle.any_store.specs.Disks.{first_of, store_model}
 use Rattle.phase_gate.specs.LineEnds.{state_left}
 use Rattle.phase_gate.specs.Telling.{told_by}
-use Rattle.session_run.proofs.Marks.{handled, line_stood, on_left, one_more, stood_now}
+use Rattle.session_run.proofs.Handling.{before, ended, rows}
+use Rattle.session_run.proofs.Marks.{handled, line_stood, on_left, stands_now, stood_now}
 use Rattle.session_run.proofs.run.handle.Goals as goal
 use Rattle.session_run.specs.History.{Stands, Stood}
-use Rattle.store_spec.specs.Disk.{disk_model}
+
+-- ---- the report before and behind the line
 
 pub complete-requires-clause-before : goal.complete-requires-clause-before
 complete-requires-clause-before g c =
-    let model = disk_model g.D.Disk.seen g.D.Disk.calls g.D.Disk.may_leave g.D.Disk.faults in
-    let old = c.args.report.now in
-    let mid = c.room.new.self in
-    let new = c.line-answer.new.report in
-    let before = around (output g.K.Sink.taken g.K.Sink.faults c.args.out.now) c.args.disk.now mid in
-    let after = around (output g.K.Sink.taken g.K.Sink.faults c.line-answer.new.out) c.line-answer.new.disk new in
-    let more = one_more model (told_by c.args.session.telling) c.args.session.election c.args.index c.args.session.state c.args.line.now before after
-    (state_left (λ session. session.state) c.line-answer.result) c.line-answer.ensures.ends in
-    let marks = ap (λ v. v.items) c.room.ensures.marks in
-    let lists = ap (λ v. v.items) c.line-answer.ensures.others ∙ c.room.ensures.others in
-    let begun = c.line-answer.ensures.begun ∙ c.room.ensures.begun in (
-      old.marks.items,
-      subst (λ marks. IsOneMore marks new.marks.items) marks more,
-      subst (λ lists. AreBeside new.begun old.marks.items lists) (sym lists) (subst (λ begun. AreBeside begun old.marks.items old.others.items) (sym begun) c.requires.others),
-    )
+    let model = store_model g.Y.Store.closes g.M.Disks.disks in
+    before model (told_by c.args.session.telling) c.args.session.election c.args.index c.args.session.state c.args.line.now
+    (output g.K.Sink.taken g.K.Sink.faults c.args.out.now)
+    (output g.K.Sink.taken g.K.Sink.faults c.line_by-answer.new.out)
+    c.args.disks.now c.line_by-answer.new.disks c.args.report.now c.room.new.self c.line_by-answer.new.report
+    (state_left (λ session. session.state) c.line_by-answer.result) c.room.ensures.marks c.room.ensures.others
+    c.room.ensures.held c.line_by-answer.ensures.others c.line_by-answer.ensures.ends c.requires.others
+
+pub complete-requires-clause-list : goal.complete-requires-clause-list
+complete-requires-clause-list g c =
+    let begun = c.line_by-answer.ensures.begun ∙ c.room.ensures.begun in
+    subst (λ begun. row_width g.M.Disks.disks begun ≤ vec_capacity c.in_ok-list.list) (sym begun)
+    (subst (λ n. n ≤ vec_capacity c.in_ok-list.list) c.width.ensures c.in_ok-list.ensures.list)
+
+pub returns-clause-rows : goal.returns-clause-rows
+returns-clause-rows g c =
+    let model = store_model g.Y.Store.closes g.M.Disks.disks in
+    rows model (told_by c.args.session.telling) c.args.session.election c.args.index c.args.session.state c.args.line.now
+    (output g.K.Sink.taken g.K.Sink.faults c.args.out.now)
+    (output g.K.Sink.taken g.K.Sink.faults c.line_by-answer.new.out)
+    c.args.disks.now c.line_by-answer.new.disks c.args.report.now c.room.new.self c.line_by-answer.new.report
+    (state_left (λ session. session.state) c.line_by-answer.result) c.room.ensures.marks c.room.ensures.others
+    c.room.ensures.held c.line_by-answer.ensures.others c.line_by-answer.ensures.ends c.requires.others
+    c.complete.new.self c.complete.ensures.marks c.complete.ensures.held c.complete.ensures.rows
+
+pub returns-clause-ends : goal.returns-clause-ends
+returns-clause-ends g c =
+    let model = store_model g.Y.Store.closes g.M.Disks.disks in
+    ended model (told_by c.args.session.telling) c.args.session.election c.args.index c.args.session.state c.args.line.now
+    (output g.K.Sink.taken g.K.Sink.faults c.args.out.now)
+    (output g.K.Sink.taken g.K.Sink.faults c.line_by-answer.new.out)
+    c.args.disks.now c.line_by-answer.new.disks c.args.report.now c.room.new.self c.line_by-answer.new.report
+    (state_left (λ session. session.state) c.line_by-answer.result) c.room.ensures.marks c.room.ensures.others
+    c.room.ensures.held c.line_by-answer.ensures.others c.line_by-answer.ensures.ends c.requires.others
+    c.complete.new.self c.complete.ensures.marks c.complete.ensures.held c.complete.ensures.rows
+
+-- ---- marks and faults
 
 pub returns-clause-stands : goal.returns-clause-stands
 returns-clause-stands g c =
-    let model = disk_model g.D.Disk.seen g.D.Disk.calls g.D.Disk.may_leave g.D.Disk.faults in
-    let before = around (output g.K.Sink.taken g.K.Sink.faults c.args.out.now) c.args.disk.now c.room.new.self in
-    let after = around (output g.K.Sink.taken g.K.Sink.faults c.line-answer.new.out) c.line-answer.new.disk c.line-answer.new.report in
-    let P : List ℕ → Type 0 = λ marks. Stands model c.args.disk.now c.line-answer.new.disk marks in
-    let all = subst (λ marks. All (λ mark. mark ≤ g.D.Disk.calls c.args.disk.now) marks) (ap (λ v. v.items) (sym c.room.ensures.marks)) c.requires.marks in
-    on_left (λ session. session.state) (P c.complete.new.self.marks.items) c.line-answer.result
-    (subst (λ marks. OnOk (state_left (λ session. session.state) c.line-answer.result) (P marks)) (ap (λ v. v.items) (sym c.complete.ensures.marks))
+    let model = store_model g.Y.Store.closes g.M.Disks.disks in
+    let before = around (output g.K.Sink.taken g.K.Sink.faults c.args.out.now) c.args.disks.now c.room.new.self in
+    let after = around (output g.K.Sink.taken g.K.Sink.faults c.line_by-answer.new.out) c.line_by-answer.new.disks c.line_by-answer.new.report in
+    let P : List ℕ → Type 0 = λ marks. Stands model.disks c.args.disks.now c.line_by-answer.new.disks marks in
+    let all = subst (λ marks. All (λ mark. mark ≤ (first_of g.M.Disks.disks).calls c.args.disks.now) marks) (ap (λ v. v.items) (sym c.room.ensures.marks)) c.requires.marks in
+    on_left (λ session. session.state) (P c.complete.new.self.marks.items) c.line_by-answer.result
+    (subst (λ marks. OnOk (state_left (λ session. session.state) c.line_by-answer.result) (P marks)) (ap (λ v. v.items) (sym c.complete.ensures.marks))
     (handled model (told_by c.args.session.telling) c.args.session.election c.args.index c.args.session.state c.args.line.now before after all
-    (state_left (λ session. session.state) c.line-answer.result) c.line-answer.ensures.ends))
+    (state_left (λ session. session.state) c.line_by-answer.result) c.line_by-answer.ensures.ends))
 
 pub returns-clause-stood : goal.returns-clause-stood
 returns-clause-stood g c =
-    let model = disk_model g.D.Disk.seen g.D.Disk.calls g.D.Disk.may_leave g.D.Disk.faults in
-    let before = around (output g.K.Sink.taken g.K.Sink.faults c.args.out.now) c.args.disk.now c.room.new.self in
-    let after = around (output g.K.Sink.taken g.K.Sink.faults c.line-answer.new.out) c.line-answer.new.disk c.line-answer.new.report in
-    let all = subst (λ marks. All (λ mark. mark ≤ g.D.Disk.calls c.args.disk.now) marks) (ap (λ v. v.items) (sym c.room.ensures.marks)) c.requires.marks in
-    subst (λ marks. Stood model g.D.Disk.leads_to c.args.disk.now c.line-answer.new.disk marks) (ap (λ v. v.items) (sym c.complete.ensures.marks))
+    let model = store_model g.Y.Store.closes g.M.Disks.disks in
+    let before = around (output g.K.Sink.taken g.K.Sink.faults c.args.out.now) c.args.disks.now c.room.new.self in
+    let after = around (output g.K.Sink.taken g.K.Sink.faults c.line_by-answer.new.out) c.line_by-answer.new.disks c.line_by-answer.new.report in
+    let all = subst (λ marks. All (λ mark. mark ≤ (first_of g.M.Disks.disks).calls c.args.disks.now) marks) (ap (λ v. v.items) (sym c.room.ensures.marks)) c.requires.marks in
+    subst (λ marks. Stood model.disks g.M.Disks.leads_to c.args.disks.now c.line_by-answer.new.disks marks) (ap (λ v. v.items) (sym c.complete.ensures.marks))
     (line_stood model (told_by c.args.session.telling) c.args.session.election c.args.index c.args.session.state c.args.line.now before after all
-    g.D.Disk.leads_to g.met.D.Disk.leads_to_itself c.line-answer.ensures.leads (state_left (λ session. session.state) c.line-answer.result) c.line-answer.ensures.ends)
+    g.M.Disks.leads_to g.met.M.Disks.leads_to_itself c.line_by-answer.ensures.leads (state_left (λ session. session.state) c.line_by-answer.result) c.line_by-answer.ensures.ends)
 
 pub returns-in_err-list-clause-stood : goal.returns-in_err-list-clause-stood
 returns-in_err-list-clause-stood g c =
-    let model = disk_model g.D.Disk.seen g.D.Disk.calls g.D.Disk.may_leave g.D.Disk.faults in
-    let disk = c.args.disk.now in
-    let all = subst (λ marks. All (λ mark. mark ≤ g.D.Disk.calls disk) marks) (ap (λ v. v.items) (sym c.room.ensures.marks)) c.requires.marks in
-    stood_now model g.D.Disk.leads_to g.met.D.Disk.leads_to_itself disk disk c.room.new.self.marks.items (g.met.D.Disk.leads_to_itself disk) (record { steady = refl; marked = all })
+    let model = store_model g.Y.Store.closes g.M.Disks.disks in
+    let disk = c.args.disks.now in
+    let all = subst (λ marks. All (λ mark. mark ≤ (first_of g.M.Disks.disks).calls disk) marks) (ap (λ v. v.items) (sym c.room.ensures.marks)) c.requires.marks in
+    stood_now model.disks g.M.Disks.leads_to g.met.M.Disks.leads_to_itself disk disk c.room.new.self.marks.items (g.met.M.Disks.leads_to_itself disk) (stands_now model.disks disk c.room.new.self.marks.items all)

@@ -56,6 +56,7 @@ returns-clause-ends g c =
       sink = before.sink;
       disk = c.recover.new.disk;
       marks = before.marks;
+      others = before.others;
       held = c.len.result;
     } in
     went_on model (told_by begun.telling) (told_by c.args.telling) begun.election e begun.state c.play.result

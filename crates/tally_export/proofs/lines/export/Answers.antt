@@ -1,152 +1,22 @@
-use Rattle.std.proofs.Common.{◌≡◌, ℕ, ◌+◌, ◌<◌, List, [], ◌∷◌, ◌++◌, Some, drop, get_or, length, map, Option, ap, subst, sym, ◌∙◌, arith}
-use Rattle.body_store.specs.Contents.{Contents, IsStored}
-use Rattle.body_store.specs.Places.{AreAt}
-use Rattle.body_store.specs.declared.lookup.Place.{Place}
-use Rattle.outside_io.specs.Stream.{TakesAll, TakesSome}
-use Rattle.store_spec.specs.Ballot.{Ballot, ballot_of, numbers_of}
-use Rattle.store_spec.specs.BallotLine.{record_line}
-use Rattle.store_spec.specs.Election.{Election}
-use Rattle.store_spec.specs.Image.{IsCellOf, cells_of}
-use Rattle.store_spec.specs.Input.{line_end}
-use Rattle.store_spec.specs.Report.{export_text}
-use Rattle.tally_export.proofs.Listed.{IsListed, as_many, cell_at, cell_within, next_found}
-use Rattle.tally_export.proofs.Writing.{IsWritten, all_written, ballot_gathered, front_written, gathered_written, lines_left, no_line_left, on_failure, some_written}
+use Rattle.std.proofs.Common.{◌≡◌, ℕ, ◌++◌, List, length, ap, arith, subst, ◌∙◌}
+use Rattle.std.specs.Prelude.{OnErr}
+use Rattle.outside_io.specs.Stream.{TakesSome}
+use Rattle.tally_export.proofs.Listed.{as_many}
+use Rattle.tally_export.specs.Exported.{count_text, records_text}
 use Rattle.tally_export.proofs.lines.export.Goals as goal
-use Rattle.tally_export.proofs.lines.export.Goals.{then-len-gt-FULL+in_ok-write_all, else-len-gt-FULL}
 
--- the places are listed as they were returned
-listed : (store : Contents) (places : List Place) (held : List Place) → places ≡ held → IsStored store
-    → map (λ place. place.number) held ≡ numbers_of store.ballots → AreAt (cells_of store.election store.ballots) held
-    → IsListed store places
-listed store places held same stored numbers cells =
-    subst (λ (places : List Place). IsListed store places) (sym same) (record { stored = stored; numbers = numbers; cells = cells })
-
--- the line of a ballot was put, as the store's election has it
-line_put : (own e : Election) (text more : List ℕ) (b : Ballot) → own ≡ e → more ≡ text ++ (record_line own b ++ line_end ∷ [])
-    → more ≡ text ++ (record_line e b ++ line_end ∷ [])
-line_put own e text more b same put = put ∙ ap (λ e. text ++ (record_line e b ++ line_end ∷ [])) same
-
--- it was that of the next ballot, whose cell it is
-line_of_next : (store : Contents) (places : List Place) (i : ℕ) (is : IsListed store places) (lt : i < length places) (own : Election) (cell text more : List ℕ)
-    → own ≡ store.election
-    → ((b : Ballot) → ballot_of store.ballots (get_or (cells_of store.election store.ballots) (cell_at places i) 0) ≡ Some b → IsCellOf store.election cell b)
-    → ((b : Ballot) → IsCellOf own cell b → more ≡ text ++ (record_line own b ++ line_end ∷ []))
-    → more ≡ text ++ (record_line store.election (next_found store places i is lt).0 ++ line_end ∷ [])
-line_of_next store places i is lt own cell text more same held put =
-    let there = next_found store places i is lt in
-    let b = there.0 in
-    line_put own store.election text more b same (put b (subst (λ (e : Election). IsCellOf e cell b) (sym same) (held b there.1)))
-
-pub cell-cell-requires : goal.cell-cell-requires
-cell-cell-requires g c =
+pub returns-clause-some : goal.returns-clause-some
+returns-clause-some g c =
     let store = c.args.closed.now in
-    let places = c.deref-place-items.result.now in
+    let taken = g.K.Sink.taken in
     let known = c.in_ok-places.ensures in
-    let is = listed store places c.in_ok-places.places.items c.deref-place-items.ensures.value known.stored known.numbers known.cells in
-    cell_within store places c.records.place-index is (omega arith)
-
-pub returns-in_err-put_ballot-clause-some : goal.returns-in_err-put_ballot-clause-some
-returns-in_err-put_ballot-clause-some g c =
-    let e = c.args.closed.now.election in
-    let taken = g.K.Sink.taken in
-    let whole = export_text e c.args.closed.now.ballots in
-    let l = c.records in
-    on_failure c.from_residual-in_err-put_ballot.result (TakesSome (taken c.args.out.now) whole (taken l.out))
-    (front_written (taken c.args.out.now) (taken l.out) l.text.items
-    (lines_left e (drop l.place-index c.args.closed.now.ballots)) whole l.invariant.written)
-
-pub returns-in_err-write_all-clause-some : goal.returns-in_err-write_all-clause-some
-returns-in_err-write_all-clause-some g c =
-    let e = c.args.closed.now.election in
-    let ballots = c.args.closed.now.ballots in
-    let store = c.args.closed.now in
-    let places = c.deref-place-items.result.now in
-    let known = c.in_ok-places.ensures in
-    let is = listed store places c.in_ok-places.places.items c.deref-place-items.ensures.value known.stored known.numbers known.cells in
-    let lt : c.records.place-index < length places = omega arith in
-    let there = next_found store places c.records.place-index is lt in
-    let b = there.0 in
-    let taken = g.K.Sink.taken in
-    let whole = export_text e c.args.closed.now.ballots in
-    let l = c.records in
-    let text = c.put_ballot.new.text.items in
-    let after = taken c.write_all.new.self in
-    let gathered = ballot_gathered e ballots l.place-index b (taken c.args.out.now)
-    (taken l.out) l.text.items text whole there.2 there.3 l.invariant.written (line_of_next store places l.place-index is lt c.election-election.result.now c.cell-cell.result.now l.text.items text c.election-election.ensures.election c.cell-cell.ensures.held c.in_ok-put_ballot.ensures) in
-    on_failure c.from_residual-in_err-write_all.result (TakesSome (taken c.args.out.now) whole after)
-    (some_written (taken c.args.out.now) (taken l.out) after text
-    (lines_left e (drop (l.place-index + 1) ballots)) whole gathered
-    (subst (λ (bytes : List ℕ). TakesSome (taken l.out) bytes after) c.deref.ensures.value
-    c.in_err-write_all.ensures.some))
-
-pub records-preserved : goal.records-preserved
-records-preserved g c =
-    let e = c.args.closed.now.election in
-    let ballots = c.args.closed.now.ballots in
-    let store = c.args.closed.now in
-    let places = c.deref-place-items.result.now in
-    let known = c.in_ok-places.ensures in
-    let is = listed store places c.in_ok-places.places.items c.deref-place-items.ensures.value known.stored known.numbers known.cells in
-    let lt : c.records.place-index < length places = omega arith in
-    let there = next_found store places c.records.place-index is lt in
-    let b = there.0 in
-    let taken = g.K.Sink.taken in
-    let whole = export_text e c.args.closed.now.ballots in
-    let l = c.records in
-    let next = c.if-len-gt-FULL in
-    let before = taken c.args.out.now in
-    let text = c.put_ballot.new.text.items in
-    let left = lines_left e (drop (l.place-index + 1) ballots) in
-    let gathered = ballot_gathered e ballots l.place-index b before
-    (taken l.out) l.text.items text whole
-    there.2 there.3 l.invariant.written (line_of_next store places l.place-index is lt c.election-election.result.now c.cell-cell.result.now l.text.items text c.election-election.ensures.election c.cell-cell.ensures.held c.in_ok-put_ballot.ensures) in
-    elim c.if-len-gt-FULL.branch [
-      | then-len-gt-FULL+in_ok-write_all w ↦
-          let after = taken w.write_all.new.self in
-          let takes = subst (λ (bytes : List ℕ). TakesAll (taken l.out) bytes after) w.deref.ensures.value
-          w.in_ok-write_all.ensures.all in
-          record {
-            written = subst (λ (now : Option (List ℕ)). IsWritten before now next.text.items left whole)
-                (ap taken (sym w.out-is))
-                (gathered_written before (taken l.out) after text next.text.items left whole gathered takes
-                (ap (λ v. v.items) w.text-is ∙ w.clear.ensures.items));
-            steady = ap g.K.Sink.faults w.out-is ∙ w.in_ok-write_all.ensures.fault.steady ∙ l.invariant.steady;
-          }
-      | else-len-gt-FULL w ↦ record {
-        written = subst (λ (now : Option (List ℕ)). IsWritten before now next.text.items left whole)
-            (ap taken (sym w.out-is))
-            (subst (λ (gathered : List ℕ). IsWritten before (taken l.out) gathered left whole)
-            (ap (λ v. v.items) (sym w.text-is)) gathered);
-        steady = ap g.K.Sink.faults w.out-is ∙ l.invariant.steady;
-      }
-    ]
-
-pub returns-in_err-write_all-2-clause-some : goal.returns-in_err-write_all-2-clause-some
-returns-in_err-write_all-2-clause-some g c =
-    let e = c.args.closed.now.election in
-    let taken = g.K.Sink.taken in
-    let whole = export_text e c.args.closed.now.ballots in
-    let l = c.records in
-    let after = taken c.write_all-2.new.self in
-    on_failure c.from_residual-in_err-write_all-2.result (TakesSome (taken c.args.out.now) whole after)
-    (some_written (taken c.args.out.now) (taken l.out) after l.text.items
-    (lines_left e (drop l.place-index c.args.closed.now.ballots)) whole l.invariant.written
-    (subst (λ (bytes : List ℕ). TakesSome (taken l.out) bytes after) c.deref-2.ensures.value
-    c.in_err-write_all-2.ensures.some))
-
-pub returns-clause-all : goal.returns-clause-all
-returns-clause-all g c =
-    let e = c.args.closed.now.election in
-    let ballots = c.args.closed.now.ballots in
-    let taken = g.K.Sink.taken in
-    let l = c.records in
-    let after = taken c.write_all-2.new.self in
-    let places = c.deref-place-items.result.now in
-    let known = c.in_ok-places.ensures in
-    let is = listed c.args.closed.now places c.in_ok-places.places.items c.deref-place-items.ensures.value known.stored known.numbers known.cells in
-    let size = as_many c.args.closed.now places is in
-    all_written (taken c.args.out.now) (taken l.out) after l.text.items (lines_left e (drop l.place-index ballots))
-    (export_text e ballots) l.invariant.written
-    (no_line_left e ballots l.place-index (omega arith))
-    (subst (λ (bytes : List ℕ). TakesAll
-    (taken l.out) bytes after) c.deref-2.ensures.value c.in_ok-write_all-2.ensures.all)
+    let listed = as_many store c.in_ok-places.places.items (record {
+      stored = known.stored;
+      numbers = known.numbers;
+      cells = known.cells;
+    }) in
+    let many : c.len.result ≡ length store.ballots =
+    omega (arith, c.len.ensures, c.deref.ensures.len, ap length c.deref.ensures.value, listed) in
+    subst (λ (text : List ℕ). OnErr c.put_records.result (TakesSome (taken c.args.out.now)
+    (text ++ records_text store.election store.ballots) (taken c.put_records.new.out)))
+    (c.in_ok-text.ensures ∙ ap count_text many) c.put_records.ensures.some

@@ -1,4 +1,5 @@
 use Rattle.std.proofs.Common.{◌≢◌, ℕ, sym, ap, ◌∙◌, subst}
+use Rattle.crossbeam_utils.specs.Padded.{padded_value}
 use Rattle.step_core.specs.CastTables.{note_of, state_of}
 use Rattle.step_core.specs.Shape.{table_of}
 use Rattle.store_spec.specs.CastStep.{CastState, CastView, view_after}
@@ -19,7 +20,7 @@ pub invariant_of-seat-in_default : goal.invariant_of-seat-in_default
 invariant_of-seat-in_default c =
     let claimed = c.claim-state in
     let rests = rests_after (table_of c.args.self.now.shape) c.args.number c.seat.inside.seat.me.0.view claimed.new.seat.me.0.view (note_of claimed.result.1) (other c) claimed.ensures.told claimed.ensures.probes in
-    rest_again c.args.self.now c.seat.inside claimed.new.seat c.seat.invariant
+    rest_again c.args.self.now (padded_value c.seat.inside.standing) c.seat.inside.seat claimed.new.seat c.seat.invariant
     (ap (λ (p : Place CastView). p.view.state) c.seat.view_is ∙ c.requires.at_rest)
     (subst (λ (s : CastState). IsAbout c.args.self.now s claimed.new.seat) (sym claimed.ensures.about.state_is ∙ rests) claimed.ensures.about)
 

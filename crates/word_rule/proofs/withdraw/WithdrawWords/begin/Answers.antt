@@ -9,12 +9,12 @@ use Rattle.word_rule.proofs.withdraw.WithdrawWords.begin.Goals as goal
 
 pub perform-found-requires-clause-rule : goal.perform-found-requires-clause-rule
 perform-found-requires-clause-rule c =
-    allows_first c.self.inside c.args.self.now Rest c.args.seat.now c.self.view_is c.self.invariant c.requires.at_rest c.args.number c.args.place c.requires.seated
+    allows_first c.self.inside.shape c.self.inside.table.shared c.args.self.now Rest c.args.seat.now c.self.view_is c.self.invariant c.requires.at_rest c.args.number c.args.place c.requires.seated
     _ _ _ refl refl refl
 
 begun : (c : goal.After-withdraw_first) → HasBegun c.args.self.now c.args.number c.args.seat.now c.perform-found.new.seat c.withdraw_first.result.0 (note_of c.withdraw_first.result.1)
 begun c =
-    let own : c.self.inside.shape ≡ c.args.self.now.shape = stored_shape c.self.inside c.args.self.now c.self.view_is c.self.invariant in
+    let own : c.self.inside.shape ≡ c.args.self.now.shape = stored_shape c.self.inside.shape c.self.inside.table.shared c.args.self.now c.self.view_is c.self.invariant in
     has_begun c.args.self.now Rest c.args.seat.now c.perform-found.new.seat c.args.number c.args.place _ c.perform-found.result _ _ c.requires.at_rest c.requires.seated c.perform-found.ensures.table
     (ap (λ (s : Shape). s.cells + c.args.place) own) c.perform-found.ensures.told
     (subst (λ (s : Shape). FirstRow (homes_of s) c.args.number c.perform-found.result (state_of c.withdraw_first.result.0) (note_of c.withdraw_first.result.1)) own c.withdraw_first.ensures)

@@ -7,7 +7,7 @@ use Rattle.word_rule.proofs.withdraw.WithdrawWords.step.Goals as goal
 
 pub perform-found-requires-clause-rule : goal.perform-found-requires-clause-rule
 perform-found-requires-clause-rule c =
-    allows_act c.self.inside c.args.self.now (state_of c.args.state) c.args.seat.now c.self.view_is c.self.invariant c.requires.about _ _ _ c.requires.moving c.withdraw_act-act.ensures
+    allows_act c.self.inside.shape c.self.inside.table.shared c.args.self.now (state_of c.args.state) c.args.seat.now c.self.view_is c.self.invariant c.requires.about _ _ _ c.requires.moving c.withdraw_act-act.ensures
 
 stepped : (c : goal.After-withdraw_after) → HasStepped c.args.self.now (state_of c.args.state) c.args.seat.now c.perform-found.new.seat c.withdraw_after.result.0 (note_of c.withdraw_after.result.1)
 stepped c =

@@ -1,0 +1,7 @@
+//! Tests of stores in parts. They stand in a crate of their own, since a crate with tests is proved twice.
+#![tactic(auto)]
+
+#[cfg(test)]
+mod media;
+#[cfg(test)]
+mod opening;

@@ -1,0 +1,7 @@
+pub mod Columns
+pub mod Counts
+pub mod Listed
+pub mod Planned
+pub mod Sent
+pub mod Teams
+pub mod Trays

@@ -1,0 +1,123 @@
+-- Items beside their replies.
+use Rattle.std.proofs.Common.{◌≡◌, zero, suc, ◌+◌, List, [], ◌∷◌, ◌++◌, Some, get_or, length, map, length-append, take, refl, sym, ap, ap₂, ◌∙◌, subst, arith, ℕ}
+use Rattle.std.proofs.Math.Seq.{get_or-append_seam}
+use Rattle.std.proofs.lemmas.List.{length-map, map_push, take_more}
+use Rattle.std.proofs.lemmas.List.Elements.{All-cons, All-head, All-nil, All-tail}
+use Rattle.std.proofs.lemmas.Option.{get_or_from_slice_get, slice_get-get_or, slice_get-map, slice_get_within}
+use Rattle.std.proofs.lemmas.Simd.{map-map}
+use Rattle.std.specs.List.{All, slice_get, zip}
+use Rattle.std.specs.Option.{option_map}
+use Rattle.phase_kind.specs.Phase.{Phase}
+use Rattle.phase_kind.specs.Told.{Told, told_in}
+
+-- ---- two lists side by side
+
+-- each has one element more
+pub zip_more : {X Y : Type 0} (xs : List X) (ys : List Y) (x : X) (y : Y) → length ys ≡ length xs → zip (xs ++ x ∷ []) (ys ++ y ∷ []) ≡ zip xs ys ++ (x, y) ∷ []
+zip_more [] [] x y same = refl
+zip_more [] (b ∷ ys) x y same = absurd (omega arith)
+zip_more (a ∷ xs) [] x y same = absurd (omega arith)
+zip_more (a ∷ xs) (b ∷ ys) x y same = ap (λ l. (a, b) ∷ l) (zip_more xs ys x y (omega arith))
+
+-- the first elements of rows
+pub firsts_of-zip : {X Y : Type 0} (xs : List X) (ys : List Y) → length ys ≡ length xs → map (λ p. p.0) (zip xs ys) ≡ xs
+firsts_of-zip [] ys same = refl
+firsts_of-zip (x ∷ xs) [] same = absurd (omega arith)
+firsts_of-zip (x ∷ xs) (y ∷ ys) same = ap (λ l. x ∷ l) (firsts_of-zip xs ys (omega arith))
+
+-- and the second ones
+pub seconds_of-zip : {X Y : Type 0} (xs : List X) (ys : List Y) → length ys ≡ length xs → map (λ p. p.1) (zip xs ys) ≡ ys
+seconds_of-zip [] [] same = refl
+seconds_of-zip [] (y ∷ ys) same = absurd (omega arith)
+seconds_of-zip (x ∷ xs) [] same = absurd (omega arith)
+seconds_of-zip (x ∷ xs) (y ∷ ys) same = ap (λ l. y ∷ l) (seconds_of-zip xs ys (omega arith))
+
+pub take_next : {X : Type 0} (xs : List X) (place : ℕ) (x : X) → slice_get xs place ≡ Some x → take (place + 1) xs ≡ take place xs ++ x ∷ []
+take_next xs place x there = take_more xs place x (slice_get_within xs place x there) ∙ ap (λ y. take place xs ++ y ∷ []) (get_or_from_slice_get xs place x x there)
+
+pub last_there : {X : Type 0} (xs : List X) (x : X) (place : ℕ) → place ≡ length xs → slice_get (xs ++ x ∷ []) place ≡ Some x
+last_there xs x place last =
+    ap (slice_get (xs ++ x ∷ [])) last
+    ∙ slice_get-get_or (xs ++ x ∷ []) (length xs) x (omega (arith, length-append xs (x ∷ [])))
+    ∙ ap (λ y. Some y) (get_or-append_seam xs x [] x)
+
+-- ---- trays
+
+module _ {I R : Type 0} where
+  abbrev pub told_of : I → R → Told I R
+  told_of item reply = record { item = item; reply = reply }
+
+  abbrev paired : I × R → Told I R
+  paired row = told_of row.0 row.1
+
+  pub items_told : (items : List I) (replies : List R) → length items ≡ length replies → map (λ t. t.item) (told_in items replies) ≡ items
+  items_told items replies same = map-map (λ (t : Told I R). t.item) paired (zip items replies) ∙ firsts_of-zip items replies (sym same)
+
+  pub replies_told : (items : List I) (replies : List R) → length items ≡ length replies → map (λ t. t.reply) (told_in items replies) ≡ replies
+  replies_told items replies same = map-map (λ (t : Told I R). t.reply) paired (zip items replies) ∙ seconds_of-zip items replies (sym same)
+
+  pub length-told : (items : List I) (replies : List R) → length items ≡ length replies → length (told_in items replies) ≡ length replies
+  length-told items replies same = sym (length-map (told_in items replies) (λ (t : Told I R). t.reply)) ∙ ap length (replies_told items replies same)
+
+  -- one item more, and its reply
+  pub one_told : (items items_now : List I) (replies replies_now : List R) (item : I) (reply : R) → length items ≡ length replies → items_now ≡ items ++ item ∷ [] → replies_now ≡ replies ++ reply ∷ [] → told_in items_now replies_now ≡ told_in items replies ++ told_of item reply ∷ []
+  one_told items items_now replies replies_now item reply same more more_replies =
+      ap₂ told_in more more_replies ∙ ap (map paired) (zip_more items replies item reply (sym same)) ∙ map_push paired (zip items replies) (item, reply)
+
+  -- an item and its reply stand at one place
+  pub told_parts : (items : List I) (replies : List R) (place : ℕ) (told : Told I R) → length items ≡ length replies → slice_get (told_in items replies) place ≡ Some told → (slice_get items place ≡ Some told.item) × (slice_get replies place ≡ Some told.reply)
+  told_parts items replies place told same there =
+      let rows = told_in items replies in (
+        ap (λ l. slice_get l place) (sym (items_told items replies same)) ∙ slice_get-map (λ (t : Told I R). t.item) rows place ∙ ap (option_map (λ (t : Told I R). t.item)) there,
+        ap (λ l. slice_get l place) (sym (replies_told items replies same)) ∙ slice_get-map (λ (t : Told I R). t.reply) rows place ∙ ap (option_map (λ (t : Told I R). t.reply)) there,
+      )
+
+  -- what stands at a place
+  told_there : (items : List I) (replies : List R) (place : ℕ) (item : I) (none : R) (d : Told I R) → length items ≡ length replies → slice_get items place ≡ Some item → get_or (told_in items replies) place d ≡ told_of item (get_or replies place none)
+  told_there [] replies place item none d same there = absurd (let within = slice_get_within {A = I} [] place item there in omega (arith, within))
+  told_there (x ∷ items) [] place item none d same there = absurd (omega arith)
+  told_there (x ∷ items) (r ∷ replies) zero item none d same there = let is : x ≡ item = cc in ap (λ x. told_of x r) is
+  told_there (x ∷ items) (r ∷ replies) (suc place) item none d same there = told_there items replies place item none d (omega arith) there
+
+  -- one place more
+  pub next_told : (items : List I) (replies : List R) (place : ℕ) (item : I) (none : R) → length items ≡ length replies → slice_get items place ≡ Some item → take (place + 1) (told_in items replies) ≡ take place (told_in items replies) ++ told_of item (get_or replies place none) ∷ []
+  next_told items replies place item none same there =
+      let rows = told_in items replies in
+      let d = told_of item none in
+      take_more rows place d (omega (arith, length-told items replies same, slice_get_within items place item there, same))
+      ∙ ap (λ t. take place rows ++ t ∷ []) (told_there items replies place item none d same there)
+
+  -- the tray tells of the seat after it as before
+  pub still_tells : {V : Type 0} (tells : Phase → V → List (Told I R) → Type 0) (phase before after : Phase) (old now : V) (items items_now : List I) (replies replies_now : List R) (item : I) (reply : R)
+      → before ≡ phase → after ≡ phase → length items ≡ length replies → items_now ≡ items ++ item ∷ [] → replies_now ≡ replies ++ reply ∷ []
+      → (tells phase old (told_in items replies) → tells phase now (told_in items replies ++ told_of item reply ∷ []))
+      → tells before old (told_in items replies) → tells after now (told_in items_now replies_now)
+  still_tells tells phase before after old now items items_now replies replies_now item reply was is same more more_replies on told =
+      subst (λ (p : Phase). tells p now (told_in items_now replies_now)) (sym is)
+      (subst (tells phase now) (sym (one_told items items_now replies replies_now item reply same more more_replies))
+      (on (subst (λ (p : Phase). tells p old (told_in items replies)) was told)))
+
+-- what is made of each place is the same for all of the first list
+pub made_alike : {S N W : Type 0} (made_at : S × N → W) (made : N → W) (seats : List S) (plan : List N) → length seats ≡ length plan → All (λ seat. (n : N) → made_at (seat, n) ≡ made n) seats → map made_at (zip seats plan) ≡ map made plan
+made_alike made_at made [] [] same each = refl
+made_alike made_at made [] (n ∷ plan) same each = absurd (omega arith)
+made_alike made_at made (seat ∷ seats) [] same each = absurd (omega arith)
+made_alike {S} {N} {W} made_at made (seat ∷ seats) (n ∷ plan) same each =
+    let Alike : S → Type 0 = λ seat. (n : N) → made_at (seat, n) ≡ made n in
+    ap (λ x. x ∷ map made_at (zip seats plan)) (All-head Alike seat seats each n)
+    ∙ ap (λ l. made n ∷ l) (made_alike made_at made seats plan (omega arith) (All-tail Alike seat seats each))
+
+-- what holds of all of a list and one more
+pub front_and_last : {X : Type 0} (P : X → Type 0) (xs : List X) (x : X) → All P (xs ++ x ∷ []) → All P xs × P x
+front_and_last P [] x all = (All-nil P, All-head P x [] all)
+front_and_last P (y ∷ xs) x all =
+    let rest = front_and_last P xs x (All-tail P y (xs ++ x ∷ []) all) in
+    (All-cons P y xs (All-head P y (xs ++ x ∷ []) all) rest.0, rest.1)
+
+-- the replies of trays, as they tell them
+pub replies_of_trays : {T I R : Type 0} (items : T → List I) (replies : T → List R) (trays : List T) → All (λ tray. length (items tray) ≡ length (replies tray)) trays → map replies trays ≡ map (map (λ t. t.reply)) (map (λ tray. told_in (items tray) (replies tray)) trays)
+replies_of_trays items replies [] paired = refl
+replies_of_trays {T} {I} {R} items replies (tray ∷ trays) paired =
+    let Paired : T → Type 0 = λ tray. length (items tray) ≡ length (replies tray) in
+    ap (λ l. l ∷ map replies trays) (sym (replies_told (items tray) (replies tray) (All-head Paired tray trays paired)))
+    ∙ ap (λ l. map (λ (t : Told I R). t.reply) (told_in (items tray) (replies tray)) ∷ l) (replies_of_trays items replies trays (All-tail Paired tray trays paired))

@@ -1,0 +1,18 @@
+use Rattle.std.proofs.Common.{List, subst, sym}
+use Rattle.phase_kind.proofs.phase.PhaseOf.close.Goals as goal
+use Rattle.phase_kind.specs.Phase.{Phase}
+use Rattle.phase_kind.specs.Worker.{AreAll}
+
+pub end-requires-clause-left : goal.end-requires-clause-left
+end-requires-clause-left g c =
+    let parts = c.in-Ok.ensures in
+    record {
+      workers = c.args.workers.items;
+      all = subst (λ (phase : Phase). AreAll phase c.args.workers.items) (sym c.self.view_is) c.requires.all;
+      seats_are = parts.seats;
+      trays_are = parts.trays;
+      told = parts.told;
+    }
+
+pub end-requires-clause-is_of : goal.end-requires-clause-is_of
+end-requires-clause-is_of g c = c.in-Ok.ensures.is_of _ (subst (λ (phase : Phase). AreAll phase c.args.workers.items) (sym c.self.view_is) c.requires.all).belong

@@ -1,0 +1,5 @@
+pub mod Phase
+pub mod Table
+pub mod Team
+pub mod Told
+pub mod Worker

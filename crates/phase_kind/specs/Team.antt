@@ -1,0 +1,43 @@
+-- A team has a worker of each of several phases, and its list is shared out among them by where each item goes.
+use Rattle.std.specs.Prelude.{◌≡◌, ◌==◌, ◌<◌, ◌≤◌, ℕ, List, length, map, zip, filter, All, Some, slice_get}
+use Rattle.phase_kind.specs.Phase.{Phase}
+use Rattle.phase_kind.specs.Worker.{HasAnswered, WorkerView}
+
+-- the items of a list that go to a place, in their order
+abbrev pub those_of : {I : Type 0} → (I → ℕ) → ℕ → List I → List I
+those_of goes_to place list = filter (λ x. goes_to x == place) list
+
+-- the replies to them, from those to the whole list
+abbrev pub replies_to : {I R : Type 0} → (I → ℕ) → ℕ → List I → List R → List R
+replies_to goes_to place list replies = map (λ row. row.1) (filter (λ row. goes_to row.0 == place) (zip list replies))
+
+-- each item goes to one of so many places
+abbrev pub GoesWithin : {I : Type 0} → (I → ℕ) → ℕ → List I → Type 0
+GoesWithin goes_to places list = All (λ x. goes_to x < places) list
+
+-- how many items of a list go to each of so many places
+pub record AreShares {I : Type 0} (goes_to : I → ℕ) (places : ℕ) (list : List I) (shares : List ℕ) : Type 0 where
+  pub as_many : length shares ≡ places
+  pub each : (place share : ℕ) → slice_get shares place ≡ Some share → share ≡ length (those_of goes_to place list)
+
+-- a worker of each phase, in the order of the phases
+abbrev pub IsTeam : {V I R : Type 0} → List Phase → List (WorkerView V I R) → Type 0
+IsTeam phases team = map (λ worker. worker.phase) team ≡ phases
+
+-- each worker's tray has room for the items that go to it
+abbrev pub HasRoom : {V I R : Type 0} → (I → ℕ) → List I → List (WorkerView V I R) → Type 0
+HasRoom {V} {I} {R} goes_to list team = (place : ℕ) (worker : WorkerView V I R) → slice_get team place ≡ Some worker → length (those_of goes_to place list) ≤ worker.room
+
+-- the team has handled a list: each worker has answered the items that go to it
+pub record HasHandled {V I R : Type 0} (rests : V → Type 0) (goes_to : I → ℕ) (before : List (WorkerView V I R)) (list : List I) (after : List (WorkerView V I R)) : Type 0 where
+  pub as_many : length after ≡ length before
+  pub each : (place : ℕ) (old now : WorkerView V I R) → slice_get before place ≡ Some old → slice_get after place ≡ Some now → HasAnswered rests old (those_of goes_to place list) now
+
+-- Replies to the items of a list, kept by the places where the items go: at each place as many as go there.
+abbrev pub AreByPlace : {I R : Type 0} → (I → ℕ) → List I → List (List R) → Type 0
+AreByPlace {I} {R} goes_to list rows = (place : ℕ) (row : List R) → slice_get rows place ≡ Some row → length row ≡ length (those_of goes_to place list)
+
+-- the same replies in the order of the list
+pub record AreInOrder {I R : Type 0} (goes_to : I → ℕ) (list : List I) (rows : List (List R)) (replies : List R) : Type 0 where
+  pub as_many : length replies ≡ length list
+  pub each : (place : ℕ) (row : List R) → slice_get rows place ≡ Some row → replies_to goes_to place list replies ≡ row

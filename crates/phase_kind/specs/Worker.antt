@@ -1,0 +1,54 @@
+-- A worker, as callers see it, how it is kept, and what workers have done once each has answered its list.
+use Rattle.std.specs.Prelude.{◌≡◌, ◌+◌, ◌≤◌, ℕ, List, [], ◌++◌, length, map, All}
+use Rattle.phase_kind.specs.Phase.{Phase}
+use Rattle.phase_kind.specs.Told.{Told}
+use Rattle.word_rule.specs.Places.{Place}
+
+-- the phase to which it belongs, what its seat knows, how many more items its tray has room for, and the tray
+pub record WorkerView (V I R : Type 0) : Type 0 where
+  pub phase : Phase
+  pub seat : V
+  pub room : ℕ
+  pub tray : List (Told I R)
+
+abbrev pub new_worker : {V I R : Type 0} → V → Phase → ℕ → WorkerView V I R
+new_worker fresh phase room = record { phase = phase; seat = fresh; room = room; tray = [] }
+
+-- the seat of a worker
+abbrev pub seat_of : {V I R : Type 0} → WorkerView V I R → Place V
+seat_of worker = record { words = worker.phase.words; view = worker.seat }
+
+-- all workers of a phase
+pub record AreAll {V I R : Type 0} (phase : Phase) (workers : List (WorkerView V I R)) : Type 0 where
+  pub all : length workers ≡ phase.words.seats
+  pub belong : All (λ worker. worker.phase ≡ phase) workers
+
+-- The seats and trays that are left of all workers of a phase. Each tray tells of its seat.
+pub record AreLeft {V I R : Type 0} (tells : Phase → V → List (Told I R) → Type 0) (phase : Phase) (seats : List (Place V)) (trays : List (List (Told I R))) : Type 0 where
+  pub workers : List (WorkerView V I R)
+  pub all : AreAll phase workers
+  pub seats_are : seats ≡ map seat_of workers
+  pub trays_are : trays ≡ map (λ worker. worker.tray) workers
+  pub told : All (λ worker. tells worker.phase worker.seat worker.tray) workers
+
+-- The worker has answered a list: it is at rest, the list's items stand in their order behind what its tray held, each
+-- with its reply, and the tray has so much less room.
+pub record HasAnswered {V I R : Type 0} (rests : V → Type 0) (before : WorkerView V I R) (list : List I) (after : WorkerView V I R) : Type 0 where
+  pub phase : after.phase ≡ before.phase
+  pub at_rest : rests after.seat
+  pub room : after.room + length list ≡ before.room
+  pub told : List (Told I R)
+  pub tray : after.tray ≡ before.tray ++ told
+  pub items : map (λ t. t.item) told ≡ list
+
+-- ---- how a worker is kept
+
+-- The tray tells of the seat, its list may hold such items, and has one at each place where a reply is. There is memory for
+-- as many as there are places.
+pub record IsKept (Tells IsOf : Type 0) (items more replies capacity places : ℕ) : Type 0 where
+  pub told : Tells
+  pub is_of : IsOf
+  pub paired : items ≡ replies
+  pub within : replies ≤ places
+  pub reserved : places ≤ capacity
+  pub listed : places ≤ more + replies

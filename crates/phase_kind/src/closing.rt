@@ -1,0 +1,85 @@
+//! The two ends of a phase: its workers at their seats, and what is left of them.
+
+ghost use Rattle.phase_kind.specs.Told.{told_in};
+ghost use Rattle.phase_kind.specs.Worker.{new_worker, seat_of};
+ghost use Rattle.std.specs.Prelude.{◌≡◌, ◌≤◌, All, IfOk, length, map};
+ghost use Rattle.word_rule.specs.Seats.{SharedWords};
+ghost use Rattle.phase_kind.specs.Phase.{IsPhase, Phase};
+
+use crate::{Kind, Tray, Worker};
+use body_store::Closed;
+use outside_io::Memory;
+use std::alloc::Global;
+use step_core::Shape;
+
+/// What a phase is made of: the shape of its words, the words, and a worker for each entry of the plan.
+pub fn opened<K: Kind>(
+    alloc: Global,
+    closed: &Closed,
+    plan: &[u32],
+) -> Result<(Shape, K::Words, Vec<Worker<K>>), Memory>
+    requires { 1 ≤ length plan.now }
+    ensures phase { IfOk result
+        (λ made. IsPhase K.may_claim closed.now (K.seen made.1) made.0) }
+    ensures seats { IfOk result (λ made. (K.seen made.1).seats ≡ length plan.now) }
+    ensures workers { IfOk result (λ made. made.2.items
+        ≡ map (new_worker K.fresh (record { base = closed.now; words = K.seen made.1 })) plan.now) }
+{
+    let election = closed.election();
+    let shape = Shape {
+        order: election.order(),
+        cells: election.cells(),
+        claims: K::claims(closed),
+    };
+    let (words, seats) = K::begin(alloc, closed, shape, plan.len())?;
+    let workers = seated(alloc, closed, seats, plan)?;
+    Ok((shape, words, workers))
+}
+
+/// A worker at each of new seats of some words, with a tray as the plan says.
+fn seated<K: Kind>(
+    alloc: Global,
+    closed: &Closed,
+    seats: Vec<K::Seat>,
+    plan: &[u32],
+) -> Result<Vec<Worker<K>>, Memory>
+    requires as_many { length seats.items ≡ length plan.now }
+    requires new { All (λ seat. (K.standing seat).view ≡ K.fresh) seats.items }
+    ensures { IfOk result (λ workers. (words : SharedWords)
+        → All (λ seat. (K.standing seat).words ≡ words) seats.items
+        → workers.items ≡ map (new_worker K.fresh (record { base = closed.now; words = words })) plan.now) }
+{
+    let mut workers = Vec::with_capacity(alloc, plan.len())?;
+    for (seat, room) in seats.into_iter().zip(plan) {
+        workers.push(Worker::new(alloc, closed, seat, *room)?)?;
+    }
+    Ok(workers)
+}
+
+/// The seats of workers, and their trays.
+pub fn taken_apart<K: Kind>(
+    alloc: Global,
+    workers: Vec<Worker<K>>,
+) -> Result<(Vec<K::Seat>, Vec<Tray<K::List, K::Reply>>), Memory>
+    ensures seats { IfOk result
+        (λ parts. map K.standing parts.0.items ≡ map seat_of workers.items) }
+    ensures trays { IfOk result
+        (λ parts. map (λ tray. told_in (K.items tray.items) tray.replies.items) parts.1.items
+        ≡ map (λ worker. worker.tray) workers.items) }
+    ensures is_of { IfOk result (λ parts. (phase : Phase)
+        → All (λ worker. worker.phase ≡ phase) workers.items
+        → All (λ tray. K.is_of phase.base tray.items) parts.1.items) }
+    ensures paired { IfOk result
+        (λ parts. All (λ tray. length (K.items tray.items) ≡ length tray.replies.items) parts.1.items) }
+    ensures told { IfOk result
+        (λ _. All (λ worker. K.tells worker.phase worker.seat worker.tray) workers.items) }
+{
+    let mut seats = Vec::with_capacity(alloc, workers.len())?;
+    let mut trays = Vec::with_capacity(alloc, workers.len())?;
+    for worker in workers {
+        let (seat, tray) = worker.into_parts();
+        seats.push(seat)?;
+        trays.push(tray)?;
+    }
+    Ok((seats, trays))
+}
