@@ -63,6 +63,7 @@ impl PartStore {
           ballots = get_or self.now.sets index [];
         } }
         ensures stored { IsStored result.now }
+        ensures parted { IsParted self.now }
     {
         &self.parts[index]
     }

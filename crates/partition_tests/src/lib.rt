@@ -2,6 +2,8 @@
 #![tactic(auto)]
 
 #[cfg(test)]
+mod acknowledging;
+#[cfg(test)]
 mod media;
 #[cfg(test)]
 mod opening;

@@ -24,11 +24,11 @@ const CLOSED: [(usize, u8); 2] = [(608, 0), (609, 0)];
 /// Bank B is torn and its gate closed.
 const TORN: [(usize, u8); 2] = [(400, 0x3c), (609, 0)];
 
-const EMPTY: Edit = (Set::Empty, WHOLE);
+pub(crate) const EMPTY: Edit = (Set::Empty, WHOLE);
 
-const LOW: Edit = (Set::Low, WHOLE);
+pub(crate) const LOW: Edit = (Set::Low, WHOLE);
 
-const HIGH: Edit = (Set::High, WHOLE);
+pub(crate) const HIGH: Edit = (Set::High, WHOLE);
 
 const BOTH: Edit = (Set::Both, WHOLE);
 

@@ -1,0 +1,16 @@
+use Rattle.std.proofs.Common.{◌≡◌, ◌∙◌, arith, false, length, map, sym}
+use Rattle.std.proofs.lemmas.List.{ext_get_or, get_or-map, length-map}
+use Rattle.body_store.specs.Contents.{Contents}
+use Rattle.part_play.specs.Plays.{is_present_in}
+use Rattle.part_play.proofs.finding.look_up.Goals as goal
+
+pub returns : goal.returns
+returns g c =
+    let found = c.loop-index.found in
+    let list = c.args.list.now in
+    let answer = is_present_in c.args.spread.now (map (λ (store : Contents). store.ballots) c.args.stores.now) in
+    let many : length found ≡ length (map answer list) =
+    c.loop-index.invariant.as_many ∙ sym (length-map list answer) in
+    ext_get_or false found (map answer list) many (λ i within.
+    c.loop-index.invariant.answered i (omega (arith, c.loop-index.auto.index-end, c.loop-index-test.false))
+    ∙ sym (get_or-map answer list i 0 false (omega (arith, c.loop-index.invariant.as_many))))

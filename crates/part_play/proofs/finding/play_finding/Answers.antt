@@ -1,0 +1,17 @@
+use Rattle.std.proofs.Common.{◌≡◌, ◌∙◌, ◌++◌, ap, arith, drop, length, map, sym, take}
+use Rattle.std.proofs.lemmas.List.{take_at}
+use Rattle.std.proofs.lemmas.Simd.{map-map}
+use Rattle.body_store.specs.Contents.{Contents}
+use Rattle.part_play.specs.Plays.{is_present_in}
+use Rattle.part_play.proofs.finding.play_finding.Goals as goal
+
+pub returns : goal.returns
+returns g c =
+    let answer = is_present_in c.args.spread.now (map (λ (store : Contents). store.ballots) c.args.stores.now) in
+    let before = c.in_ok-found.found in
+    let found = c.look_up_all.new.found in
+    let whole : take before.len (found ++ drop (length found) before.items) ≡ found =
+    take_at found (drop (length found) before.items) before.len
+    (omega (arith, c.look_up_all.ensures.as_many, c.deref_mut.ensures.len, before.ok)) in
+    ap (map (λ list. list.items)) whole ∙ c.look_up_all.ensures.answers
+    ∙ sym (map-map (map answer) (λ list. list.items) c.args.work.now)

@@ -1,0 +1,82 @@
+-- A phase of each of several stores that was played to its close: the items of each list are shared out among the stores by
+-- where they go, and the replies come in the order of the lists.
+use Rattle.std.specs.Prelude.{◌≡◌, ℕ, All, List, [], length, map, zip, Some, slice_get}
+use Rattle.body_store.specs.Contents.{Contents, IsStored}
+use Rattle.phase_kind.specs.Phase.{Phase}
+use Rattle.phase_kind.specs.Team.{HasRoom, IsTeam, replies_to, those_of}
+use Rattle.phase_kind.specs.Told.{Told}
+use Rattle.phase_kind.specs.Worker.{WorkerView, new_worker}
+use Rattle.store_spec.specs.Ballot.{Ballot}
+
+-- The phase of one store is closed: its trays had these lists, and what its kind tells of a close is so.
+pub record HasClosed {I R F : Type 0} (closes : Contents → List (List (Told I R)) → List (List F) → List Ballot → Type 0) (old : Contents) (lists : List (List I)) (finals : List (List F)) (now : Contents) : Type 0 where
+  pub trays : List (List (Told I R))
+  pub items : map (map (λ t. t.item)) trays ≡ lists
+  pub election : now.election ≡ old.election
+  pub stored : IsStored now
+  pub told : closes old trays finals now.ballots
+
+-- a close gives each item of each tray one final reply
+abbrev pub AnswersEach : {I R F : Type 0} → (Contents → List (List (Told I R)) → List (List F) → List Ballot → Type 0) → Type 0
+AnswersEach {I} {R} {F} closes =
+    (base : Contents) (trays : List (List (Told I R))) (finals : List (List F)) (after : List Ballot)
+    → closes base trays finals after → map length finals ≡ map length trays
+
+-- the replies to lists at one place: to the items that go there
+abbrev pub replies_at : {I F : Type 0} → (I → ℕ) → ℕ → List (List I) → List (List F) → List (List F)
+replies_at goes_to place work replies = map (λ at. replies_to goes_to place at.0 at.1) (zip work replies)
+
+-- The phases of all stores were played: there are as many stores as before and a reply to each item of each list, and at
+-- each place the store's phase is closed over the items that go there.
+pub record HasPlayed {I R F : Type 0} (closes : Contents → List (List (Told I R)) → List (List F) → List Ballot → Type 0) (goes_to : I → ℕ) (before : List Contents) (work : List (List I)) (after : List Contents) (replies : List (List F)) : Type 0 where
+  pub stores : length after ≡ length before
+  pub answered : map length replies ≡ map length work
+  pub each : (place : ℕ) (old now : Contents) → slice_get before place ≡ Some old → slice_get after place ≡ Some now
+      → HasClosed closes old (map (those_of goes_to place) work) (replies_at goes_to place work replies) now
+
+-- ---- its steps
+
+-- phases of these stores that have begun, each with new workers as its plan says
+pub record HaveBegun {V I R : Type 0} (fresh : V) (stores : List Contents) (plans : List (List ℕ)) (phases : List Phase) (rows : List (List (WorkerView V I R))) : Type 0 where
+  pub bases : map (λ phase. phase.base) phases ≡ stores
+  pub seats : map (λ phase. phase.words.seats) phases ≡ map length plans
+  pub rows_are : rows ≡ map (λ at. map (new_worker fresh at.0) at.1) (zip phases plans)
+
+-- phases of these stores, and a team for each list: new workers with room for its items
+pub record AreReady {V I R : Type 0} (goes_to : I → ℕ) (stores : List Contents) (work : List (List I)) (phases : List Phase) (teams : List (List (WorkerView V I R))) : Type 0 where
+  pub bases : map (λ phase. phase.base) phases ≡ stores
+  pub seats : All (λ phase. phase.words.seats ≡ length work) phases
+  pub as_many : length teams ≡ length work
+  pub belong : All (IsTeam phases) teams
+  pub room : All (λ at. HasRoom goes_to at.1 at.0) (zip teams work)
+  pub empty : All (All (λ worker. worker.tray ≡ [])) teams
+
+-- The phase with these workers is closed: the store after it, and the final replies to its trays.
+pub record HasEnded {V I R F : Type 0} (closes : Contents → List (List (Told I R)) → List (List F) → List Ballot → Type 0) (phase : Phase) (workers : List (WorkerView V I R)) (now : Contents) (finals : List (List F)) : Type 0 where
+  pub election : now.election ≡ phase.base.election
+  pub stored : IsStored now
+  pub told : closes phase.base (map (λ worker. worker.tray) workers) finals now.ballots
+
+-- the same of several phases
+pub record HaveEnded {V I R F : Type 0} (closes : Contents → List (List (Told I R)) → List (List F) → List Ballot → Type 0) (phases : List Phase) (columns : List (List (WorkerView V I R))) (after : List Contents) (told : List (List (List F))) : Type 0 where
+  pub stores : length after ≡ length phases
+  pub as_many : length told ≡ length phases
+  pub each : All (λ at. HasEnded closes at.0.0 at.0.1 at.1.0 at.1.1) (zip (zip phases columns) (zip after told))
+
+-- All phases are closed, and the final replies are kept by place and by list.
+pub record HaveClosed {I R F : Type 0} (closes : Contents → List (List (Told I R)) → List (List F) → List Ballot → Type 0) (goes_to : I → ℕ) (before : List Contents) (work : List (List I)) (after : List Contents) (told : List (List (List F))) : Type 0 where
+  pub stores : length after ≡ length before
+  pub as_many : length told ≡ length before
+  pub each : (place : ℕ) (old now : Contents) (finals : List (List F)) → slice_get before place ≡ Some old → slice_get after place ≡ Some now → slice_get told place ≡ Some finals
+      → HasClosed closes old (map (those_of goes_to place) work) finals now
+
+-- Final replies that are kept by place and by list: to each list as many at each place as items of it go there.
+abbrev pub AreByPlaces : {I F : Type 0} → (I → ℕ) → List (List I) → List (List (List F)) → Type 0
+AreByPlaces {I} {F} goes_to work told =
+    (place : ℕ) (finals : List (List F)) → slice_get told place ≡ Some finals
+    → map length finals ≡ map length (map (those_of goes_to place) work)
+
+-- the same replies in the order of each list
+pub record AreAllTold {I F : Type 0} (goes_to : I → ℕ) (work : List (List I)) (told : List (List (List F))) (replies : List (List F)) : Type 0 where
+  pub answered : map length replies ≡ map length work
+  pub each : (place : ℕ) (finals : List (List F)) → slice_get told place ≡ Some finals → replies_at goes_to place work replies ≡ finals

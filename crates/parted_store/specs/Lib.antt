@@ -1,0 +1,5 @@
+pub mod LeadLaws
+pub mod Leads
+pub mod Slots
+pub mod Stops
+pub mod Views
