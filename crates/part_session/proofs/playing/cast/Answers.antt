@@ -1,0 +1,56 @@
+use Rattle.std.proofs.Common.{◌∙◌, Global, List, Vec, ap, map, subst, sym}
+use Rattle.ballot_record.specs.BallotList.{ListedBallots}
+use Rattle.part_session.proofs.Stores.{cast_closes, election_now, parts_cast, stores_now}
+use Rattle.part_session.proofs.playing.cast.Goals as goal
+use Rattle.partition_store.specs.Parted.{AreParts, joined}
+use Rattle.partition_store.specs.PartedKept.{sets_of}
+use Rattle.phase_insert.specs.Closing.{reply_of}
+use Rattle.phase_insert.specs.declared.reply.Final.{Final}
+use Rattle.store_spec.specs.Ballot.{Ballot}
+use Rattle.store_spec.specs.Parts.{ClosesCastingInParts}
+use Rattle.store_spec.specs.Session.{cast_text, closing}
+
+abbrev given : ListedBallots → List Ballot
+given list = list.ballots
+
+abbrev told : Vec Final Global → List Final
+told list = list.items
+
+pub of_parts-requires-clause-parts : goal.of_parts-requires-clause-parts
+of_parts-requires-clause-parts g c =
+    let stores = c.into_parts-stores in
+    let played = c.in_ok-after in
+    subst (λ n. AreParts n (sets_of played.after.items)) (sym c.bits-bits.ensures.bits)
+    (parts_cast c.args.store stores.result.items stores.ensures.sets stores.ensures.stores stores.ensures.parted
+    played.after.items played.ensures.elections played.ensures.stored c.new-spread.result
+    (c.new-spread.ensures ∙ c.bits-bits.ensures.bits) (map given c.args.lists.now)
+    (map (λ v. map reply_of (told v)) played.finals.items) c.parts_keep_their_own.ensures.casting played.ensures.plays)
+
+pub of_parts-requires-clause-stores : goal.of_parts-requires-clause-stores
+of_parts-requires-clause-stores g c =
+    let stores = c.into_parts-stores in
+    let played = c.in_ok-after in
+    stores_now c.args.store stores.result.items stores.ensures.sets stores.ensures.stores stores.ensures.parted
+    played.after.items played.ensures.elections played.ensures.stored
+
+pub returns-clause-election : goal.returns-clause-election
+returns-clause-election g c =
+    let stores = c.into_parts-stores in
+    let played = c.in_ok-after in
+    ap (λ store. store.election) c.of_parts.ensures.store
+    ∙ election_now c.args.store stores.result.items stores.ensures.sets stores.ensures.stores stores.ensures.parted
+    played.after.items played.ensures.elections played.ensures.stored
+
+pub returns-clause-closes : goal.returns-clause-closes
+returns-clause-closes g c =
+    let store = c.args.store in
+    let stores = c.into_parts-stores in
+    let played = c.in_ok-after in
+    let words = map (λ v. map (λ x. cast_text (reply_of x)) (told v)) played.finals.items in
+    let work = map given c.args.lists.now in
+    subst (λ (sets : List (List Ballot)). ClosesCastingInParts store.bits store.election (joined store.sets) work (closing words (joined sets)))
+    (sym (ap (λ store. store.sets) c.of_parts.ensures.store))
+    (cast_closes store stores.result.items stores.ensures.sets stores.ensures.stores stores.ensures.parted
+    played.after.items played.ensures.elections played.ensures.stored c.new-spread.result
+    (c.new-spread.ensures ∙ c.bits-bits.ensures.bits) reply_of told work played.finals.items
+    c.parts_keep_their_own.ensures.casting c.a_phase_closes.ensures.casting played.ensures.plays)
