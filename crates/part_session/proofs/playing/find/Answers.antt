@@ -1,4 +1,4 @@
-use Rattle.std.proofs.Common.{◌≡◌, ◌∙◌, Bool, Global, List, Vec, ap, map, subst, sym, ℕ}
+use Rattle.std.proofs.Common.{◌≡◌, ◌∙◌, Bool, Global, List, Vec, ap, map, subst, ℕ}
 use Rattle.part_play.specs.Plays.{PlaysFindingInParts}
 use Rattle.part_session.proofs.Found.{found_closes}
 use Rattle.part_session.proofs.Stores.{election_before}
