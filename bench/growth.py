@@ -9,6 +9,7 @@ least of five runs), and peak memory. The last column is the growth of BINARY, t
 import json
 import os
 import random
+import shutil
 import subprocess
 import sys
 import tempfile
@@ -24,11 +25,11 @@ def election(contests, bits, limit=32_768):
     return parts if contests <= 16 else {**parts, "contests": [{"choices": 64, "allowed": 1}] * contests, "version": 2}
 
 
-def ballots(count, contests):
+def ballots(count, contests, parts):
     rng = random.Random(7)
     numbers = {}
-    while len(numbers) < count:
-        numbers[rng.getrandbits(64) | 1] = None
+    while len(numbers) < count * parts:  # in turn one of each part
+        numbers[len(numbers) % parts * (2**64 // parts) + (rng.getrandbits(64) | 1) // parts or 1] = None
     groups = "-1234" if contests <= 16 else ["-", *map(str, range(1, 65))]
     return [(number, "/".join(rng.choice(groups) for _ in range(contests))) for number in numbers]
 
@@ -38,10 +39,11 @@ def phase(kind, lines, tabs):
 
 
 class Work:
-    """A kind of work: its election, its words, its script, and the lines that make the medium before it."""
+    """A kind of work: its election, its words, its script, and the lines that make the medium before it. In a store of
+    parts there are so many ballots in each of them."""
 
-    def __init__(self, name, make, contests=2, bits=16):
-        self.name, self.make, self.contests, self.bits = name, make, contests, bits
+    def __init__(self, name, make, contests=2, bits=16, parts=1):
+        self.name, self.make, self.contests, self.bits, self.parts = name, make, contests, bits, parts
 
 
 def casts(tabs):
@@ -50,6 +52,10 @@ def casts(tabs):
 
 def on_full(lines):
     return lambda cast, numbers: (["session"], phase("cast", cast, 1) + ["checkpoint"], lines(numbers))
+
+
+def in_eight(cast, _):
+    return ["part", *(f"part{k}" for k in range(1, 8))], [], phase("cast", cast, 64) + ["checkpoint"]
 
 
 WORKS = [
@@ -77,6 +83,7 @@ WORKS = [
     Work("one export, 24 contests of 64 choices", on_full(lambda numbers: ["export"]), contests=24),
     Work("audit, 24 contests of 64 choices",
          lambda cast, _: (["audit"], phase("cast", cast, 1) + ["checkpoint"], []), contests=24),
+    Work("casts into 8 parts, 64 tabulators", in_eight, parts=8),
 ]
 
 
@@ -86,7 +93,7 @@ def run(room, program, words, script, counted):
     (room / "script").write_bytes("".join(line + "\n" for line in script).encode())
     files = [str(room / name) for name in ("script", "out", "told")]
     done = subprocess.run([str(room / "runner"), "600", *files, "--", *before, program, str(room / "medium"),
-                           str(room / "election"), *words], capture_output=True, text=True, check=True)
+                           str(room / "election"), *words], capture_output=True, text=True, check=True, cwd=room)
     _, user, system, memory, status, *_ = map(int, done.stdout.split())
     told = (room / "told").read_text()
     assert status == 0, (program, words, told)
@@ -96,7 +103,7 @@ def run(room, program, words, script, counted):
 
 
 def cost(room, program, work, count, counted):
-    lines = ballots(count, work.contests)
+    lines = ballots(count, work.contests, work.parts)
     cast = [f"{number} 1 {groups}" for number, groups in lines]
     words, before, script = work.make(cast, [str(number) for number, _ in lines])
     (room / "election").write_text(json.dumps(election(work.contests, work.bits)))
@@ -105,7 +112,10 @@ def cost(room, program, work, count, counted):
         (room / "medium").unlink(missing_ok=True)
         if words != ["build"]:
             run(room, program, ["init"], [], False)
-            run(room, program, ["session"], before, False)
+            for k in range(1, work.parts):
+                shutil.copyfile(room / "medium", room / f"part{k}")
+            if before:
+                run(room, program, ["session"], before, False)
         time, memory = run(room, program, words, script, counted)
         times.append(time)
         peak = max(peak, memory)

@@ -5,7 +5,7 @@ _ballot_store() {
     COMPREPLY=()
     [[ $before != [\<\>]* ]] || return 0
     if ((COMP_CWORD == 3)); then
-        offered="init session audit build large sample compare merge migrate twin replay"
+        offered="init session audit build large sample compare merge migrate twin part replay"
     elif ((COMP_CWORD > 3)) && [[ ${COMP_WORDS[3]} == large ]]; then
         for option in --seed --count --tabs; do
             [[ " ${COMP_WORDS[*]:4:COMP_CWORD-4} " == *" $option "* ]] || offered+=" $option"

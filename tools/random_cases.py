@@ -14,16 +14,15 @@ part by part. Its strings stand for bytes, as latin-1 has them. It has the keys
 """
 import json
 
-from store_model import Rules
+from store_model import Rules, part_of
 
 GOLDEN = 0x9E3779B97F4A7C15
 MORE = [f"MORE{k}" for k in range(1, 9)]
 NAMES = {"MEDIUM": "medium", "ELECTION": "election.json"} | {name: name.lower() for name in MORE}  # of the files
-# The commands that a run is made of, and how often. A later one (part) gets a line here and, where it says how many
-# further media they have, in FURTHER; and a function that makes their scripts.
+# The commands that a run is made of, and how often; and how many further media they have.
 COMMANDS = {"session": 50, "audit": 12, "sample": 7, "compare": 7, "build": 8, "large": 4, "replay": 8, "init": 6,
-            "merge": 16, "migrate": 16, "twin": 16, "words": 4, "odd": 3}
-FURTHER = {"merge": [1, 1, 2, 2, 3, 4, 8], "migrate": [1], "twin": [1]}
+            "merge": 16, "migrate": 16, "twin": 16, "part": 16, "words": 4, "odd": 3}
+FURTHER = {"merge": [1, 1, 2, 2, 3, 4, 8], "migrate": [1], "twin": [1], "part": [1, 1, 3, 7]}
 BAD_LINES = ["", " ", "\r", "\0", "close ", " close", "close\r", "Close", "checkpoint 1", "export\t", "tally\0", "open",
              "open cast", "open cast 0", "open cast 65", "open cast 01", "open  cast 1", "open cast 1 ", "open count 1",
              "open cast 1\r", "cast", "cast 1", "cast 1 ", "cast 0 1 1 1", "cast 65 1 1 1", "cast 01 1 1 1", "find 1 0",
@@ -109,6 +108,7 @@ class Maker:
         self.numbers = numbers
         self.ballots = {}
         self.agree, self.share = 0.7, numbers  # how often a number keeps its ballot; the numbers of a medium's sets
+        self.count = 2  # of the parts of a store
 
     def overlap(self):
         """Lets the sets of all media mostly agree, and mostly fit into one store."""
@@ -237,6 +237,22 @@ class Maker:
         beside = [{"name": name} | told for name in names for told in [self.twin(medium)] if told]
         return medium, beside
 
+    def parts(self, strange=0.25, torn=0.6):
+        """The parts of a store. So many stores have one that holds numbers of others, or is damaged, missing, or of
+        another election, and so many parts of a store are torn."""
+        rng, media, numbers = self.rng, [], self.share
+        self.count = rng.choice([2, 2, 4, 8]) if self.told["limit"] < 1000 else 2
+        odd = rng.randrange(self.count) if rng.random() < strange else None
+        for part in range(self.count):
+            kind = rng.choice(["foreign", "foreign", "damaged", "other"]) if part == odd else None
+            self.share = [number for number in numbers if part_of(self.count, number) == part or kind == "foreign"]
+            told = self.medium(torn / self.count, 0.5 * (kind == "damaged"), 0.3 * (kind == "damaged"))
+            if told:
+                told["under"] = self.other_election() if kind == "other" else {}
+            media.append(told)
+        self.share = numbers
+        return media[0], [{"name": name} | told for name, told in zip(MORE, media[1:]) if told]
+
     def media(self, commands, migrates):
         """The medium and the further media of a case with these commands."""
         if "merge" in commands:
@@ -245,6 +261,8 @@ class Maker:
             return self.old_medium(), self.further(targets=0.7)
         if "twin" in commands and self.rng.random() < 0.9:
             return self.pair()
+        if "part" in commands and self.rng.random() < 0.9:
+            return self.parts()
         if FURTHER.keys().isdisjoint(commands):
             return self.medium(), []
         return self.medium(0.2, 0.05, 0.1), self.further()
@@ -335,12 +353,17 @@ class Maker:
         """A run over several media, mostly under words that have its form."""
         rng = self.rng
         more = rng.sample(MORE, rng.choice(FURTHER[command]))
+        if command == "part" and rng.random() < 0.93:
+            more = MORE[:self.count - 1]
         words = ["MEDIUM", "ELECTION", command, *more]
-        one = command != "merge"  # which has one word more, so that another mostly takes its place
+        one = command != "merge"  # which has a fixed number of words, so that another mostly takes the place of one
         if rng.random() < (0.03 if one else 0.1):  # a further medium and the target change places
             words[0], words[3] = words[3], words[0]
-        if rng.random() < 0.1 and len(more) < 8:  # one medium under two names
-            words[3 if one else len(words):] = ["./" + rng.choice(words[3:])]
+        if rng.random() < 0.1 and command == "merge" and len(more) < 8:  # one medium under two names
+            words.append("./" + rng.choice(words[3:]))
+        elif rng.random() < 0.1 and one:  # and under another one
+            at = rng.randrange(3, len(words))
+            words[at] = "./" + words[at]
         if rng.random() < 0.15:
             odd = rng.choice(["", "-", "-MORE1", "--help", words[0], *words[3:5], ".", "none", "none/x", "ELECTION",
                               "ELECTION/x", "election.json", "MORE1/x"])
@@ -349,7 +372,7 @@ class Maker:
         elif rng.random() < 0.03:
             words[3:] = rng.choice([[], MORE, MORE + ["MORE9"]])
         script = ["nobody reads this", ""]
-        if command == "twin":
+        if command in ("twin", "part"):
             script = self.script(rng.choice([0, 0, 1, 1, 2, 3]), badness=rng.choice([0, 0.02, 0.1]))
         output = "full" if rng.random() < 0.05 else "pipe"
         return {"words": words, "script": script, "output": output}
@@ -357,8 +380,8 @@ class Maker:
     def words(self):
         rng = self.rng
         pool = ["MEDIUM", "ELECTION", "init", "session", "audit", "sample", "compare", "build", "large", "replay",
-                "merge", "migrate", "twin", "", "-", "--help", "--seed", "1", "01", "--count", "--tabs", "65", "0",
-                "32769", "4294967296", "1" * 65, "x", "--seed=1"]
+                "merge", "migrate", "twin", "part", "", "-", "--help", "--seed", "1", "01", "--count", "--tabs", "65",
+                "0", "32769", "4294967296", "1" * 65, "x", "--seed=1"]
         whole = rng.choice([["MEDIUM", "ELECTION", "large", "--seed", "1", "--count", "5", "--tabs", "1"],
                             ["MEDIUM", "ELECTION", "sample", "123", "2"], ["MEDIUM", "ELECTION", "audit"],
                             *(["MEDIUM", "ELECTION", command, "MORE1"] for command in FURTHER)])
@@ -381,14 +404,16 @@ class Maker:
 
 
 def onto_targets(rng, runs):
-    """Lets runs that come after a migration mostly have its target as their medium, and those after a pair its second
-    disk, as the second disk or alone."""
+    """Lets runs that come after a migration mostly have its target as their medium, those after a pair its second disk,
+    as the second disk or alone, and those after a session of parts one of these alone."""
     target = None
     for words in (run["words"] for run in runs):
         if words[2:3] in (["migrate"], ["twin"]):
             if words[2] == "twin" and target and target != words[0] and len(words) == 4 and rng.random() < 0.6:
                 words[3] = target
             target = words[3] if words[3:] and words[3] in MORE else target
+        elif words[2:3] == ["part"]:
+            target = rng.choice([None, *(word for word in words[3:] if word in MORE)])
         elif target and words[:2] == ["MEDIUM", "ELECTION"] and FURTHER.keys().isdisjoint(words):
             words[0] = target if rng.random() < 0.6 else words[0]
 
@@ -406,17 +431,22 @@ def case(rng):
         runs = [maker.run("migrate" if migrates else rng.choice(["init", "build", "audit", "replay"]))]
         medium = maker.old_medium() if migrates else maker.medium()
         return {"election": told, "text": text, "medium": medium, "more": [], "runs": runs}
+    if "part" in commands and not migrates:  # a session on one part alone mostly makes it none
+        commands = ["part" if command == "session" and rng.random() < 0.7 else command for command in commands]
     (medium, more), runs = maker.media(commands, migrates), []
     if migrates:
         commands += rng.choices(["audit", "session", "migrate"], k=rng.choice([0, 1, 2]))
     elif "twin" in commands:
         commands += rng.choices(["audit", "session", "twin"], k=rng.choice([0, 1, 2]))
+    elif "part" in commands:
+        commands += rng.choices(["audit", "session", "part", "part"], k=rng.choice([0, 1, 2]))
     elif medium is None and rng.random() < 0.8:
         runs.append(maker.run("init"))
         if rng.random() < 0.1:
             runs.append(maker.run("large", first=True))
     if crowded:
-        runs.append({"words": ["MEDIUM", "ELECTION", "session"], "script": maker.script(3, True, 0), "output": "pipe"})
+        on = ["part", *MORE[:maker.count - 1]] if "part" in commands else ["session"]
+        runs.append({"words": ["MEDIUM", "ELECTION", *on], "script": maker.script(3, True, 0), "output": "pipe"})
     runs += [maker.run(command) for command in commands]
     onto_targets(rng, runs)
     words = [word for run in runs for word in run["words"]]

@@ -17,7 +17,8 @@ GROUP = re.compile(rb"-\Z|[1-9][0-9]?(,[1-9][0-9]?)*\Z")
 PHASES = {b"cast": "casting", b"withdraw": "withdrawing", b"find": "finding"}
 TEXTS = {9: "no store", 11: "other election"}
 FAULT = "fault"  # in place of the bytes of a medium which the disk doesn't give
-FURTHER = {"merge": range(1, 9), "migrate": [1], "twin": [1]}  # how many media a command may have beside the first
+# how many media a command may have beside the first
+FURTHER = {"merge": range(1, 9), "migrate": [1], "twin": [1], "part": [1, 3, 7]}
 
 
 class Doubt(Exception):
@@ -35,6 +36,17 @@ def is_form(words):
     more = words[3:]
     return (len(more) in FURTHER[words[2]] and all(word and word[0] != "-" for word in words[:3] + more)
             and len({words[0], *more}) == 1 + len(more))
+
+
+def part_of(count, number):
+    """The part of a number in a store of so many parts."""
+    return number >> 65 - count.bit_length()
+
+
+def shares(count, held):
+    """The ballots of each part of a set."""
+    return [{number: ballot for number, ballot in held.items() if part_of(count, number) == part}
+            for part in range(count)]
 
 
 def number_of(text):
@@ -180,6 +192,24 @@ class Rules:
             return self.looked_at(FAULT, lost), b"", held
         return (0, ""), b"media second-restored\n" if lost else b"media first-restored\n", held
 
+    def opened(self, media):
+        """How the opening of parts with these bytes ends: status and standard error, and the set that all hold; no set
+        where they stay as they were. A part is a FAULT where its disk gives nothing."""
+        sets = []
+        for part, medium in enumerate(media):
+            if medium == FAULT:
+                return (17, f"ballot_store: disk fault at medium {part}\n") if part else self.looked_at(FAULT, 0), None
+            try:
+                sets.append(self.held(medium))
+            except Finding as finding:
+                status, error = refusal(finding)
+                return (20, error.replace(": ", f": medium {part} ", 1)) if part else (status, error), None
+        for part, held in enumerate(sets):
+            foreign = [number for number in held if part_of(len(sets), number) != part]
+            if foreign:
+                return (23, f"ballot_store: medium {part} misplaced {min(foreign)}\n"), None
+        return (0, ""), {number: ballot for held in sets for number, ballot in held.items()}
+
     def tally(self, held):
         lines = [f"tally {len(held)}"]
         for k, (choices, allowed) in enumerate(zip(self.election.choices, self.allowed)):
@@ -226,6 +256,16 @@ def cast(limit, held, lists, replies):
     return new
 
 
+def cast_in_parts(count, limit, held, lists, replies):
+    """The same in a store of so many parts: of each part by itself, over the items of its own numbers."""
+    new = {}
+    for part, share in enumerate(shares(count, held)):
+        own = [[(item, word) for item, word in zip(items, words) if part_of(count, item[0]) == part]
+               for items, words in zip(lists, replies)]
+        new |= cast(limit, share, *([[pair[which] for pair in pairs] for pairs in own] for which in (0, 1)))
+    return new
+
+
 def withdraw(held, lists, replies):
     """The set after a withdrawing phase with these replies; a Doubt where they are no outcome."""
     done = [number for items, words in zip(lists, replies)
@@ -246,10 +286,11 @@ def withdraw(held, lists, replies):
 
 
 class Session:
-    """Walks along a script and the replies to it, and follows the choices that the replies made."""
+    """Walks along a script and the replies to it, on a store in so many parts, and follows the choices that the replies
+    made."""
 
-    def __init__(self, rules, held, replies):
-        self.rules, self.held, self.replies = rules, held, replies
+    def __init__(self, rules, held, replies, parts=1):
+        self.rules, self.held, self.replies, self.parts = rules, held, replies, parts
         self.at, self.phase, self.lists = 0, "closed", []
         self.checkpoints = []  # for each: where its reply ends in the replies, and the set
 
@@ -315,7 +356,7 @@ class Session:
                     raise Doubt(f"the reply to item {k} of list {i}: {words}")
             replies.append([words[2] for words in lines])
         if self.phase == "casting":
-            self.held = cast(self.rules.election.limit, self.held, self.lists, replies)
+            self.held = cast_in_parts(self.parts, self.rules.election.limit, self.held, self.lists, replies)
         elif self.phase == "withdrawing":
             self.held = withdraw(self.held, self.lists, replies)
         elif replies != [[b"present" if n in self.held else b"absent" for n in items] for items in self.lists]:

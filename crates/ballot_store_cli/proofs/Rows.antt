@@ -1,9 +1,9 @@
 -- The rows of all commands: their laws, and that their words tell them apart.
-use Rattle.std.proofs.Common.{◌≡◌, ℕ, ◌+◌, ◌*◌, ◌≤◌, List, [], ◌∷◌, Option, Some, None, Result, Ok, Err, ap, arith, refl, subst, sym, true, ◌∙◌}
+use Rattle.std.proofs.Common.{◌≡◌, ℕ, ◌+◌, ◌-◌, ◌*◌, ◌≤◌, ⊎_elim, List, [], ◌∷◌, Option, Some, None, Result, Ok, Err, ap, arith, refl, subst, sym, true, ◌∙◌}
 use Rattle.std.specs.Prelude.{IfErr, IfNone, IfOk, IfSome, codes, length}
 use Rattle.ballot_store_cli.specs.Command.{Forms, row}
 use Rattle.ballot_store_cli.specs.declared.command.Command.{Command}
-use Rattle.ballot_store_cli.specs.declared.command.Command.TheVariants.{Build, Init, Session, Audit, Replay, Large, Sample, Compare, Merge, Migrate, Twin}
+use Rattle.ballot_store_cli.specs.declared.command.Command.TheVariants.{Build, Init, Session, Audit, Replay, Large, Sample, Compare, Merge, Migrate, Twin, Part}
 use Rattle.large_options.proofs.Orders.{one_reading, ordered}
 use Rattle.large_options.specs.Options.{AreOptions, IsOptions}
 use Rattle.large_options.specs.declared.options.Options.{Options}
@@ -12,6 +12,9 @@ use Rattle.medium_commands.proofs.InitLaws.{init_laws}
 use Rattle.merge_commands.proofs.MergeLaws.{merge_laws}
 use Rattle.merge_commands.specs.Merge.{AreFew, merge_row}
 use Rattle.migrate_commands.proofs.MigrateLaws.{migrate_laws}
+use Rattle.part_commands.proofs.PartLaws.{part_laws}
+use Rattle.part_commands.specs.Part.{AreParts, part_row}
+use Rattle.partition_store.specs.Parted.{AreFurther}
 use Rattle.run_outcome.proofs.Laws.{Laws}
 use Rattle.run_outcome.specs.Row.{AreMediaIf, IsNamed, IsOne}
 use Rattle.sample_commands.proofs.Asking.{none_asked, one_asked}
@@ -38,6 +41,7 @@ laws (Compare asked) = compare_laws asked
 laws Merge = merge_laws
 laws Migrate = migrate_laws
 laws Twin = twin_laws
+laws Part = part_laws
 
 -- ---- commands are told apart by their words
 
@@ -65,6 +69,7 @@ one_row (Compare a) (Compare b) words same x y = ap Compare (one_asked words a b
 one_row Merge Merge words same x y = refl
 one_row Migrate Migrate words same x y = refl
 one_row Twin Twin words same x y = refl
+one_row Part Part words same x y = refl
 one_row a b words same x y = absurd (omega (arith, ap number_of same))
 
 -- ---- a word alone
@@ -82,6 +87,15 @@ no_media few = absurd (omega (arith, few.some))
 
 none_further : IsOne [] → ⊥
 none_further one = absurd (omega (arith, one))
+
+no_parts : AreParts [] → ⊥
+no_parts parts = ⊎_elim
+    (λ (one : 0 ≡ 1). absurd (omega (arith, one)))
+    (λ more. ⊎_elim
+    (λ (three : 0 ≡ 3). absurd (omega (arith, three)))
+    (λ (seven : 0 ≡ 7). absurd (omega (arith, seven)))
+    more)
+    parts
 
 -- it is the word of no command that takes no further words
 pub record IsOther (word : List ℕ) : Type 0 where
@@ -103,6 +117,7 @@ names_none word other (Compare asked) medium is = none_asked asked is.further
 names_none word other Merge medium is = no_media is.further
 names_none word other Migrate medium is = none_further is.further
 names_none word other Twin medium is = none_further is.further
+names_none word other Part medium is = no_parts is.further
 
 -- ---- a word with others behind it
 
@@ -150,6 +165,10 @@ module _ (medium word : List ℕ) (words : List (List ℕ)) where
   names_no_twin same none Twin is = none (is.further, is.media)
   names_no_twin same none other is = omega (arith, ap number_of (sym is.word ∙ same))
 
+  names_no_part : word ≡ codes "part" → (IsNamed part_row medium (codes "part") words → ⊥) → NamesNone
+  names_no_part same none Part is = none (record { word = refl; further = is.further; media = is.media })
+  names_no_part same none other is = omega (arith, ap number_of (sym is.word ∙ same))
+
   -- words that ask for no sample name none
   pub no_sample : (found : Option Command) → word ≡ codes "sample" → IfNone found ((asked : Asked) → IsAsked words asked → ⊥) → IfNone found NamesNone
   no_sample found same none = none_found found (names_no_sample same) none
@@ -165,6 +184,9 @@ module _ (medium word : List ℕ) (words : List (List ℕ)) where
 
   pub no_twin : (found : Option Command) → word ≡ codes "twin" → IfNone found ((IsOne words × AreMediaIf true medium words) → ⊥) → IfNone found NamesNone
   no_twin found same none = none_found found (names_no_twin same) none
+
+  pub no_part : (found : Option Command) → word ≡ codes "part" → IfNone found (IsNamed part_row medium (codes "part") words → ⊥) → IfNone found NamesNone
+  no_part found same none = none_found found (names_no_part same) none
 
   -- a command that one further medium names
   pub named_one : (command : Command) (found : Option Command) → (IsOne words → AreMediaIf true medium words → IsNamed (row command) medium word words)
@@ -195,6 +217,13 @@ few_media words other forms is = absurd cc
 pub one_target : (words : List (List ℕ)) (c : Command) → Forms words c → c ≡ Migrate → length words ≡ 4
 one_target words Migrate forms is = let more = further_of words Migrate forms in omega (arith, more.1, more.2)
 one_target words other forms is = absurd cc
+
+pub further_parts : (words : List (List ℕ)) (c : Command) → Forms words c → c ≡ Part → AreFurther (length words - 3)
+further_parts words Part forms is =
+    let more = further_of words Part forms in
+    let count : length more.0 ≡ length words - 3 = omega (arith, more.2) in
+    subst AreFurther count more.1
+further_parts words other forms is = absurd cc
 
 pub one_second : (words : List (List ℕ)) (c : Command) → Forms words c → c ≡ Twin → length words ≡ 4
 one_second words Twin forms is = let more = further_of words Twin forms in omega (arith, more.1, more.2)

@@ -1,11 +1,12 @@
 -- The commands of the program, and the words that it is called with: a medium, an election, and a command.
 use Rattle.std.specs.Prelude.{◌≢◌, ℕ, List, ◌∷◌, Contains}
 use Rattle.ballot_store_cli.specs.declared.command.Command.{Command}
-use Rattle.ballot_store_cli.specs.declared.command.Command.TheVariants.{Build, Init, Session, Audit, Replay, Large, Sample, Compare, Merge, Migrate, Twin}
+use Rattle.ballot_store_cli.specs.declared.command.Command.TheVariants.{Build, Init, Session, Audit, Replay, Large, Sample, Compare, Merge, Migrate, Twin, Part}
 use Rattle.medium_commands.specs.Audit.{audit_row}
 use Rattle.medium_commands.specs.Init.{init_row}
 use Rattle.merge_commands.specs.Merge.{merge_row}
 use Rattle.migrate_commands.specs.Migrate.{migrate_row}
+use Rattle.part_commands.specs.Part.{part_row}
 use Rattle.run_outcome.specs.Row.{IsNamed, IsPlain, Row}
 use Rattle.sample_commands.specs.Compare.{compare_row}
 use Rattle.sample_commands.specs.Sample.{sample_row}
@@ -28,6 +29,7 @@ row (Compare asked) = compare_row asked
 row Merge = merge_row
 row Migrate = migrate_row
 row Twin = twin_row
+row Part = part_row
 
 -- behind this word for the medium and those of some further media, a word may be that of one more
 pub record MayFollow (medium : List ℕ) (earlier : List (List ℕ)) (word : List ℕ) : Type 0 where

@@ -3,6 +3,7 @@ ghost use Rattle.std.specs.Prelude.{◌≡◌, ◌↔◌, [], IsTrue, ◌≤◌,
 ghost use Rattle.ballot_store_cli.specs.Command.{Forms, FormNone, MayFollow, row};
 ghost use Rattle.large_options.specs.Options.{AreOptions};
 ghost use Rattle.merge_commands.specs.Merge.{merge_row};
+ghost use Rattle.part_commands.specs.Part.{AreParts, part_row};
 ghost use Rattle.run_outcome.specs.Row.{AreMediaIf, IsNamed, IsOne, IsPlain};
 ghost use Rattle.sample_commands.specs.Asked.{IsAsked};
 ghost use Rattle.sample_commands.specs.declared.asked.Asked.{Asked};
@@ -35,6 +36,8 @@ pub enum Command {
     Migrate,
     /// Make two disks the medium of one set, and handle a script on both as a session does.
     Twin,
+    /// Handle a script over media that each hold a part of the numbers, as a session does.
+    Part,
     /// Handle a script that these options generate as a session does, and write the summary of its replies.
     Large(Options),
 }
@@ -158,6 +161,27 @@ fn if_one_medium(medium: &str, words: &[String], command: Command) -> Option<Com
     }
 }
 
+/// Whether there is a word for each medium of a store in parts but the first.
+fn are_as_parts(words: &[String]) -> bool
+    ensures { IsTrue result ↔ AreParts (map string_bytes words.now) }
+{
+    matches!(words.len(), 1 | 3 | 7)
+}
+
+/// The session over these media and the first, if their words are those of one, three or seven.
+fn part_named(medium: &str, words: &[String]) -> Option<Command>
+    ensures named { IfSome result
+        (λ c. IsNamed (row c) medium.now (codes "part") (map string_bytes words.now)) }
+    ensures none { IfNone result
+        (¬ IsNamed part_row medium.now (codes "part") (map string_bytes words.now)) }
+{
+    if are_as_parts(words) && are_media(medium, words) {
+        Some(Command::Part)
+    } else {
+        None
+    }
+}
+
 /// The command that this word names, with these further words behind it and this word for the medium.
 fn named_with(
     alloc: Global,
@@ -180,6 +204,7 @@ fn named_with(
         "merge" => Ok(merge_named(medium, words)),
         "migrate" => Ok(if_one_medium(medium, words, Command::Migrate)),
         "twin" => Ok(if_one_medium(medium, words, Command::Twin)),
+        "part" => Ok(part_named(medium, words)),
         _ => Ok(None),
     }
 }

@@ -14,6 +14,7 @@ const FORMS: &[&str] = &[
     "merge MORE ..",
     "migrate TARGET",
     "twin SECOND <script",
+    "part MORE .. <script",
     "replay <schedule",
 ];
 

@@ -3,6 +3,7 @@ ghost use Rattle.ballot_store_cli.specs.Command.{Forms, row};
 ghost use Rattle.ballot_store_cli.specs.Outcome.{Ends};
 ghost use Rattle.large_options.specs.declared.options.Options.{Options};
 ghost use Rattle.outside_io.specs.Outside.{input, output};
+ghost use Rattle.partition_store.specs.Parted.{AreFurther};
 ghost use Rattle.run_outcome.specs.Row.{CommandEnds};
 ghost use Rattle.run_outcome.specs.Status.{ended};
 ghost use Rattle.run_outcome.specs.World.{nothing_reported, world};
@@ -20,6 +21,7 @@ use medium_commands::init::init;
 use merge_commands::merge::merge;
 use migrate_commands::migrate::migrate;
 use outside_io::{Sink, Source, Turns};
+use part_commands::part::part;
 use phase_gate::Report;
 use run_outcome::Status;
 use sample_commands::compare::compare;
@@ -47,7 +49,9 @@ use twin_commands::twin::twin;
 ///   eight;
 /// - `MEDIUM ELECTION migrate TARGET` makes an unused target, under an election of version 2, the medium of the ballots that
 ///   the medium holds in version 1;
-/// - `MEDIUM ELECTION twin SECOND` makes two disks the medium of one set, and handles a script on both as a session does.
+/// - `MEDIUM ELECTION twin SECOND` makes two disks the medium of one set, and handles a script on both as a session does;
+/// - `MEDIUM ELECTION part MORE ..` handles a script as a session does over the media of a store in parts, the medium and one,
+///   three or seven more, of which each holds the numbers with its top bits.
 ///
 /// The report has how many calls each disk had seen at each checkpoint that a session acknowledged, how many two disks had
 /// seen when they were a pair, and how many ballots the last closed store held. `more` has a disk for each word after the
@@ -120,6 +124,7 @@ fn carry_out<R: Threads + Sync, S: Source, K: Sink, D: Disk, T: Turns>(
     requires second { command ≡ Command.Twin → length more.old ≡ 1 }
     requires told { command ≡ Command.Twin
         → All (λ second. is_some (D.seen second) ≡ is_some (D.seen disk.old)) more.old }
+    requires parts { command ≡ Command.Part → AreFurther (length more.old) }
     requires report { reported report.old ≡ nothing_reported }
     ensures { CommandEnds (disk_model D.seen D.calls D.may_leave D.faults)
         (row command) election.now (ended result) (reported report.new)
@@ -137,6 +142,7 @@ fn carry_out<R: Threads + Sync, S: Source, K: Sink, D: Disk, T: Turns>(
         Command::Merge => merge(alloc, election, out, disk, more),
         Command::Migrate => migrate(alloc, election, out, disk, more),
         Command::Twin => twin(rt, alloc, election, script, out, disk, more, turns, report),
+        Command::Part => part(rt, alloc, election, script, out, disk, more, turns, report),
         Command::Large(options) => large(rt, alloc, options, election, out, disk, turns, report),
     }
 }

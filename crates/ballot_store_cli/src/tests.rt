@@ -17,6 +17,7 @@ mod faults;
 mod memory;
 mod merging;
 mod migrating;
+mod parting;
 mod rows;
 mod turns;
 mod twinning;

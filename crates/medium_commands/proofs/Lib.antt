@@ -1,3 +1,4 @@
 pub mod AuditLaws
 pub mod InitLaws
 pub mod Refusing
+pub mod Several

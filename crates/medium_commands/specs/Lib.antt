@@ -1,3 +1,4 @@
 pub mod Audit
 pub mod Init
 pub mod Refused
+pub mod Several

@@ -1,8 +1,9 @@
 -- What the command `merge` makes of a target and of further media. `old` and `new` are the sink before and after, `before`
 -- and `after` the target's disk, and `more` and `now` those of the further media.
-use Rattle.std.specs.Prelude.{◌≡◌, ◌⊎◌, ℕ, ◌≤◌, List, ◌∷◌, codes, length, Some, is_some, true, false}
+use Rattle.std.specs.Prelude.{◌≡◌, ◌⊎◌, ℕ, ◌≤◌, List, codes, length, Some, is_some, true, false}
 use Rattle.std.specs.List.{AllZip}
 use Rattle.medium_commands.specs.Refused.{refused_status}
+use Rattle.medium_commands.specs.Several.{AllHold}
 use Rattle.merge_media.specs.Merging.{HoldsOldOrUnion, MergeRefuses, Merges}
 use Rattle.merge_media.specs.Union.{IsUnion}
 use Rattle.merge_media.specs.declared.fault.MergeFault.{MergeFault}
@@ -86,14 +87,6 @@ pub record MergeEnds {K D : Type 0} (model : DiskModel D) (e : Election) (status
 pub record AreFew (words : List (List ℕ)) : Type 0 where
   pub some : 1 ≤ length words
   pub few : length words ≤ 8
-
--- all media hold sets, for which this is so; the target's stands first
-pub record AllHold (e : Election) (content : Content) (So : List (List Ballot) → Type 0) : Type 0 where
-  pub set : List Ballot
-  pub sets : List (List Ballot)
-  pub held : HoldsSet e content.disk set
-  pub each : AllZip (HoldsSet e) content.more sets
-  pub so : So (set ∷ sets)
 
 -- the sets have a union, which the election's store may hold
 pub record HaveUnion (e : Election) (sets : List (List Ballot)) : Type 0 where

@@ -1,10 +1,9 @@
 -- Numbers that are looked up in the set of their part.
-use Rattle.std.proofs.Common.{◌≡◌, ◌^◌, ◌<◌, ◌≤◌, ◌∙◌, ℕ, Bool, true, false, All, List, [], ◌∷◌, None, Option, Some, ap, ap₂, cond, is_some, map, refl}
+use Rattle.std.proofs.Common.{◌≡◌, ◌^◌, ◌<◌, ◌≤◌, ◌∙◌, ℕ, Bool, true, false, All, List, [], ◌∷◌, Some, ap, ap₂, cond, is_some, map, refl}
 use Rattle.std.proofs.lemmas.Bool.{eq-eqb, eqb-true}
 use Rattle.std.proofs.lemmas.List.Elements.{All-head, All-tail}
 use Rattle.std.proofs.lemmas.Option.{get_or_from_slice_get}
 use Rattle.std.specs.List.{filter, find}
-use Rattle.std.specs.Option.{option_map}
 use Rattle.std.specs.Prelude.{◌==◌}
 use Rattle.part_play.proofs.Numbers.{goes_within}
 use Rattle.part_play.specs.Plays.{AreSharesOf, PlaysFindingInParts, is_present_in}
@@ -14,10 +13,6 @@ use Rattle.phase_play.proofs.Playing.{plays_finding}
 use Rattle.store_spec.specs.Ballot.{Ballot}
 use Rattle.store_spec.specs.Parts.{part_of, share}
 use Rattle.store_spec.specs.Session.{ClosesFinding, Effect, closing, find_text}
-
-pub still_some : {X Y : Type 0} (f : X → Y) (o : Option X) → is_some (option_map f o) ≡ is_some o
-still_some f None = refl
-still_some f (Some x) = refl
 
 -- ---- the part of a number has its ballot, if a set has it
 

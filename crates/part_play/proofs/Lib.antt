@@ -1,7 +1,7 @@
-mod Beside
+pub mod Beside
 mod Found
 mod Numbers
 mod Playing
-mod Shares
+pub mod Shares
 mod Stages
 mod Told

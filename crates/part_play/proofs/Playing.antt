@@ -1,19 +1,18 @@
 -- What the phases of all parts lead to.
-use Rattle.std.proofs.Common.{◌≡◌, ◌≤◌, ◌∙◌, ℕ, All, List, Some, ap, arith, get_or, length, map, slice_get, subst, sym}
+use Rattle.std.proofs.Common.{◌≡◌, ◌∙◌, ℕ, All, List, Some, ap, arith, get_or, length, map, slice_get, subst, sym}
 use Rattle.std.proofs.lemmas.List.{length-map}
 use Rattle.std.proofs.lemmas.Option.{slice_get-get_or, slice_get_within}
 use Rattle.std.specs.Prelude.{◌==◌}
 use Rattle.body_store.specs.Contents.{Contents, IsStored}
 use Rattle.part_play.proofs.Beside.{beside_mapped, beside_parts, beside_there, filters_mapped, firsts_beside, seconds_beside}
 use Rattle.part_play.specs.Plays.{PlaysCastingInParts, PlaysWithdrawingInParts, beside}
-use Rattle.part_play.specs.Several.{HasClosed, HasPlayed, replies_at}
+use Rattle.part_play.specs.Several.{HasPlayed, replies_at}
 use Rattle.phase_delete.proofs.Whole.{listed_is}
 use Rattle.phase_delete.specs.Closing as withdrawn
 use Rattle.phase_delete.specs.Tray.{Withdrawal as Withdrawn}
 use Rattle.phase_insert.specs.Closing as cast
 use Rattle.phase_insert.specs.Closing.{ClosesAs, line, reply_of}
 use Rattle.phase_insert.specs.Tray.{Cast}
-use Rattle.phase_insert.specs.declared.reply.CastReply.{CastReply}
 use Rattle.phase_insert.specs.declared.reply.Final.{Final}
 use Rattle.phase_kind.proofs.Counts.{something_there}
 use Rattle.phase_kind.proofs.Planned.{holds_at, mapped_at, same_at_each}

@@ -1,5 +1,5 @@
 -- Phases of parts, and the whole set of which the parts hold their shares.
-use Rattle.std.proofs.Common.{◌≡◌, ◌^◌, ◌<◌, ◌≤◌, ◌++◌, ◌∙◌, ℕ, Bool, true, false, All, List, [], ◌∷◌, Some, ap, arith, cond, get_or, length, map, not, refl, slice_get, subst, sym}
+use Rattle.std.proofs.Common.{◌≡◌, ◌^◌, ◌<◌, ◌≤◌, ◌++◌, ◌∙◌, ℕ, Bool, true, false, All, List, [], ◌∷◌, ap, arith, cond, get_or, map, not, refl, subst, sym}
 use Rattle.std.proofs.lemmas.Bool.{eq-eqb, eqb-true}
 use Rattle.std.proofs.lemmas.List.Elements.{All-append, All-contains, All-filter, All-map, All-nil, filter-append, filter_passes}
 use Rattle.std.proofs.lemmas.List.Kept.{AllPairs-filter}
@@ -53,7 +53,7 @@ module _ (bits part : ℕ) where
       ∙ sym (filter-append goes (map number line) (listed lines))
 
   -- the share of what is left is what is left of the share
-  share_left : (set : List Ballot) (lines : List (List Withdrawal)) → share bits part (ballots_without set (listed lines)) ≡ ballots_without (share bits part set) (listed (map (of_part (λ a. a.number) bits part) lines))
+  pub share_left : (set : List Ballot) (lines : List (List Withdrawal)) → share bits part (ballots_without set (listed lines)) ≡ ballots_without (share bits part set) (listed (map (of_part (λ a. a.number) bits part) lines))
   share_left set lines =
       let gone = listed lines in
       let gone_here = listed (map (of_part (λ (a : Withdrawal). a.number) bits part) lines) in
@@ -115,7 +115,7 @@ closes_withdrawing bits e set after parts parts_after lists replies effect some 
 -- ---- parts that hold their own
 
 -- what is accepted of a part's lines is the part's own
-accepted_own : (bits part : ℕ) (lines : List (List CastLine)) → All (λ b. part_of bits b.number ≡ part) (accepted_in (map (of_part (λ l. l.ballot.number) bits part) lines))
+pub accepted_own : (bits part : ℕ) (lines : List (List CastLine)) → All (λ b. part_of bits b.number ≡ part) (accepted_in (map (of_part (λ l. l.ballot.number) bits part) lines))
 accepted_own bits part [] = All-nil (λ (b : Ballot). part_of bits b.number ≡ part)
 accepted_own bits part (line ∷ lines) =
     let Own : Ballot → Type 0 = λ b. part_of bits b.number ≡ part in

@@ -1,14 +1,13 @@
 //! A finding phase of a store in parts: one worker for each list of numbers, all at once.
 
 ghost use Rattle.part_play.specs.Plays.{PlaysFindingInParts, is_present_in};
-ghost use Rattle.phase_find.specs.Present.{is_present};
 ghost use Rattle.std.specs.Prelude.{◌≡◌, ◌≤◌, ◌<◌, ◌^◌, IfOk, Some, length, map, slice_get, slice_index_or, vec_len};
 ghost use Rattle.store_spec.specs.Parts.{part_of};
 
 use crate::spread::ByParts;
 use body_store::Closed;
 use outside_io::{Memory, Turns};
-use phase_find::find;
+use phase_find::is_held;
 use phase_kind::Spread;
 use probe_order::Order;
 use std::alloc::Global;
@@ -21,13 +20,6 @@ const APART: usize = 64;
 fn peek(store: &Closed, number: u64) -> u64 {
     let home = store.election().order().home(number);
     store.cells().get(home).copied().unwrap_or(0)
-}
-
-/// Whether a store holds the ballot of this number.
-fn holds(store: &Closed, number: u64) -> bool
-    ensures { result ≡ is_present store.now.ballots number }
-{
-    find(store, number).is_some()
 }
 
 /// The store of the part of a number.
@@ -54,7 +46,7 @@ fn held<T: Turns>(
 {
     let store = store_of(stores, spread, number);
     turns.turn(tab, index, peek(store, number));
-    holds(store, number)
+    is_held(store, number)
 }
 
 /// A place for the answer to each number of each list, so that no worker takes memory.

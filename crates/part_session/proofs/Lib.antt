@@ -1,2 +1,6 @@
 mod Found
+mod OnePart
+mod OneRun
 mod Stores
+mod Together
+mod Words

@@ -1,6 +1,7 @@
 //! A session over a store in parts: its phases, all parts at once, and its script over the disks of all parts.
 #![tactic(auto)]
 
+pub mod laws;
 mod playing;
 mod session;
 

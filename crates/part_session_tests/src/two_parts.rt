@@ -1,4 +1,5 @@
-//! A session over a store in two parts, on two disks in memory, of which each call fails in turn.
+//! A session over a store in two parts, on two disks in memory: what scripts come to, with two tabulators at work at once, and
+//! where each call of a disk fails in turn.
 
 ghost use Rattle.any_store.specs.Checkpointed.{AreMedia};
 ghost use Rattle.parted_store.specs.Slots.{parted_disks};
@@ -9,8 +10,9 @@ ghost use Rattle.store_spec.specs.Disk.{disk_model};
 use ballot_record::Election;
 use checkpoint::init;
 use crash_disk::{Disk, MemoryDisk, Room};
+use fake_turns::Meeting;
 use image_builder::Scratch;
-use outside_io::{Lines, MemorySink, MemorySource, NoTurns};
+use outside_io::{Lines, MemorySink, MemorySource, NoTurns, Turns};
 use part_session::play;
 use parted_store::{Parts, PartsOf, Two};
 use partition_store::PartStore;
@@ -26,6 +28,7 @@ const ROOM: Room = Room {
     written: 6000,
 };
 
+/// Two ballots of the first part, and one of the second.
 const SCRIPT: &str = "open cast 1\n\
     cast 1 1 1 -/-\n\
     cast 1 9 1 -/-\n\
@@ -45,6 +48,81 @@ const REPLIES: &str = "casting 1\n\
     9 1 -/-\n\
     18446744073709551615 1 -/-\n";
 
+/// Ten ballots of one list. The first eight fill the first part, in which the tenth finds no room; the ninth is of the second.
+const TEN: &str = "open cast 1\n\
+    cast 1 1 1 -/-\n\
+    cast 1 2 1 -/-\n\
+    cast 1 5 1 -/-\n\
+    cast 1 6 1 -/-\n\
+    cast 1 9 1 -/-\n\
+    cast 1 14 1 -/-\n\
+    cast 1 17 1 -/-\n\
+    cast 1 22 1 -/-\n\
+    cast 1 18446744073709551615 1 -/-\n\
+    cast 1 3 1 -/-\n\
+    close\n\
+    checkpoint\n";
+
+const TEN_TOLD: &str = "casting 1\n\
+    1 1 accepted\n\
+    1 2 accepted\n\
+    1 3 accepted\n\
+    1 4 accepted\n\
+    1 5 accepted\n\
+    1 6 accepted\n\
+    1 7 accepted\n\
+    1 8 accepted\n\
+    1 9 accepted\n\
+    1 10 full\n\
+    closed 9\n\
+    checkpoint 9\n";
+
+/// In each phase two tabulators have numbers of both parts: one begins in the first part, and the other in the second.
+const BOTH: &str = "open cast 2\n\
+    cast 1 22 1 -/-\n\
+    cast 1 9223372036854775808 1 -/-\n\
+    cast 2 18446744073709551615 1 -/-\n\
+    cast 2 5 1 -/-\n\
+    close\n\
+    open find 2\n\
+    find 1 5\n\
+    find 1 18446744073709551615\n\
+    find 2 9223372036854775808\n\
+    find 2 6\n\
+    close\n\
+    open withdraw 2\n\
+    withdraw 1 22\n\
+    withdraw 1 18446744073709551614\n\
+    withdraw 2 18446744073709551615\n\
+    withdraw 2 6\n\
+    close\n\
+    checkpoint\n";
+
+const BOTH_TOLD: &str = "casting 2\n\
+    1 1 accepted\n\
+    1 2 accepted\n\
+    2 1 accepted\n\
+    2 2 accepted\n\
+    closed 4\n\
+    finding 2\n\
+    1 1 present\n\
+    1 2 present\n\
+    2 1 present\n\
+    2 2 absent\n\
+    closed 4\n\
+    withdrawing 2\n\
+    1 1 withdrawn\n\
+    1 2 absent\n\
+    2 1 withdrawn\n\
+    2 2 absent\n\
+    closed 2\n\
+    checkpoint 2\n";
+
+/// A script, what is written of it, and how many ballots the disks hold then.
+type Row = (&'static str, &'static str, usize);
+
+static ROWS: [Row; 2] = [(SCRIPT, REPLIES, 3), (TEN, TEN_TOLD, 9)];
+
 /// A disk that is the medium of the empty set, of which this call is to fail; none does at 0.
 fn empty_disk(alloc: Global, failing: u64) -> Result<MemoryDisk, Fail> {
     let failing = [failing].to_vec(alloc)?;
@@ -53,13 +131,15 @@ fn empty_disk(alloc: Global, failing: u64) -> Result<MemoryDisk, Fail> {
     Ok(disk)
 }
 
-/// Plays the script over a store and its disks. It answers the part whose disk failed.
-fn play_on<R: Threads + Sync, A: Disk, B: Disk>(
+/// Plays a script over a store and its disks. It answers the part whose disk failed.
+fn play_on<R: Threads + Sync, A: Disk, B: Disk, T: Turns>(
     rt: &R,
     alloc: Global,
     store: PartsOf<Two>,
     first: &mut A,
     more: &mut [B],
+    script: &str,
+    turns: &T,
     out: &mut MemorySink,
     scratch: &mut Scratch,
 ) -> Result<Option<usize>, Fail>
@@ -71,7 +151,7 @@ fn play_on<R: Threads + Sync, A: Disk, B: Disk>(
 {
     store.store().bits();
     let mut lines = Lines::new(alloc)?;
-    let script = Vec::from_slice(alloc, SCRIPT.as_bytes())?;
+    let script = Vec::from_slice(alloc, script.as_bytes())?;
     let mut source = MemorySource::new(script, Vec::new(alloc));
     let mut report = Report::new(alloc);
     let session = Session::new(alloc, store);
@@ -84,7 +164,7 @@ fn play_on<R: Threads + Sync, A: Disk, B: Disk>(
         &mut source,
         out,
         &mut disks,
-        &NoTurns,
+        turns,
         scratch,
         &mut report,
     ) {
@@ -93,12 +173,14 @@ fn play_on<R: Threads + Sync, A: Disk, B: Disk>(
     }
 }
 
-/// Opens the store on two disks, and plays the script over it.
-fn open_and_play<R: Threads + Sync, A: Disk, B: Disk>(
+/// Opens the store on two disks, and plays a script over it.
+fn open_and_play<R: Threads + Sync, A: Disk, B: Disk, T: Turns>(
     rt: &R,
     alloc: Global,
     first: &mut A,
     more: &mut [B],
+    script: &str,
+    turns: &T,
     out: &mut MemorySink,
 ) -> Result<Option<usize>, Fail>
     requires two { length more.old ≡ 1 }
@@ -106,7 +188,17 @@ fn open_and_play<R: Threads + Sync, A: Disk, B: Disk>(
     let mut scratch = Scratch::new(alloc)?;
     let store = PartStore::open(alloc, first, more, &Election::example(), &mut scratch)?;
     let parts = PartsOf::new(store);
-    play_on(rt, alloc, parts, first, more, out, &mut scratch)
+    play_on(
+        rt,
+        alloc,
+        parts,
+        first,
+        more,
+        script,
+        turns,
+        out,
+        &mut scratch,
+    )
 }
 
 /// How many ballots two disks hold.
@@ -126,15 +218,17 @@ struct Ended {
 }
 
 /// A session on two disks of which these calls are to fail; none does at 0.
-fn session_with<R: Threads + Sync>(
+fn session_with<R: Threads + Sync, T: Turns>(
     rt: &R,
     alloc: Global,
     failing: (u64, u64),
+    script: &str,
+    turns: &T,
     out: &mut MemorySink,
 ) -> Result<Ended, Fail> {
     let mut first = empty_disk(alloc, failing.0)?;
     let mut more = [empty_disk(alloc, failing.1)?];
-    let failed = open_and_play(rt, alloc, &mut first, &mut more, out)?;
+    let failed = open_and_play(rt, alloc, &mut first, &mut more, script, turns, out)?;
     let calls = (first.calls(), more[0].calls());
     let held = held(alloc, &mut first, &mut more)?;
     Ok(Ended {
@@ -152,13 +246,35 @@ fn opening_calls(alloc: Global) -> Result<(u64, u64), Fail> {
     Ok((first.calls(), more[0].calls()))
 }
 
-#[test]
-fn a_session_in_two_parts(rt: HostRuntime) -> Result<(), Fail> {
-    let alloc = rt.alloc();
+/// A session with these turns comes to this.
+fn assert_row<R: Threads + Sync + Abort, T: Turns>(
+    rt: &R,
+    alloc: Global,
+    row: Row,
+    turns: &T,
+) -> Result<(), Fail> {
+    let (script, told, held) = row;
     let mut out = MemorySink::new(alloc, 1000, Vec::new(alloc))?;
-    let ended = session_with(&rt, alloc, (0, 0), &mut out)?;
-    assert!(rt; ended.failed.is_none() && ended.held == 3);
-    assert!(rt; out.bytes() == REPLIES.as_bytes());
+    let ended = session_with(rt, alloc, (0, 0), script, turns, &mut out)?;
+    assert!(rt; ended.failed.is_none() && ended.held == held);
+    assert!(rt; out.bytes() == told.as_bytes());
+    Ok(())
+}
+
+#[test]
+fn sessions_in_two_parts(rt: HostRuntime) -> Result<(), Fail> {
+    let alloc = rt.alloc();
+    for row in &ROWS {
+        assert_row(&rt, alloc, *row, &NoTurns)?;
+    }
+    Ok(())
+}
+
+#[test]
+fn two_tabulators_are_at_work_at_once_in_both_parts(rt: HostRuntime) -> Result<(), Fail> {
+    let meeting = Meeting::new();
+    assert_row(&rt, rt.alloc(), (BOTH, BOTH_TOLD, 2), &meeting)?;
+    assert!(rt; meeting.met() == 6);
     Ok(())
 }
 
@@ -167,16 +283,30 @@ fn each_call_of_a_checkpoint_fails_in_turn(rt: HostRuntime) -> Result<(), Fail> 
     let alloc = rt.alloc();
     let opened = opening_calls(alloc)?;
     let mut out = MemorySink::new(alloc, 1000, Vec::new(alloc))?;
-    let calls = session_with(&rt, alloc, (0, 0), &mut out)?.calls;
+    let calls = session_with(&rt, alloc, (0, 0), SCRIPT, &NoTurns, &mut out)?.calls;
     for call in opened.0..calls.0 {
         let mut out = MemorySink::new(alloc, 1000, Vec::new(alloc))?;
-        let ended = session_with(&rt, alloc, (call.saturating_add(1), 0), &mut out)?;
+        let ended = session_with(
+            &rt,
+            alloc,
+            (call.saturating_add(1), 0),
+            SCRIPT,
+            &NoTurns,
+            &mut out,
+        )?;
         assert!(rt; ended.failed == Some(0) && (ended.held == 0 || ended.held == 2));
         assert!(rt; ended.calls.1 == opened.1);
     }
     for call in opened.1..calls.1 {
         let mut out = MemorySink::new(alloc, 1000, Vec::new(alloc))?;
-        let ended = session_with(&rt, alloc, (0, call.saturating_add(1)), &mut out)?;
+        let ended = session_with(
+            &rt,
+            alloc,
+            (0, call.saturating_add(1)),
+            SCRIPT,
+            &NoTurns,
+            &mut out,
+        )?;
         assert!(rt; ended.failed == Some(1) && (ended.held == 2 || ended.held == 3));
         assert!(rt; ended.calls.0 == calls.0);
     }

@@ -1,19 +1,20 @@
 -- All media are looked at, and then recovered.
-use Rattle.std.proofs.Common.{◌≡◌, ◌⊎◌, ◌≤◌, ℕ, zero, suc, List, ◌∷◌, ⊎_elim, Option, Some, inl, inr, sym, ap, subst, ◌∙◌, arith}
+use Rattle.std.proofs.Common.{◌≡◌, ◌⊎◌, ◌≤◌, ℕ, zero, suc, List, ◌∷◌, ⊎_elim, Option, Some, Result, Ok, Err, inl, inr, sym, ap, subst, ◌∙◌, arith}
 use Rattle.std.specs.List.{AllZip}
 use Rattle.std.specs.Option.{IfSome, is_some}
+use Rattle.std.specs.Prelude.{IsErrAnd, OnOk}
 use Rattle.body_store.specs.Contents.{Contents}
 use Rattle.crash_disk.proofs.Moments.{joined, weaker}
 use Rattle.outside_io.specs.Told.{IfTold}
-use Rattle.partition_store.specs.Opening.{FailsAt, FailsMedium, IsAgainst, IsBeforeRecovery, IsKeptMedium, IsOpened, KeepsMedium, LeavesOf}
+use Rattle.partition_store.specs.Opening.{FailsAt, FailsMedium, HoldsThroughout, IsAgainst, IsBeforeRecovery, IsKeptMedium, IsOpened, KeepsMedium, LeavesOf, LooksThenRecovers, Recovers}
 use Rattle.partition_store.specs.Parted.{IsParted, Parted}
 use Rattle.partition_store.specs.PartedKept.{election_of, sets_of}
-use Rattle.partition_store.specs.Recovering.{AreRecoveredAs, IsRecoveredAs, KeepsSteady, Recovers, RefusesAll, RefusesRecoveries, RefusesRecovery}
+use Rattle.partition_store.specs.Recovering.{AreRecoveredAs, IsRecoveredAs, KeepsSteady, RefusesAll, RefusesRecoveries, RefusesRecovery}
 use Rattle.partition_store.specs.declared.fault.PartFault.{PartFault}
 use Rattle.partition_store.specs.declared.fault.PartFault.TheVariants.{First, Other, Misplaced, DiskFault, Memory}
 use Rattle.partition_store.proofs.SideBySide.{zip_at, zip_both, zip_from, zip_joined, zip_to, zip_weaker}
 use Rattle.recovery.proofs.OneByOne.{zip_same}
-use Rattle.partition_store.proofs.Recoveries.{kept_still}
+use Rattle.partition_store.proofs.Recoveries.{kept_still, recovers_still}
 use Rattle.recovery.specs.Media.{HoldsIfTold, NoneRose}
 use Rattle.recovery.specs.ReadsOnly.{WritesNothing}
 use Rattle.recovery.specs.Refused.{HoldsSetOf}
@@ -66,6 +67,12 @@ module _ {A B : Type 0} (first : DiskModel A) (further : DiskModel B) (e : Elect
 
 -- ---- one disk
 
+-- however its looks and its recovery end
+pub record Runs {D : Type 0} (model : DiskModel D) (e : Election) (old new : D) : Type 0 where
+  pub told : is_some (model.seen new) ≡ is_some (model.seen old)
+  pub later : model.calls old ≤ model.calls new
+  pub throughout : HoldsThroughout model e old new
+
 module _ {D : Type 0} (model : DiskModel D) (e : Election) where
   abbrev Looks : D → D → Type 0
   Looks old new = WritesNothing model.seen model.calls model.may_leave old new
@@ -74,20 +81,20 @@ module _ {D : Type 0} (model : DiskModel D) (e : Election) where
   IsSpared bytes old image = leaves_now model.calls model.may_leave old image ⊎ HoldsSetOf e bytes image
 
   -- it was looked at
-  pub looked : (old new : D) → Looks old new → model.calls old ≤ model.calls new → Recovers model e old new
-  looked old new reads later = record {
+  pub looked : (old new : D) → Looks old new → Runs model e old new
+  looked old new reads = record {
     told = ap is_some reads.same_bytes;
-    later = later;
+    later = reads.any_moment.later;
     throughout = λ bytes sees. weaker model.calls model.may_leave old new (leaves_now model.calls model.may_leave old) (IsSpared bytes old) (λ image left. inl left) reads.any_moment;
   }
 
   -- and then recovered
-  pub runs_behind : (old mid new : D) → Looks old mid × (model.calls old ≤ model.calls mid) → Recovers model e mid new → Recovers model e old new
-  runs_behind old mid new (reads, before) run = record {
+  pub runs_behind : (old mid new : D) → Looks old mid → Recovers model e mid new → Runs model e old new
+  runs_behind old mid new reads run = record {
     told = run.told ∙ ap is_some reads.same_bytes;
-    later = omega (arith, before, run.later);
+    later = omega (arith, reads.any_moment.later, run.later);
     throughout = λ bytes sees. joined model.calls model.may_leave old mid new (IsSpared bytes old)
-        ((looked old mid reads before).throughout bytes sees)
+        ((looked old mid reads).throughout bytes sees)
         (weaker model.calls model.may_leave mid new (IsSpared bytes mid) (IsSpared bytes old)
         (λ image. ⊎_elim (λ left. inl (reads.any_moment.now image left)) (λ holds. inr holds))
         (run.throughout bytes (reads.same_bytes ∙ sees)));
@@ -234,14 +241,29 @@ module _ {A B : Type 0} (first : DiskModel A) (further : DiskModel B) (e : Elect
     not_before Memory refused before = absurd before
 
 -- all further disks
-pub runs_looked : {D : Type 0} (model : DiskModel D) (e : Election) (more now : List D) → AllZip (WritesNothing model.seen model.calls model.may_leave) more now
-    → AllZip (λ old new. model.calls old ≤ model.calls new) more now → AllZip (Recovers model e) more now
-runs_looked model e more now reads later =
-    zip_weaker (λ old new. WritesNothing model.seen model.calls model.may_leave old new × (model.calls old ≤ model.calls new)) (Recovers model e) (λ old new both. looked model e old new both.0 both.1) more now
-    (zip_both (WritesNothing model.seen model.calls model.may_leave) (λ old new. model.calls old ≤ model.calls new) more now reads later)
+pub runs_looked : {D : Type 0} (model : DiskModel D) (e : Election) (more now : List D) → AllZip (WritesNothing model.seen model.calls model.may_leave) more now → AllZip (Runs model e) more now
+runs_looked model e more now reads = zip_weaker (WritesNothing model.seen model.calls model.may_leave) (Runs model e) (looked model e) more now reads
 
 pub all_run_behind : {D : Type 0} (model : DiskModel D) (e : Election) (more mid now : List D) → AllZip (WritesNothing model.seen model.calls model.may_leave) more mid
-    → AllZip (λ old new. model.calls old ≤ model.calls new) more mid → AllZip (Recovers model e) mid now → AllZip (Recovers model e) more now
-all_run_behind model e more mid now reads later run =
-    zip_joined (λ old new. WritesNothing model.seen model.calls model.may_leave old new × (model.calls old ≤ model.calls new)) (Recovers model e) (Recovers model e) (runs_behind model e) more mid now
-    (zip_both (WritesNothing model.seen model.calls model.may_leave) (λ old new. model.calls old ≤ model.calls new) more mid reads later) run
+    → AllZip (Recovers model e) mid now → AllZip (Runs model e) more now
+all_run_behind model e more mid now reads run =
+    zip_joined (WritesNothing model.seen model.calls model.may_leave) (Recovers model e) (Runs model e) (runs_behind model e) more mid now reads run
+
+refused_ok : {T E : Type 0} (answer : Result T E) (P : E → Type 0) (Q : Type 0) → IsErrAnd answer P → OnOk answer Q
+refused_ok (Ok x) P Q refused = absurd refused
+refused_ok (Err f) P Q refused = tt
+
+-- nothing was recovered behind the looks
+pub only_looked : {A B T E : Type 0} (first : DiskModel A) (further : DiskModel B) (e : Election) (answer : Result T E) (P : E → Type 0) (one after : A) (more now : List B) → IsErrAnd answer P
+    → WritesNothing first.seen first.calls first.may_leave one after → AllZip (WritesNothing further.seen further.calls further.may_leave) more now → LooksThenRecovers first further e answer one after more now
+only_looked first further e answer P one after more now refused reads others = record {
+  looked = (after, now);
+  reads = reads;
+  others_read = others;
+  steady = λ same. same;
+  others_steady = λ same. same;
+  recovers = recovers_still first e after;
+  others_recover = zip_same (Recovers further e) (recovers_still further e) now;
+  called = refused_ok answer P _ refused;
+  others_called = refused_ok answer P _ refused;
+}

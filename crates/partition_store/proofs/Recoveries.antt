@@ -8,8 +8,8 @@ use Rattle.checkpoint.proofs.Pages.{told_back}
 use Rattle.crash_disk.proofs.Moments.{started, syncs_first, weaker}
 use Rattle.outside_io.proofs.Told.{told_holds}
 use Rattle.outside_io.specs.Told.{AsTold}
-use Rattle.partition_store.specs.Opening.{HoldsThroughout, recovery_fault_at}
-use Rattle.partition_store.specs.Recovering.{AreRecoveredAs, IsRecoveredAs, KeepsSteady, Recovers, RefusesRecoveries, RefusesRecovery}
+use Rattle.partition_store.specs.Opening.{HoldsThroughout, Recovers, recovery_fault_at}
+use Rattle.partition_store.specs.Recovering.{AreRecoveredAs, IsRecoveredAs, KeepsSteady, RefusesRecoveries, RefusesRecovery}
 use Rattle.partition_store.specs.declared.fault.PartFault.{PartFault}
 use Rattle.partition_store.specs.declared.fault.PartFault.TheVariants as faults
 use Rattle.partition_store.specs.declared.fault.PartFault.TheVariants.{First, Other, Misplaced}
@@ -154,4 +154,5 @@ recovers_still model e disk = record {
   told = refl;
   later = omega arith;
   throughout = λ bytes sees. started model.calls model.may_leave disk (λ image. leaves_now model.calls model.may_leave disk image ⊎ HoldsSetOf e bytes image) (λ image left. inl left);
+  once_synced = λ bytes sees. inl refl;
 }

@@ -1,6 +1,6 @@
 -- The opening of a store in parts. `one` and `after` are the first disk before and after, `more` and `now` the further
 -- ones, of the parts from 1 on.
-use Rattle.std.specs.Prelude.{◌≡◌, ◌≢◌, ◌⊎◌, ℕ, zero, suc, ◌+◌, ◌==◌, if◌then◌else◌, List, ◌∷◌, length, Some, slice_get}
+use Rattle.std.specs.Prelude.{◌≡◌, ◌≢◌, ◌⊎◌, ℕ, zero, suc, ◌+◌, ◌<◌, ◌≤◌, ◌==◌, if◌then◌else◌, List, ◌∷◌, is_some, length, OnOk, Result, Some, slice_get}
 use Rattle.std.specs.List.{AllZip}
 use Rattle.any_store.specs.Checkpointed.{IsMediumNow}
 use Rattle.outside_io.specs.Told.{AsTold}
@@ -9,16 +9,17 @@ use Rattle.partition_store.specs.Parted.{IsParted, Parted, bits_of}
 use Rattle.partition_store.specs.declared.fault.PartFault.{PartFault}
 use Rattle.partition_store.specs.declared.fault.PartFault.TheVariants.{First, Other, Misplaced, DiskFault, Memory}
 use Rattle.recovery.specs.Media.{EachHolds, HoldsIfTold, IsRefusedFor, NoneRose, StopsAt}
+use Rattle.recovery.specs.ReadsOnly.{WritesNothing}
 use Rattle.recovery.specs.Refused.{HoldsSetOf}
 use Rattle.recovery.specs.declared.fault.MediumWhy.{MediumWhy}
 use Rattle.recovery.specs.declared.fault.MediumWhy.TheVariants as media
 use Rattle.recovery.specs.declared.fault.RecoverFault.{RecoverFault}
 use Rattle.recovery.specs.declared.fault.RecoverFault.TheVariants as recover
 use Rattle.store_spec.specs.Ballot.{Ballot}
-use Rattle.store_spec.specs.Disk.{DiskModel, LeavesOnly, leaves_now}
+use Rattle.store_spec.specs.Disk.{DiskModel, LeavesOnly, SyncsFirst, leaves_now}
 use Rattle.store_spec.specs.Election.{Election}
-use Rattle.store_spec.specs.Fault.{Rose}
-use Rattle.store_spec.specs.Medium.{HoldsSet, IsMediumOf}
+use Rattle.store_spec.specs.Fault.{Rose, last_count}
+use Rattle.store_spec.specs.Medium.{HoldsSet, HoldsTheSame, IsMediumOf}
 
 -- ---- one disk
 
@@ -53,6 +54,15 @@ abbrev pub HoldsThroughout : {D : Type 0} → DiskModel D → Election → D →
 HoldsThroughout model e old new =
     (bytes : List ℕ) → model.seen old ≡ Some bytes
     → LeavesOnly model.calls model.may_leave old new (λ image. leaves_now model.calls model.may_leave old image ⊎ HoldsSetOf e bytes image)
+
+-- What holds of a disk however its recovery ends. Either nothing was called, or it began with a sync: once that has
+-- returned, each crash image of each moment holds the same as the bytes that were read.
+pub record Recovers {D : Type 0} (model : DiskModel D) (e : Election) (old new : D) : Type 0 where
+  pub told : is_some (model.seen new) ≡ is_some (model.seen old)
+  pub later : model.calls old ≤ model.calls new
+  pub throughout : HoldsThroughout model e old new
+  pub once_synced : (bytes : List ℕ) → model.seen old ≡ Some bytes
+      → (new ≡ old) ⊎ SyncsFirst model.calls model.may_leave old new (HoldsTheSame e bytes)
 
 -- the bytes are as before, or became the medium of the set that they held
 abbrev pub IsKeptMedium : Election → List ℕ → List ℕ → Type 0
@@ -122,6 +132,19 @@ LeavesOf first further e one after more now (DiskFault (suc place)) =
     KeepsMedium first e one after × FailsAt further e place more now
 LeavesOf first further e one after more now fault =
     KeepsMedium first e one after × AllZip (KeepsMedium further e) more now
+
+-- All media were looked at, which wrote nothing, and then recovered one after another, as far as that came; where it was
+-- answered with a store, each of them. Where no call failed in all, none failed in the looks.
+pub record LooksThenRecovers {A B T E : Type 0} (first : DiskModel A) (further : DiskModel B) (e : Election) (answer : Result T E) (one after : A) (more now : List B) : Type 0 where
+  pub looked : A × List B
+  pub reads : WritesNothing first.seen first.calls first.may_leave one looked.0
+  pub others_read : AllZip (WritesNothing further.seen further.calls further.may_leave) more looked.1
+  pub steady : first.faults after ≡ first.faults one → first.faults looked.0 ≡ first.faults one
+  pub others_steady : NoneRose further more now → NoneRose further more looked.1
+  pub recovers : Recovers first e looked.0 after
+  pub others_recover : AllZip (Recovers further e) looked.1 now
+  pub called : OnOk answer (first.calls after < last_count → first.calls looked.0 < first.calls after)
+  pub others_called : OnOk answer (AllZip (λ old new. further.calls new < last_count → further.calls old < further.calls new) looked.1 now)
 
 -- it was not refused while disks were recovered
 abbrev pub IsBeforeRecovery : PartFault → Type 0

@@ -1,8 +1,8 @@
 -- The recovery of the media of parts, one after another, once all were looked at.
-use Rattle.std.specs.Prelude.{◌≡◌, ℕ, suc, ◌≤◌, List, is_some}
+use Rattle.std.specs.Prelude.{◌≡◌, ℕ, suc, List}
 use Rattle.std.specs.List.{AllZip}
 use Rattle.any_store.specs.Checkpointed.{IsMediumNow}
-use Rattle.partition_store.specs.Opening.{FailsAt, FailsMedium, HoldsThroughout, KeepsMedium, LeavesOf}
+use Rattle.partition_store.specs.Opening.{FailsAt, FailsMedium, KeepsMedium, LeavesOf}
 use Rattle.partition_store.specs.declared.fault.PartFault.{PartFault}
 use Rattle.partition_store.specs.declared.fault.PartFault.TheVariants.{DiskFault, Memory}
 use Rattle.recovery.specs.Media.{EachHolds, HoldsIfTold, NoneRose}
@@ -15,12 +15,6 @@ pub record IsRecoveredAs {D : Type 0} (model : DiskModel D) (e : Election) (old 
   pub held : HoldsIfTold model e old set
   pub medium : IsMediumNow model e set new
   pub no_fault : model.faults new ≡ model.faults old
-
--- what holds of a disk however its recovery ends
-pub record Recovers {D : Type 0} (model : DiskModel D) (e : Election) (old new : D) : Type 0 where
-  pub told : is_some (model.seen new) ≡ is_some (model.seen old)
-  pub later : model.calls old ≤ model.calls new
-  pub throughout : HoldsThroughout model e old new
 
 -- no call on it failed, and it keeps what it held
 pub record KeepsSteady {D : Type 0} (model : DiskModel D) (e : Election) (old new : D) : Type 0 where

@@ -1,8 +1,10 @@
 //! Laws of stores in parts. Each function here states a law and does nothing.
 
-ghost use Rattle.std.specs.Prelude.{◌≡◌, ◌↔◌, ℕ, ◌^◌, ◌<◌, ◌≤◌, All, IsTrue, List, Bool, [], get_or, Some};
-ghost use Rattle.partition_store.specs.Opening.{HoldsThroughout};
-ghost use Rattle.partition_store.specs.Parted.{AreBits, AreParts, joined, shares};
+ghost use Rattle.std.specs.Prelude.{◌≡◌, ◌↔◌, ℕ, ◌^◌, ◌<◌, ◌≤◌, All, IsTrue, List, Bool, [], get_or, Result, Some};
+ghost use Rattle.std.specs.List.{AllZip};
+ghost use Rattle.partition_store.specs.Opening.{HoldsThroughout, LooksThenRecovers};
+ghost use Rattle.partition_store.specs.declared.fault.PartFault.{PartFault};
+ghost use Rattle.partition_store.specs.Parted.{AreBits, AreParts, Parted, joined, shares};
 ghost use Rattle.recovery.specs.Refused.{HoldsSetOf};
 ghost use Rattle.store_spec.specs.Ballot.{Ballot, IsBallotSet, IsValid};
 ghost use Rattle.store_spec.specs.Disk.{disk_model, leaves_now, LeavesOnly};
@@ -63,4 +65,17 @@ pub fn one_held_set<D: Disk>()
         → ((c : List ℕ) → leaves_now D.calls D.may_leave old c → HoldsSet e c set)
         → HoldsThroughout (disk_model D.seen D.calls D.may_leave D.faults) e old new
         → LeavesOnly D.calls D.may_leave old new (λ c. HoldsSet e c set) }
+{}
+
+/// Where the media were looked at and then recovered, each crash image of each moment of each disk is one of the start,
+/// or holds the set that was read.
+pub fn looked_then_recovered<A: Disk, B: Disk>()
+    ensures first { (e : Election) (answer : Result Parted PartFault) (one after : A) (more now : List B)
+        → LooksThenRecovers (disk_model A.seen A.calls A.may_leave A.faults)
+        (disk_model B.seen B.calls B.may_leave B.faults) e answer one after more now
+        → HoldsThroughout (disk_model A.seen A.calls A.may_leave A.faults) e one after }
+    ensures further { (e : Election) (answer : Result Parted PartFault) (one after : A) (more now : List B)
+        → LooksThenRecovers (disk_model A.seen A.calls A.may_leave A.faults)
+        (disk_model B.seen B.calls B.may_leave B.faults) e answer one after more now
+        → AllZip (HoldsThroughout (disk_model B.seen B.calls B.may_leave B.faults) e) more now }
 {}

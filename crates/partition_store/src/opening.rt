@@ -2,7 +2,7 @@
 
 ghost use Rattle.std.specs.Prelude.{◌≡◌, ◌<◌, ◌≤◌, IfErr, IfOk, OnOk, is_some, length};
 ghost use Rattle.std.specs.List.{AllZip};
-ghost use Rattle.partition_store.specs.Opening.{HoldsThroughout, IsAgainst, IsBeforeRecovery, IsOpened, LeavesOf};
+ghost use Rattle.partition_store.specs.Opening.{HoldsThroughout, IsAgainst, IsBeforeRecovery, IsOpened, LeavesOf, LooksThenRecovers};
 ghost use Rattle.partition_store.specs.Parted.{AreFurther, bits_of};
 ghost use Rattle.recovery.specs.ReadsOnly.{WritesNothing};
 ghost use Rattle.store_spec.specs.Disk.{disk_model};
@@ -54,6 +54,9 @@ impl PartStore {
         ensures unwritten { IfErr result (λ fault. IsBeforeRecovery fault
             → WritesNothing A.seen A.calls A.may_leave disk.old disk.new
             × AllZip (WritesNothing B.seen B.calls B.may_leave) more.old more.new) }
+        ensures looked { LooksThenRecovers (disk_model A.seen A.calls A.may_leave A.faults)
+            (disk_model B.seen B.calls B.may_leave B.faults)
+            election.now result disk.old disk.new more.old more.new }
         ensures any_moment { HoldsThroughout
             (disk_model A.seen A.calls A.may_leave A.faults) election.now disk.old disk.new }
         ensures others_at_any_moment { AllZip (HoldsThroughout

@@ -3,10 +3,10 @@
 ghost use Rattle.std.specs.Prelude.{◌≡◌, ◌++◌, ◌+◌, ◌^◌, ◌<◌, ◌≤◌, ◌∷◌, [], EachIndex, IfErr, IfOk, List, OnOk, get_or, length};
 ghost use Rattle.std.specs.List.{AllZip};
 ghost use Rattle.body_store.specs.Contents.{IsStored};
-ghost use Rattle.partition_store.specs.Opening.{IsOpened};
+ghost use Rattle.partition_store.specs.Opening.{IsOpened, Recovers};
 ghost use Rattle.partition_store.specs.Parted.{AreBits, AreFurther, BelongsTo, bits_of};
 ghost use Rattle.partition_store.specs.PartedKept.{AreStores, sets_of};
-ghost use Rattle.partition_store.specs.Recovering.{AreRecoveredAs, IsRecoveredAs, Recovers, RefusesAll, RefusesRecoveries, RefusesRecovery};
+ghost use Rattle.partition_store.specs.Recovering.{AreRecoveredAs, IsRecoveredAs, RefusesAll, RefusesRecoveries, RefusesRecovery};
 ghost use Rattle.store_spec.specs.Ballot.{Ballot};
 ghost use Rattle.store_spec.specs.Disk.{disk_model};
 ghost use Rattle.store_spec.specs.Fault.{last_count};

@@ -11,7 +11,7 @@ ghost use Rattle.store_spec.specs.Ballot.{ballot_of};
 
 use ballot_record::Record;
 use body_store::Closed;
-pub use running::run_find;
+pub use running::{is_held, run_find};
 
 /// The ballot with this number. `None` where none is held, as for 0.
 pub fn find(closed: &Closed, number: u64) -> Option<Record>

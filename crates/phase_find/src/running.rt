@@ -31,6 +31,14 @@ fn holds(closed: &Closed, order: &Salted, number: u64) -> bool
     place_of(order, cells, number).is_some()
 }
 
+/// Whether a store holds the ballot of this number.
+pub fn is_held(closed: &Closed, number: u64) -> bool
+    ensures { result ≡ is_present closed.now.ballots number }
+{
+    let order = closed.election().order();
+    holds(closed, &order, number)
+}
+
 /// A place for the answer to each number of each list, so that no worker takes memory.
 fn places(alloc: Global, work: &[Vec<u64>]) -> Result<Vec<Vec<bool>>, Memory>
     ensures { IfOk result

@@ -6,7 +6,7 @@ ghost use Rattle.store_spec.specs.Election.{example};
 
 mod running;
 
-use crate::find;
+use crate::{find, is_held};
 use ballot_record::{BallotList, Election, MAX_MARK_SETS, Record};
 use body_store::Closed;
 use outside_io::Memory;
@@ -43,9 +43,11 @@ fn held_and_not_held(rt: HostRuntime) {
     let store = Closed::from_records(rt.alloc(), &election, &ballots).expect(&rt, "memory");
     for number in [1, 9, 14, 22] {
         assert_eq!(rt; find(&store, number), Some(blank(number)), "{number}");
+        assert!(rt; is_held(&store, number), "{number}");
     }
     for number in [0, 2, 5, 10, 17, u64::MAX] {
         assert_eq!(rt; find(&store, number), None, "{number}");
+        assert!(rt; !is_held(&store, number), "{number}");
     }
 }
 

@@ -3,7 +3,7 @@ use Rattle.std.specs.Prelude.{ℕ, List, ◌++◌, codes, Result, Ok as Fine, Er
 use Rattle.std.specs.Fmt.{decimal}
 use Rattle.recovery.specs.declared.fault.MediumWhy.TheVariants as media
 use Rattle.run_outcome.specs.declared.status.Status.{Status}
-use Rattle.run_outcome.specs.declared.status.Status.TheVariants.{Ok, Usage, BadElection, TooLong, DiskFault, ReadFault, WriteFault, Memory, NoStore, Damaged, OtherElection, Exists, WrongSize, NotCanonical, BadLine, NoOldForm, OtherDiskFault, MediumSize, MediumInUse, BadMedium, MergeConflict, MergeFull}
+use Rattle.run_outcome.specs.declared.status.Status.TheVariants.{Ok, Usage, BadElection, TooLong, DiskFault, ReadFault, WriteFault, Memory, NoStore, Damaged, OtherElection, Exists, WrongSize, NotCanonical, BadLine, NoOldForm, OtherDiskFault, MediumSize, MediumInUse, BadMedium, MergeConflict, MergeFull, Misplaced}
 use Rattle.run_outcome.specs.declared.status.Which.TheVariants.{Election, Script}
 
 abbrev pub exit_status : Status → ℕ
@@ -29,6 +29,7 @@ exit_status (MediumInUse index) = 19
 exit_status (BadMedium index why) = 20
 exit_status (MergeConflict number) = 21
 exit_status (MergeFull count) = 22
+exit_status (Misplaced index number) = 23
 
 abbrev pub status_text : Status → List ℕ
 status_text Ok = codes "ok"
@@ -57,6 +58,7 @@ status_text (BadMedium index (media.OtherElection header)) = codes "medium " ++ 
 status_text (BadMedium index (media.Damaged cell)) = codes "medium " ++ decimal index ++ codes " damaged cell " ++ decimal cell
 status_text (MergeConflict number) = codes "conflict " ++ decimal number
 status_text (MergeFull count) = codes "merge of " ++ decimal count
+status_text (Misplaced index number) = codes "medium " ++ decimal index ++ codes " misplaced " ++ decimal number
 
 -- the status is neither a fault of the outside nor want of memory
 abbrev pub IsDecided : Status → Type 0

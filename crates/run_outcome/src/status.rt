@@ -59,6 +59,9 @@ pub enum Status {
     MediumSize { index: u32, size: u64 },
     /// This further medium has as many bytes as a medium, and a gate is open.
     MediumInUse { index: u32 },
+    /// The medium of this part is the first that holds a number of another part, and this is its least such number. Parts
+    /// count from 0.
+    Misplaced { index: u32, number: u64 },
 }
 
 impl Status {
@@ -91,6 +94,7 @@ impl Status {
             Status::BadMedium { .. } => 20,
             Status::MergeConflict { .. } => 21,
             Status::MergeFull { .. } => 22,
+            Status::Misplaced { .. } => 23,
         }
     }
 }
@@ -150,6 +154,7 @@ impl fmt::Display for Status {
             },
             Status::MergeConflict { number } => write!(f, "conflict {number}"),
             Status::MergeFull { count } => write!(f, "merge of {count}"),
+            Status::Misplaced { index, number } => write!(f, "medium {index} misplaced {number}"),
         }
     }
 }

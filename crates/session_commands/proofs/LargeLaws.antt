@@ -38,6 +38,6 @@ large_laws o = record {
       ends;
   served = λ e content a words valid options held decides.
       let text = generated_text e o.seed o.count o.tabs in
-      one_session e text content.disk a status.Ok valid decides (inl (refl, held, within_limit e o.seed o.count o.tabs valid options.is_seed.1 options.is_tabs));
+      one_session e text content.disk a status.Ok valid decides (inl (held, inl (refl, within_limit e o.seed o.count o.tabs valid options.is_seed.1 options.is_tabs)));
   no_usage = λ model e report before after ends. ⊎_elim (λ none. let clash = none.0 in cc) (λ plays. never_usage plays.answer plays.told) ends;
 }

@@ -1,9 +1,9 @@
 -- The laws of `session`: a script and the bytes of a disk decide how it ends, but for faults and want of memory.
-use Rattle.std.proofs.Common.{◌≡◌, ◌≢◌, ◌⊎◌, ℕ, ◌<◌, ◌≤◌, List, length, Some, Result, Ok, Err, inl, inr, ⊎_elim, refl, arith, ap, sym, subst, ◌∙◌}
+use Rattle.std.proofs.Common.{◌≡◌, ◌≢◌, ◌⊎◌, ℕ, ◌<◌, ◌≤◌, List, length, Option, Some, Result, Ok, Err, inl, inr, ⊎_elim, refl, arith, ap, sym, subst, ◌∙◌}
+use Rattle.any_store.specs.Disks.{StoreModel, one_store}
 use Rattle.outside_io.proofs.Told.{told_at}
 use Rattle.outside_io.specs.Outside.{Input}
 use Rattle.phase_gate.specs.Around.{Around}
-use Rattle.any_store.specs.Disks.{one_store}
 use Rattle.recovery.proofs.Refusals.{one_refusal, refused_holds}
 use Rattle.recovery.specs.Refused.{IsRefusedMedium}
 use Rattle.recovery.specs.declared.fault.RecoverFault.{RecoverFault}
@@ -15,14 +15,16 @@ use Rattle.run_outcome.specs.declared.status.Status.{Status}
 use Rattle.run_outcome.specs.declared.status.Status.TheVariants as status
 use Rattle.run_outcome.specs.declared.status.Which.TheVariants as which
 use Rattle.session_commands.specs.Session.{HoldsSome, run_status, session_row}
-use Rattle.session_run.specs.Ends.{Begun, SessionEnds}
+use Rattle.session_run.specs.Ends.{Begun, HandlingEnds, SessionEnds}
 use Rattle.session_run.specs.Faults.{recover_fault}
 use Rattle.session_run.specs.declared.fault.RunFault.{RunFault}
 use Rattle.session_run.specs.declared.fault.RunFault.TheVariants as run
+use Rattle.store_spec.specs.Ballot.{Ballot}
 use Rattle.store_spec.specs.Disk.{DiskModel}
 use Rattle.store_spec.specs.Election.{Election, IsElection}
 use Rattle.store_spec.specs.Input.{script_limit}
 use Rattle.store_spec.specs.Medium.{HoldsSet}
+use Rattle.store_spec.specs.Session.{Effect, State}
 
 -- a medium is refused for this reason, which bytes tell
 pub record Refuses (e : Election) (bytes : List ℕ) (status : Status) : Type 0 where
@@ -32,11 +34,43 @@ pub record Refuses (e : Election) (bytes : List ℕ) (status : Status) : Type 0 
   pub memory : why ≢ recover.Memory
   pub refused : IsRefusedMedium e bytes why
 
--- the status that a script and a disk decide, and why
+-- ---- a script
+
+-- it decides this status
+abbrev pub ScriptDecides : List ℕ → Status → Type 0
+ScriptDecides text a = ((a ≡ status.Ok) × (length text ≤ script_limit)) ⊎ ((a ≡ status.TooLong which.Script) × (script_limit < length text))
+
+pub one_script : (text : List ℕ) (a b : Status) → ScriptDecides text a → ScriptDecides text b → a ≡ b
+one_script text a b x y = ⊎_elim
+    (λ (ok : (a ≡ status.Ok) × (length text ≤ script_limit)). ⊎_elim (λ (other : (b ≡ status.Ok) × (length text ≤ script_limit)). ok.0 ∙ sym other.0) (λ (long : (b ≡ status.TooLong which.Script) × (script_limit < length text)). absurd (omega (arith, ok.1, long.1))) y)
+    (λ (long : (a ≡ status.TooLong which.Script) × (script_limit < length text)). ⊎_elim (λ (ok : (b ≡ status.Ok) × (length text ≤ script_limit)). absurd (omega (arith, ok.1, long.1))) (λ (too : (b ≡ status.TooLong which.Script) × (script_limit < length text)). long.0 ∙ sym too.0) y)
+    x
+
+module _ {T K D : Type 0} (model : StoreModel D) (tell : List ℕ → List ℕ) (e : Election) (set : List Ballot) (lines : List (Option (List ℕ))) (effects : List Effect) (state : State) (old new : Input T) (before after : Around K D) where
+  -- it decides how the handling of its lines ends
+  pub handling_decides : (answer : Result (Unit {0}) RunFault) (text : List ℕ) → old.left ≡ Some text → IsDecided (ended_as run_status answer)
+      → HandlingEnds model tell e set lines effects state answer old new before after → ScriptDecides text (ended_as run_status answer)
+  handling_decides (Ok done) text told decided ends = inl (refl, (told_at text told ends.0).1.0)
+  handling_decides (Err run.TooLong) text told decided ends = inr (refl, (told_at text told ends.0).1.0)
+  handling_decides (Err run.NoStore) text told decided ends = absurd ends
+  handling_decides (Err (run.OtherElection header)) text told decided ends = absurd ends
+  handling_decides (Err (run.Damaged cell)) text told decided ends = absurd ends
+  handling_decides (Err other) text told decided ends = absurd decided
+
+  -- where nothing failed
+  pub handling_settled : (answer : Result (Unit {0}) RunFault) → IsSteady old.faults new.faults → IsSteady before.sink.faults after.sink.faults → answer ≢ Err run.DiskFault
+      → HandlingEnds model tell e set lines effects state answer old new before after → IsDecided (ended_as run_status answer) ⊎ (ended_as run_status answer ≡ status.Memory)
+  handling_settled (Err run.ReadFault) script sink disk ends = absurd (not_risen old.faults new.faults script ends.3)
+  handling_settled (Err run.WriteFault) script sink disk ends = absurd (not_risen before.sink.faults after.sink.faults sink ends.2)
+  handling_settled (Err run.DiskFault) script sink disk ends = absurd (disk refl)
+  handling_settled (Err run.Memory) script sink disk ends = inr refl
+  handling_settled other script sink disk ends = inl tt
+
+-- ---- a script and a disk
+
+-- the status that they decide, and why
 abbrev pub SessionDecides : Election → List ℕ → List ℕ → Status → Type 0
-SessionDecides e text bytes a =
-    ((a ≡ status.Ok) × HoldsSome e bytes × (length text ≤ script_limit))
-    ⊎ (((a ≡ status.TooLong which.Script) × HoldsSome e bytes × (script_limit < length text)) ⊎ Refuses e bytes a)
+SessionDecides e text bytes a = (HoldsSome e bytes × ScriptDecides text a) ⊎ Refuses e bytes a
 
 -- a decided refusal is neither a fault nor want of memory
 decided_why : (why : RecoverFault) → IsDecided (run_status (recover_fault why)) → (why ≢ recover.DiskFault) × (why ≢ recover.Memory)
@@ -47,25 +81,23 @@ decided_why recover.DiskFault decided = absurd decided
 decided_why recover.Memory decided = absurd decided
 
 -- a session that began, and how it ended
-began_decides : {T K D : Type 0} (model : DiskModel D) (tell : List ℕ → List ℕ) (e : Election) (fault : RunFault) (old new : Input T) (before after : Around K D) (text bytes : List ℕ) → old.left ≡ Some text → model.seen before.disk ≡ Some bytes
-    → IsDecided (run_status fault) → Begun (one_store model) tell e (Err fault) old new before after → SessionDecides e text bytes (run_status fault)
-began_decides model tell e run.TooLong old new before after text bytes told seen decided ends =
-    inr (inl (refl, (ends.set, at_told (model.seen before.disk) bytes (λ x. HoldsSet e x ends.set) seen ends.held), (told_at text told ends.ends.0).1.0))
-began_decides model tell e run.NoStore old new before after text bytes told seen decided ends = absurd ends.ends
-began_decides model tell e (run.OtherElection header) old new before after text bytes told seen decided ends = absurd ends.ends
-began_decides model tell e (run.Damaged cell) old new before after text bytes told seen decided ends = absurd ends.ends
-began_decides model tell e other old new before after text bytes told seen decided ends = absurd decided
+began_decides : {T K D : Type 0} (model : DiskModel D) (tell : List ℕ → List ℕ) (e : Election) (answer : Result (Unit {0}) RunFault) (old new : Input T) (before after : Around K D) (text bytes : List ℕ) → old.left ≡ Some text → model.seen before.disk ≡ Some bytes
+    → IsDecided (ended_as run_status answer) → Begun (one_store model) tell e answer old new before after → SessionDecides e text bytes (ended_as run_status answer)
+began_decides model tell e answer old new before after text bytes told seen decided began = inl (
+  (began.set, at_told (model.seen before.disk) bytes (λ x. HoldsSet e x began.set) seen began.held),
+  handling_decides (one_store model) tell e began.set began.lines began.effects began.state old new before after answer text told decided began.ends,
+)
 
 pub answer_decides : {T K D : Type 0} (model : DiskModel D) (tell : List ℕ → List ℕ) (e : Election) (answer : Result (Unit {0}) RunFault) (a : Status) (old new : Input T) (before after : Around K D) (text bytes : List ℕ) → old.left ≡ Some text → model.seen before.disk ≡ Some bytes
     → IsDecided a → a ≡ ended_as run_status answer → SessionEnds model tell e answer old new before after → SessionDecides e text bytes a
-answer_decides model tell e (Ok done) a old new before after text bytes told seen decided is ends =
-    inl (is, (ends.set, at_told (model.seen before.disk) bytes (λ x. HoldsSet e x ends.set) seen ends.held), (told_at text told ends.ends.0).1.0)
+answer_decides model tell e (Ok done) a old new before after text bytes told seen decided is began =
+    subst (SessionDecides e text bytes) (sym is) (began_decides model tell e (Ok done) old new before after text bytes told seen (subst IsDecided is decided) began)
 answer_decides model tell e (Err fault) a old new before after text bytes told seen decided is ends = ⊎_elim
     (λ none.
     let same : a ≡ run_status (recover_fault none.0) = is ∙ ap run_status none.1 in
     let which = decided_why none.0 (subst IsDecided same decided) in
-    inr (inr (record { why = none.0; is = same; no_fault = which.0; memory = which.1; refused = at_told (model.seen before.disk) bytes (λ x. IsRefusedMedium e x none.0) seen none.2.refused })))
-    (λ began. subst (SessionDecides e text bytes) (sym is) (began_decides model tell e fault old new before after text bytes told seen (subst IsDecided is decided) began))
+    inr (record { why = none.0; is = same; no_fault = which.0; memory = which.1; refused = at_told (model.seen before.disk) bytes (λ x. IsRefusedMedium e x none.0) seen none.2.refused }))
+    (λ began. subst (SessionDecides e text bytes) (sym is) (began_decides model tell e (Err fault) old new before after text bytes told seen (subst IsDecided is decided) began))
     ends
 
 -- bytes that are refused hold nothing
@@ -74,23 +106,14 @@ not_both e bytes a valid holds refuses = refused_holds e bytes refuses.why valid
 
 pub one_session : (e : Election) (text bytes : List ℕ) (a b : Status) → IsElection e → SessionDecides e text bytes a → SessionDecides e text bytes b → a ≡ b
 one_session e text bytes a b valid x y = ⊎_elim
-    (λ ok. ⊎_elim
-    (λ other. ok.0 ∙ sym other.0)
-    (λ rest. ⊎_elim (λ long. absurd (omega (arith, ok.2, long.2))) (λ refuses. absurd (not_both e bytes b valid ok.1 refuses)) rest)
-    y)
-    (λ others. ⊎_elim
-    (λ long. ⊎_elim
-    (λ ok. absurd (omega (arith, ok.2, long.2)))
-    (λ rest. ⊎_elim (λ too. long.0 ∙ sym too.0) (λ refuses. absurd (not_both e bytes b valid long.1 refuses)) rest)
+    (λ held. ⊎_elim
+    (λ too. one_script text a b held.1 too.1)
+    (λ refused. absurd (not_both e bytes b valid held.0 refused))
     y)
     (λ refused. ⊎_elim
-    (λ ok. absurd (not_both e bytes a valid ok.1 refused))
-    (λ rest. ⊎_elim
-    (λ long. absurd (not_both e bytes a valid long.1 refused))
+    (λ held. absurd (not_both e bytes a valid held.0 refused))
     (λ other. refused.is ∙ ap (λ why. run_status (recover_fault why)) (one_refusal e bytes refused.why other.why refused.no_fault refused.memory other.no_fault other.memory refused.refused other.refused) ∙ sym other.is)
-    rest)
     y)
-    others)
     x
 
 -- ---- where nothing failed
@@ -135,6 +158,6 @@ session_laws = record {
   one = λ e content a b valid x y. one_session e content.script content.disk a b valid x y;
   settled = λ model e a report before after none ends.
       settled_as a (ended_as run_status ends.0.answer) ends.0.told (answer_settled model (λ text. text) e ends.0.answer before.streams.script after.streams.script _ _ none.script none.sink none.disk ends.0.ends);
-  served = λ e content a words valid none has decides. one_session e content.script content.disk a status.Ok valid decides (inl (refl, has.0, has.1));
+  served = λ e content a words valid none has decides. one_session e content.script content.disk a status.Ok valid decides (inl (has.0, inl (refl, has.1)));
   no_usage = λ model e report before after ends. never_usage ends.0.answer ends.0.told;
 }

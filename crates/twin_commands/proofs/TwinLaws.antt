@@ -1,7 +1,7 @@
 -- The laws of `twin`: a script and the bytes of two disks decide how it ends, but for faults and want of memory.
-use Rattle.std.proofs.Common.{◌≡◌, ◌⊎◌, ℕ, ◌<◌, ◌≤◌, List, [], ◌∷◌, length, Some, Result, Ok, Err, inl, inr, ⊎_elim, refl, sym, ◌∙◌, arith, subst}
+use Rattle.std.proofs.Common.{◌≡◌, ◌⊎◌, ℕ, ◌<◌, List, [], ◌∷◌, length, Some, Result, Ok, Err, inl, inr, ⊎_elim, refl, sym, ◌∙◌, subst}
 use Rattle.std.specs.List.{AllZip}
-use Rattle.outside_io.proofs.Told.{told_at}
+use Rattle.any_store.specs.Disks.{one_store}
 use Rattle.outside_io.specs.Outside.{Input, Output}
 use Rattle.phase_gate.specs.Around.{Around}
 use Rattle.run_outcome.proofs.Laws.{Laws, at_told, not_risen}
@@ -10,15 +10,14 @@ use Rattle.run_outcome.specs.Status.{IsDecided}
 use Rattle.run_outcome.specs.World.{IsSteady, Reported, World}
 use Rattle.run_outcome.specs.declared.status.Status.{Status}
 use Rattle.run_outcome.specs.declared.status.Status.TheVariants as status
-use Rattle.run_outcome.specs.declared.status.Which.TheVariants as which
-use Rattle.session_commands.proofs.SessionLaws.{never_usage, settled_as}
+use Rattle.session_commands.proofs.SessionLaws.{ScriptDecides, handling_decides, handling_settled, never_usage, one_script, settled_as}
+use Rattle.session_commands.specs.Session.{run_status}
 use Rattle.session_run.specs.declared.fault.RunFault.{RunFault}
 use Rattle.session_run.specs.declared.fault.RunFault.TheVariants as run
 use Rattle.store_spec.specs.Ballot.{Ballot}
 use Rattle.store_spec.specs.Disk.{DiskModel}
 use Rattle.store_spec.specs.Election.{Election, IsElection}
-use Rattle.store_spec.specs.Fault.{Rose, last_count}
-use Rattle.store_spec.specs.Input.{script_limit}
+use Rattle.store_spec.specs.Fault.{last_count}
 use Rattle.store_spec.specs.Session.{Effect, State}
 use Rattle.twin_commands.proofs.Refused.{HoldsPair, PairRefused, one_pair_refused, pair_not_refused}
 use Rattle.twin_commands.specs.Twin.{Blames, beside, HasBegun, NotBegun, NotPaired, TellsPart, TwinEnds, TwinHandles, pair_status, twin_row}
@@ -30,10 +29,6 @@ use Rattle.twin_media.specs.declared.fault.PairFault.TheVariants as faults
 
 -- ---- what decides
 
--- a script decides this status
-abbrev pub ScriptDecides : List ℕ → Status → Type 0
-ScriptDecides text a = ((a ≡ status.Ok) × (length text ≤ script_limit)) ⊎ ((a ≡ status.TooLong which.Script) × (script_limit < length text))
-
 -- the two disks are refused, or the script decides
 abbrev pub PairDecides : Election → List ℕ → List ℕ → List ℕ → Status → Type 0
 PairDecides e text one two a = PairRefused e one two a ⊎ (HoldsPair e one two × ScriptDecides text a)
@@ -41,12 +36,6 @@ PairDecides e text one two a = PairRefused e one two a ⊎ (HoldsPair e one two 
 -- the status that a script and the bytes of both disks decide, and why
 abbrev pub TwinDecides : Election → Content → Status → Type 0
 TwinDecides e content a = (two : List ℕ) × (content.more ≡ two ∷ []) × PairDecides e content.script content.disk two a
-
-one_script : (text : List ℕ) (a b : Status) → ScriptDecides text a → ScriptDecides text b → a ≡ b
-one_script text a b x y = ⊎_elim
-    (λ (ok : (a ≡ status.Ok) × (length text ≤ script_limit)). ⊎_elim (λ (other : (b ≡ status.Ok) × (length text ≤ script_limit)). ok.0 ∙ sym other.0) (λ (long : (b ≡ status.TooLong which.Script) × (script_limit < length text)). absurd (omega (arith, ok.1, long.1))) y)
-    (λ (long : (a ≡ status.TooLong which.Script) × (script_limit < length text)). ⊎_elim (λ (ok : (b ≡ status.Ok) × (length text ≤ script_limit)). absurd (omega (arith, ok.1, long.1))) (λ (too : (b ≡ status.TooLong which.Script) × (script_limit < length text)). long.0 ∙ sym too.0) y)
-    x
 
 one_pair : (e : Election) (text one two : List ℕ) (a b : Status) → IsElection e → PairDecides e text one two a → PairDecides e text one two b → a ≡ b
 one_pair e text one two a b valid x y = ⊎_elim
@@ -102,16 +91,12 @@ module _ {D : Type 0} (model : DiskModel D) (e : Election) (one one_after two tw
 module _ {S K A B : Type 0} (m : DiskModel A) (n : DiskModel B) (e : Election) (set : List Ballot) (report : Reported) (old new : Input S) (text : List ℕ) (told : old.left ≡ Some text) where
   handles_decides : (a : Status) (lines : List _) (effects : List Effect) (state : State) (answer : Result (Unit {0}) RunFault) (first first_after : Around K A) (second second_after : Around K B) → IsDecided a
       → TwinHandles m n e set lines effects state answer a old new first first_after second second_after → ScriptDecides text a
-  handles_decides a lines effects state (Ok done) first first_after second second_after decided ends = inl (ends.0, (told_at text told ends.1.0).1.0)
-  handles_decides a lines effects state (Err run.TooLong) first first_after second second_after decided ends = inr (ends.0, (told_at text told ends.1.0).1.0)
   handles_decides a lines effects state (Err run.DiskFault) first first_after second second_after decided ends =
       absurd (blames_undecided m n first.disk first_after.disk second.disk second_after.disk a decided ends.3)
-  handles_decides a lines effects state (Err run.NoStore) first first_after second second_after decided ends = absurd ends.1
-  handles_decides a lines effects state (Err (run.OtherElection header)) first first_after second second_after decided ends = absurd ends.1
-  handles_decides a lines effects state (Err (run.Damaged cell)) first first_after second second_after decided ends = absurd ends.1
-  handles_decides a lines effects state (Err run.ReadFault) first first_after second second_after decided ends = absurd (subst IsDecided ends.0 decided)
-  handles_decides a lines effects state (Err run.WriteFault) first first_after second second_after decided ends = absurd (subst IsDecided ends.0 decided)
-  handles_decides a lines effects state (Err run.Memory) first first_after second second_after decided ends = absurd (subst IsDecided ends.0 decided)
+  handles_decides a lines effects state (Ok done) first first_after second second_after decided ends =
+      subst (ScriptDecides text) (sym ends.0) (handling_decides (one_store m) (λ text. text) e set lines effects state old new first first_after (Ok done) text told (subst IsDecided ends.0 decided) ends.1)
+  handles_decides a lines effects state (Err other) first first_after second second_after decided ends =
+      subst (ScriptDecides text) (sym ends.0) (handling_decides (one_store m) (λ text. text) e set lines effects state old new first first_after (Err other) text told (subst IsDecided ends.0 decided) ends.1)
 
   part_undecided : {D : Type 0} (model : DiskModel D) (paired : _) (a : Status) (sink sunk : Output K) (ready one_after other_ready two_after : D) → IsDecided a → TellsPart model model e set paired a report old new sink sunk ready one_after other_ready two_after → ⊥
   part_undecided model paired a sink sunk ready one_after other_ready two_after decided tells =
@@ -162,19 +147,16 @@ module _ {S K D : Type 0} (model : DiskModel D) (e : Election) (a : Status) (rep
       other_steady : IsSteady (model.faults begun.other_ready) (model.faults two_after)
       other_steady = record { same = second.same ∙ sym begun.are.second.no_fault; below = subst (λ n. n < last_count) (sym begun.are.second.no_fault) second.below }
 
+      mid_steady : (mid : Output K) → mid.faults ≡ sink.faults → IsSteady mid.faults sunk.faults
+      mid_steady mid same = subst (λ n. IsSteady n sunk.faults) (sym same) sunk_steady
+
       handles_settled : (mid : Output K) → mid.faults ≡ sink.faults → (lines : List _) (effects : List Effect) (state : State) (answer : Result (Unit {0}) RunFault) (marks others : List ℕ) (held count : ℕ)
           → TwinHandles model model e begun.set lines effects state answer a old new (beside mid begun.ready [] held) (beside sunk one_after marks count) (beside mid begun.other_ready [] held) (beside sunk two_after others count)
           → IsDecided a ⊎ (a ≡ status.Memory)
-      handles_settled mid same lines effects state (Ok done) marks others held count ends = settled_as a status.Ok ends.0 (inl tt)
-      handles_settled mid same lines effects state (Err run.TooLong) marks others held count ends = settled_as a (status.TooLong which.Script) ends.0 (inl tt)
       handles_settled mid same lines effects state (Err run.DiskFault) marks others held count ends = inr (blames_settled model model begun.ready one_after begun.other_ready two_after a ready_steady other_steady ends.3)
-      handles_settled mid same lines effects state (Err run.ReadFault) marks others held count ends = absurd (not_risen old.faults new.faults script ends.1.3)
-      handles_settled mid same lines effects state (Err run.WriteFault) marks others held count ends =
-          absurd (not_risen sink.faults sunk.faults sunk_steady (subst (λ n. Rose n sunk.faults) same ends.1.2))
-      handles_settled mid same lines effects state (Err run.Memory) marks others held count ends = inr ends.0
-      handles_settled mid same lines effects state (Err run.NoStore) marks others held count ends = absurd ends.1
-      handles_settled mid same lines effects state (Err (run.OtherElection header)) marks others held count ends = absurd ends.1
-      handles_settled mid same lines effects state (Err (run.Damaged cell)) marks others held count ends = absurd ends.1
+      handles_settled mid same lines effects state (Ok done) marks others held count ends = settled_as a status.Ok ends.0 (inl tt)
+      handles_settled mid same lines effects state (Err other) marks others held count ends = settled_as a (run_status other) ends.0
+          (handling_settled (one_store model) (λ text. text) e begun.set lines effects state old new (beside mid begun.ready [] held) (beside sunk one_after marks count) (Err other) script (mid_steady mid same) (λ is. cc) ends.1)
 
       begun_settled : IsDecided a ⊎ (a ≡ status.Memory)
       begun_settled = ⊎_elim

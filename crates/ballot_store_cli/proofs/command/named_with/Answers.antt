@@ -1,6 +1,6 @@
 use Rattle.std.proofs.Common.{List, ℕ, map, string_bytes, subst, sym}
 use Rattle.std.specs.Prelude.{IfOk, IfSome}
-use Rattle.ballot_store_cli.proofs.Rows.{found_behind, named_behind, names_large, no_compare, no_large, no_merge, no_migrate, no_sample, no_twin, named_one}
+use Rattle.ballot_store_cli.proofs.Rows.{found_behind, named_behind, names_large, no_compare, no_large, no_merge, no_migrate, no_part, no_sample, no_twin, named_one}
 use Rattle.ballot_store_cli.specs.Command.{row}
 use Rattle.ballot_store_cli.specs.declared.command.Command.TheVariants.{Migrate, Twin}
 use Rattle.run_outcome.specs.Row.{IsNamed}
@@ -59,3 +59,11 @@ returns-in-twin-clause-named c =
 
 pub returns-in-twin-clause-none : goal.returns-in-twin-clause-none
 returns-in-twin-clause-none c = no_twin c.args.medium.now c.args.word.now (map string_bytes c.args.words.now) c.if_one_medium-in-twin.result c.in-twin.is c.if_one_medium-in-twin.ensures.none
+
+pub returns-in-part-clause-named : goal.returns-in-part-clause-named
+returns-in-part-clause-named c =
+    let words = map string_bytes c.args.words.now in
+    subst (λ (word : List ℕ). IfSome c.part_named.result (λ command. IsNamed (row command) c.args.medium.now word words)) (sym c.in-part.is) c.part_named.ensures.named
+
+pub returns-in-part-clause-none : goal.returns-in-part-clause-none
+returns-in-part-clause-none c = no_part c.args.medium.now c.args.word.now (map string_bytes c.args.words.now) c.part_named.result c.in-part.is c.part_named.ensures.none

@@ -1,4 +1,4 @@
-use Rattle.std.proofs.Common.{◌≡◌, All, Global, List, Vec, ℕ, length, map, subst, sym}
+use Rattle.std.proofs.Common.{All, Global, List, Vec, ℕ, map, subst, sym}
 use Rattle.std.proofs.lemmas.Simd.{map-map}
 use Rattle.ballot_record.specs.BallotList.{ListedBallots}
 use Rattle.body_store.specs.Contents.{Contents}

@@ -1,4 +1,4 @@
-use Rattle.std.proofs.Common.{◌≡◌, ◌∙◌, [], List, ap, map, sym}
+use Rattle.std.proofs.Common.{◌∙◌, [], List, ap, map, sym}
 use Rattle.std.proofs.lemmas.Option.{get_or_from_slice_get}
 use Rattle.body_store.specs.Contents.{Contents}
 use Rattle.part_play.proofs.Stages.{shown_at}
@@ -13,5 +13,5 @@ returns g c =
     let stores = c.args.stores.now in
     let part = part_of c.args.spread.now c.args.number in
     let store = c.store_of-store.result.now in
-    c.holds.ensures
+    c.is_held.ensures
     ∙ ap (λ (set : List Ballot). is_present set c.args.number) (sym (get_or_from_slice_get (map ballots stores) part (ballots store) [] (shown_at ballots stores part store c.store_of-store.ensures)))

@@ -1,4 +1,4 @@
-use Rattle.std.proofs.Common.{◌≡◌, ◌<◌, ◌∙◌, Some, ap, arith, get_or, length, slice_get, sym}
+use Rattle.std.proofs.Common.{◌<◌, ◌∙◌, Some, ap, arith, length, slice_get, sym}
 use Rattle.std.proofs.lemmas.Option.{slice_get-get_or}
 use Rattle.part_play.proofs.Numbers.{few_parts, goes_within}
 use Rattle.part_play.proofs.finding.store_of.Goals as goal

@@ -1,4 +1,4 @@
-use Rattle.std.proofs.Common.{◌≡◌, ◌∙◌, All, Global, List, Vec, ℕ, Some, ap, arith, get_or, length, map, slice_get, subst, sym}
+use Rattle.std.proofs.Common.{◌≡◌, All, Global, List, Vec, ℕ, ap, arith, get_or, length, map, subst, sym}
 use Rattle.std.proofs.lemmas.List.{length-map}
 use Rattle.std.proofs.lemmas.List.Elements.{All-map}
 use Rattle.std.proofs.lemmas.Option.{slice_get-get_or}

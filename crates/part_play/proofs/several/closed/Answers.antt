@@ -1,4 +1,4 @@
-use Rattle.std.proofs.Common.{◌≡◌, ◌∙◌, [], ◌∷◌, All, Global, List, Vec, ap, get_or, length, map, rules, subst, sym, zip}
+use Rattle.std.proofs.Common.{◌∙◌, [], Global, List, Vec, ap, get_or, length, map, rules, subst, sym, zip}
 use Rattle.std.proofs.lemmas.Iterator.{YieldsList-from_zip}
 use Rattle.std.proofs.lemmas.Iterator.Adapters.{YieldsList-from_vec}
 use Rattle.std.proofs.lemmas.Iterator.Consumers.{YieldsList-end, YieldsList-turn}

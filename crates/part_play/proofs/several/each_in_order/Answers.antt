@@ -1,4 +1,4 @@
-use Rattle.std.proofs.Common.{◌≡◌, ◌+◌, ◌++◌, ◌∙◌, [], ◌∷◌, All, Bor, Global, List, Vec, ℕ, ap, ap₂, arith, length, length-append, map, rules, subst, sym, zip}
+use Rattle.std.proofs.Common.{◌+◌, ◌∙◌, [], ◌∷◌, All, Bor, Global, List, Vec, ℕ, ap, ap₂, arith, length, length-append, map, rules, subst, sym, zip}
 use Rattle.std.proofs.lemmas.Iterator.{YieldsList-from_slice, YieldsList-from_zip}
 use Rattle.std.proofs.lemmas.Iterator.Consumers.{YieldsList-end, YieldsList-turn}
 use Rattle.std.proofs.lemmas.List.{length-map, map_push}

@@ -1,7 +1,5 @@
 use Rattle.std.proofs.Common.{◌≡◌, ◌++◌, ◌∙◌, All, Global, List, Vec, ℕ, ap, arith, drop, length, map, subst, sym, take, zip}
 use Rattle.std.proofs.lemmas.List.{length-map, take_at}
-use Rattle.std.proofs.lemmas.List.Elements.{All-map}
-use Rattle.body_store.specs.Contents.{Contents}
 use Rattle.part_play.proofs.Stages.{all_belong, all_closed, teams_long, zip_maps}
 use Rattle.part_play.proofs.several.handled.Goals as goal
 use Rattle.phase_kind.specs.Phase.{Phase}

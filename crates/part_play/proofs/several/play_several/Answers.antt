@@ -1,4 +1,4 @@
-use Rattle.std.proofs.Common.{◌≡◌, ◌∙◌, All, Global, List, Vec, ℕ, ap, arith, get_or, length, map, subst, sym}
+use Rattle.std.proofs.Common.{All, Global, List, Vec, ℕ, ap, arith, get_or, length, map, subst, sym}
 use Rattle.std.proofs.lemmas.List.{length-map}
 use Rattle.body_store.specs.Contents.{Contents}
 use Rattle.part_play.proofs.Told.{by_places, has_played}

@@ -1,10 +1,8 @@
-use Rattle.std.proofs.Common.{◌≡◌, ◌≤◌, ◌∙◌, All, Global, List, Vec, ℕ, ap, arith, get_or, length, map, subst, sym}
+use Rattle.std.proofs.Common.{◌≡◌, ◌≤◌, ◌∙◌, All, Global, List, Vec, ℕ, ap, arith, length, map, subst, sym}
 use Rattle.std.proofs.lemmas.List.{length-map}
-use Rattle.std.proofs.lemmas.List.Elements.{All-map}
 use Rattle.part_play.proofs.Stages.{are_ready, columns_long, rows_long}
 use Rattle.part_play.proofs.several.ready.Goals as goal
 use Rattle.part_play.specs.Several.{HaveBegun}
-use Rattle.phase_kind.specs.Table.{IsTurned}
 use Rattle.phase_kind.specs.Team.{GoesWithin}
 use Rattle.phase_kind.specs.Worker.{WorkerView}
 use Rattle.step_core.proofs.Sets.{All-from_map}

@@ -1,4 +1,4 @@
-use Rattle.std.proofs.Common.{◌^◌, ◌<◌, All, List, arith, subst, take}
+use Rattle.std.proofs.Common.{◌^◌, ◌<◌, All, List, arith, subst}
 use Rattle.std.proofs.lemmas.List.{take_all}
 use Rattle.std.proofs.lemmas.List.Elements.{All-nil}
 use Rattle.part_play.proofs.Numbers.{one_short}

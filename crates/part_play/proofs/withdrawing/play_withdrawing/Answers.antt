@@ -1,4 +1,4 @@
-use Rattle.std.proofs.Common.{◌≡◌, ◌∙◌, All, Global, List, Vec, ℕ, ap, length, map, subst, sym}
+use Rattle.std.proofs.Common.{◌∙◌, All, Global, List, Vec, ℕ, ap, length, map, subst, sym}
 use Rattle.std.proofs.lemmas.Simd.{map-map}
 use Rattle.body_store.specs.Contents.{Contents}
 use Rattle.part_play.proofs.Playing.{all_stored, elections_stay, withdraws_in_parts}

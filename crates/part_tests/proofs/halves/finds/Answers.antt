@@ -1,4 +1,4 @@
-use Rattle.std.proofs.Common.{◌≡◌, ◌^◌, ◌∙◌, ap, length, sym}
+use Rattle.std.proofs.Common.{◌^◌, ◌∙◌, ap, length, sym}
 use Rattle.part_tests.proofs.halves.finds.Goals as goal
 
 pub play_finding-requires-clause-parts : goal.play_finding-requires-clause-parts

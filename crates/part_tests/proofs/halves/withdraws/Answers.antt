@@ -1,4 +1,4 @@
-use Rattle.std.proofs.Common.{◌≡◌, ◌^◌, ◌∙◌, ap, length, map, sym}
+use Rattle.std.proofs.Common.{◌^◌, ◌∙◌, ap, length, sym}
 use Rattle.std.proofs.lemmas.List.{length-map}
 use Rattle.body_store.specs.Contents.{Contents}
 use Rattle.part_tests.proofs.halves.withdraws.Goals as goal

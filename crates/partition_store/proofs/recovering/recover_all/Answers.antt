@@ -6,8 +6,9 @@ use Rattle.partition_store.proofs.Keeping.{are_parts, own_election}
 use Rattle.partition_store.proofs.Opened.{no_room, opened, refuses_first, refuses_rest}
 use Rattle.partition_store.proofs.Recoveries.{recovered_keeps, recovers_still}
 use Rattle.partition_store.proofs.recovering.recover_all.Goals as goal
+use Rattle.partition_store.specs.Opening.{Recovers}
 use Rattle.partition_store.specs.PartedKept.{AreStores, sets_of}
-use Rattle.partition_store.specs.Recovering.{Recovers, RefusesAll}
+use Rattle.partition_store.specs.Recovering.{RefusesAll}
 use Rattle.partition_store.specs.declared.fault.PartFault.TheVariants.{Memory}
 use Rattle.recovery.proofs.OneByOne.{handed_on, zip_same}
 use Rattle.recovery.specs.Media.{HoldsIfTold}

@@ -6,9 +6,10 @@ use Rattle.body_store.specs.Contents.{Contents, IsStored}
 use Rattle.partition_store.proofs.Keeping.{own_more, sets_more}
 use Rattle.partition_store.proofs.Recoveries.{kept_still, recovered_keeps, recovered_more, recovers_still, refuses_recoveries}
 use Rattle.partition_store.proofs.recovering.recover_further.Goals as goal
+use Rattle.partition_store.specs.Opening.{Recovers}
 use Rattle.partition_store.specs.Parted.{BelongsTo}
 use Rattle.partition_store.specs.PartedKept.{AreStores, sets_of}
-use Rattle.partition_store.specs.Recovering.{KeepsSteady, Recovers, RefusesRecoveries}
+use Rattle.partition_store.specs.Recovering.{KeepsSteady, RefusesRecoveries}
 use Rattle.partition_store.specs.declared.fault.PartFault.TheVariants.{Memory}
 use Rattle.partition_store.proofs.SideBySide.{zip_next, zip_taken}
 use Rattle.recovery.proofs.OneByOne.{handed_on, rest_still, stood_there, zip_same}

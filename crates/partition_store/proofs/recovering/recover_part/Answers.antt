@@ -1,4 +1,4 @@
-use Rattle.std.proofs.Common.{sym, subst, ◌∙◌}
+use Rattle.std.proofs.Common.{inr, sym, subst, ◌∙◌}
 use Rattle.partition_store.proofs.Recoveries.{keeps_set, medium_now, recovered, refuses_recovery, spared}
 use Rattle.partition_store.proofs.Seeking.{belongs, foreign_in, none_of}
 use Rattle.partition_store.proofs.recovering.recover_part.Goals as goal
@@ -29,6 +29,7 @@ returns-in-Err-clause-run g c =
       told = c.recover.ensures.told;
       later = c.recover.ensures.later;
       throughout = spared model c.args.election.now c.args.disk.now c.recover.new.disk c.in-Err.why c.in-Err.ensures.unharmed;
+      once_synced = λ bytes sees. inr (c.recover.ensures.any_moment bytes sees);
     }
 
 pub returns-then-is_some-clause-run : goal.returns-then-is_some-clause-run
@@ -38,6 +39,7 @@ returns-then-is_some-clause-run g c =
       told = c.recover.ensures.told;
       later = c.recover.ensures.later;
       throughout = recovered model c.args.election.now c.args.disk.now c.recover.new.disk c.in-Ok.store.ballots c.in-Ok.ensures.held c.recover.ensures.any_moment;
+      once_synced = λ bytes sees. inr (c.recover.ensures.any_moment bytes sees);
     }
 
 pub returns-clause-run : goal.returns-clause-run
@@ -47,6 +49,7 @@ returns-clause-run g c =
       told = c.recover.ensures.told;
       later = c.recover.ensures.later;
       throughout = recovered model c.args.election.now c.args.disk.now c.recover.new.disk c.in-Ok.store.ballots c.in-Ok.ensures.held c.recover.ensures.any_moment;
+      once_synced = λ bytes sees. inr (c.recover.ensures.any_moment bytes sees);
     }
 
 pub returns-clause-recovered : goal.returns-clause-recovered

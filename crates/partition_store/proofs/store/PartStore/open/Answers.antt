@@ -2,10 +2,10 @@ use Rattle.std.proofs.Common.{◌≡◌, ◌<◌, ◌≤◌, ap, arith}
 use Rattle.std.proofs.lemmas.Result.{IfErr-weaker, IfOk-weaker, on_ok_weaker}
 use Rattle.std.specs.List.{AllZip}
 use Rattle.std.specs.Option.{is_some}
-use Rattle.partition_store.proofs.Opened.{against_behind, all_run_behind, left_behind, left_looked, not_before, opened_behind, runs_behind, runs_looked}
+use Rattle.partition_store.proofs.Opened.{Runs, against_behind, all_run_behind, left_behind, left_looked, not_before, only_looked, opened_behind, runs_behind, runs_looked}
 use Rattle.partition_store.proofs.store.PartStore.open.Goals as goal
 use Rattle.partition_store.specs.Opening.{HoldsThroughout, IsAgainst, IsBeforeRecovery, IsOpened, LeavesOf}
-use Rattle.partition_store.specs.Recovering.{Recovers, RefusesAll}
+use Rattle.partition_store.specs.Recovering.{RefusesAll}
 use Rattle.partition_store.proofs.SideBySide.{zip_joined, zip_weaker}
 use Rattle.recovery.proofs.OneByOne.{handed_on}
 use Rattle.recovery.specs.ReadsOnly.{WritesNothing}
@@ -28,13 +28,32 @@ pub returns-in_err-look_all-clause-others_at_any_moment : goal.returns-in_err-lo
 returns-in_err-look_all-clause-others_at_any_moment g c =
     let further = disk_model g.B.Disk.seen g.B.Disk.calls g.B.Disk.may_leave g.B.Disk.faults in
     let e = c.args.election.now in
-    zip_weaker (Recovers further e) (HoldsThroughout further e) (λ x y run. run.throughout) c.args.more.now c.look_all.new.more
-    (runs_looked further e c.args.more.now c.look_all.new.more c.look_all.ensures.others_read c.look_all.ensures.others_later)
+    zip_weaker (Runs further e) (HoldsThroughout further e) (λ x y run. run.throughout) c.args.more.now c.look_all.new.more
+    (runs_looked further e c.args.more.now c.look_all.new.more c.look_all.ensures.others_read)
 
 pub returns-in_err-look_all-clause-others_told : goal.returns-in_err-look_all-clause-others_told
 returns-in_err-look_all-clause-others_told g c =
     zip_weaker (WritesNothing g.B.Disk.seen g.B.Disk.calls g.B.Disk.may_leave) (λ old new. is_some (g.B.Disk.seen new) ≡ is_some (g.B.Disk.seen old)) (λ x y reads. ap is_some reads.same_bytes)
     c.args.more.now c.look_all.new.more c.look_all.ensures.others_read
+
+pub returns-in_err-look_all-clause-looked : goal.returns-in_err-look_all-clause-looked
+returns-in_err-look_all-clause-looked g c =
+    let first = disk_model g.A.Disk.seen g.A.Disk.calls g.A.Disk.may_leave g.A.Disk.faults in
+    let further = disk_model g.B.Disk.seen g.B.Disk.calls g.B.Disk.may_leave g.B.Disk.faults in
+    only_looked first further c.args.election.now c.from_residual.result (λ f. f ≡ c.in_err-look_all.field-0.0) c.args.disk.now c.look_all.new.disk c.args.more.now c.look_all.new.more c.from_residual.ensures.1 c.look_all.ensures.reads c.look_all.ensures.others_read
+
+pub returns-clause-looked : goal.returns-clause-looked
+returns-clause-looked g c = record {
+  looked = (c.look_all.new.disk, c.look_all.new.more);
+  reads = c.look_all.ensures.reads;
+  others_read = c.look_all.ensures.others_read;
+  steady = λ same. c.in_ok-look_all.ensures.steady;
+  others_steady = λ same. c.in_ok-look_all.ensures.others_steady;
+  recovers = c.recover_all.ensures.run;
+  others_recover = c.recover_all.ensures.others_run;
+  called = c.recover_all.ensures.called;
+  others_called = c.recover_all.ensures.others_called;
+}
 
 pub returns-clause-opened : goal.returns-clause-opened
 returns-clause-opened g c =
@@ -92,7 +111,7 @@ returns-clause-any_moment g c =
     let e = c.args.election.now in
     let one = c.args.disk.now in
     let more = c.args.more.now in
-    (runs_behind first e one c.look_all.new.disk c.recover_all.new.disk (c.look_all.ensures.reads, c.look_all.ensures.later) c.recover_all.ensures.run).throughout
+    (runs_behind first e one c.look_all.new.disk c.recover_all.new.disk c.look_all.ensures.reads c.recover_all.ensures.run).throughout
 
 pub returns-clause-others_at_any_moment : goal.returns-clause-others_at_any_moment
 returns-clause-others_at_any_moment g c =
@@ -101,8 +120,8 @@ returns-clause-others_at_any_moment g c =
     let e = c.args.election.now in
     let one = c.args.disk.now in
     let more = c.args.more.now in
-    zip_weaker (Recovers further e) (HoldsThroughout further e) (λ x y run. run.throughout) more c.recover_all.new.more
-    (all_run_behind further e more c.look_all.new.more c.recover_all.new.more c.look_all.ensures.others_read c.look_all.ensures.others_later c.recover_all.ensures.others_run)
+    zip_weaker (Runs further e) (HoldsThroughout further e) (λ x y run. run.throughout) more c.recover_all.new.more
+    (all_run_behind further e more c.look_all.new.more c.recover_all.new.more c.look_all.ensures.others_read c.recover_all.ensures.others_run)
 
 pub returns-clause-others_told : goal.returns-clause-others_told
 returns-clause-others_told g c =
@@ -111,8 +130,8 @@ returns-clause-others_told g c =
     let e = c.args.election.now in
     let one = c.args.disk.now in
     let more = c.args.more.now in
-    zip_weaker (Recovers further e) (λ old new. is_some (g.B.Disk.seen new) ≡ is_some (g.B.Disk.seen old)) (λ x y run. run.told) more c.recover_all.new.more
-    (all_run_behind further e more c.look_all.new.more c.recover_all.new.more c.look_all.ensures.others_read c.look_all.ensures.others_later c.recover_all.ensures.others_run)
+    zip_weaker (Runs further e) (λ old new. is_some (g.B.Disk.seen new) ≡ is_some (g.B.Disk.seen old)) (λ x y run. run.told) more c.recover_all.new.more
+    (all_run_behind further e more c.look_all.new.more c.recover_all.new.more c.look_all.ensures.others_read c.recover_all.ensures.others_run)
 
 pub returns-clause-others_later : goal.returns-clause-others_later
 returns-clause-others_later g c =
@@ -121,8 +140,8 @@ returns-clause-others_later g c =
     let e = c.args.election.now in
     let one = c.args.disk.now in
     let more = c.args.more.now in
-    zip_weaker (Recovers further e) (λ old new. g.B.Disk.calls old ≤ g.B.Disk.calls new) (λ x y run. run.later) more c.recover_all.new.more
-    (all_run_behind further e more c.look_all.new.more c.recover_all.new.more c.look_all.ensures.others_read c.look_all.ensures.others_later c.recover_all.ensures.others_run)
+    zip_weaker (Runs further e) (λ old new. g.B.Disk.calls old ≤ g.B.Disk.calls new) (λ x y run. run.later) more c.recover_all.new.more
+    (all_run_behind further e more c.look_all.new.more c.recover_all.new.more c.look_all.ensures.others_read c.recover_all.ensures.others_run)
 
 pub returns-clause-others_called : goal.returns-clause-others_called
 returns-clause-others_called g c =
