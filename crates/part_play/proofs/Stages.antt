@@ -1,21 +1,23 @@
 -- The stages of phases that are played at once: how they are planned, begun, handled and closed.
-use Rattle.std.proofs.Common.{◌≡◌, ◌<◌, ◌++◌, ◌∙◌, ℕ, All, List, [], ◌∷◌, Some, ap, ap₂, arith, get_or, length, length-append, map, refl, slice_get, subst, sym, zip}
+use Rattle.std.proofs.Common.{◌≡◌, ◌<◌, ◌++◌, ◌∙◌, ℕ, suc, All, Bool, true, false, List, [], ◌∷◌, Option, Some, ap, ap₂, arith, cond, get_or, length, length-append, map, refl, slice_get, subst, sym, zip}
 use Rattle.std.proofs.lemmas.List.{length-map, map_push}
 use Rattle.std.proofs.lemmas.List.Elements.{All-map, All-nil, All-push}
 use Rattle.std.proofs.lemmas.Option.{slice_get-get_or, slice_get-map, slice_get_within}
 use Rattle.std.proofs.lemmas.Simd.{map-map}
 use Rattle.std.proofs.lemmas.Slice.Zip.{length-zip}
 use Rattle.std.specs.Option.{option_map}
+use Rattle.std.specs.Prelude.{◌==◌}
 use Rattle.body_store.specs.Contents.{Contents}
-use Rattle.part_play.specs.Several.{AreReady, HasEnded, HaveBegun, HaveClosed, HaveEnded}
+use Rattle.part_play.specs.Several.{AreAllShared, AreReady, HasEnded, HaveBegun, HaveClosed, HaveEnded, HaveWork}
 use Rattle.phase_kind.proofs.Counts.{something_there}
-use Rattle.phase_kind.proofs.Planned.{column_belongs, holds_at, length-column, mapped_at, new_teams, row_at, same_at_each, teams_have_room, zipped_at, zipped_there}
+use Rattle.phase_kind.proofs.Planned.{column_belongs, holds_at, length-column, mapped_at, new_in_team, new_teams, row_at, same_at_each, zipped_at, zipped_there}
+use Rattle.phase_kind.proofs.Shared.{goes_within}
 use Rattle.phase_kind.proofs.Trays.{firsts_of-zip, seconds_of-zip, zip_more}
 use Rattle.phase_kind.specs.Phase.{Phase}
 use Rattle.phase_kind.specs.Table.{IsTurned}
-use Rattle.phase_kind.specs.Team.{AreShares, HasHandled, HasRoom, IsTeam, those_of}
+use Rattle.phase_kind.specs.Team.{AreSharedOut, GoesWithin, HaveFinished, IsTeam, those_of}
 use Rattle.phase_kind.specs.Told.{Told}
-use Rattle.phase_kind.specs.Worker.{AreAll, WorkerView, new_worker}
+use Rattle.phase_kind.specs.Worker.{AreAll, WorkerView, worker_with}
 use Rattle.step_core.proofs.Sets.{All-from_map}
 use Rattle.store_spec.specs.Ballot.{Ballot}
 
@@ -54,10 +56,81 @@ turned_all P places rows columns turned all k d within i e below =
 pub columns_long : {X : Type 0} (places : ℕ) (rows columns : List (List X)) → IsTurned places rows columns → All (λ column. length column ≡ length rows) columns
 columns_long places rows columns turned k d within = length-column places rows columns k (get_or columns k d) turned (slice_get-get_or columns k d within)
 
+-- ---- lists that are shared out
+
+module _ {I : Type 0} (goes_to : I → ℕ) (places : ℕ) where
+  abbrev Shared : List I × List (List I) → Type 0
+  Shared at = AreSharedOut goes_to places at.0 at.1
+
+  pub none_shared : AreAllShared goes_to places [] [] []
+  none_shared = record { as_many = refl; each = All-nil Shared; orders_are = refl }
+
+  pub one_shared : (work : List (List I)) (rows : List (List (List I))) (orders : List (List ℕ)) (list : List I) (row : List (List I)) (order : List ℕ)
+      → AreAllShared goes_to places work rows orders → AreSharedOut goes_to places list row → order ≡ map goes_to list → AreAllShared goes_to places (work ++ list ∷ []) (rows ++ row ∷ []) (orders ++ order ∷ [])
+  one_shared work rows orders list row order shared one is = record {
+    as_many = omega (arith, shared.as_many, length-append rows (row ∷ []), length-append work (list ∷ []));
+    each = subst (All Shared) (sym (zip_more work rows list row shared.as_many)) (All-push Shared (zip work rows) (list, row) shared.each one);
+    orders_are = ap₂ (λ (l : List (List ℕ)) (o : List ℕ). l ++ o ∷ []) shared.orders_are is ∙ sym (map_push (map goes_to) work list);
+  }
+
+  -- the same, where a loop took them
+  pub next_shared : {L Y O : Type 0} (items : L → List I) (lists_in : Y → List (List I)) (order_in : O → List ℕ) (yielded : List L) (list : L) (rows rows_now : List Y) (orders orders_now : List O) (row : Y) (order : O)
+      → AreAllShared goes_to places (map items yielded) (map lists_in rows) (map order_in orders) → rows_now ≡ rows ++ row ∷ [] → orders_now ≡ orders ++ order ∷ []
+      → AreSharedOut goes_to places (items list) (lists_in row) → order_in order ≡ map goes_to (items list)
+      → AreAllShared goes_to places (map items (yielded ++ list ∷ [])) (map lists_in rows_now) (map order_in orders_now)
+  next_shared items lists_in order_in yielded list rows rows_now orders orders_now row order shared pushed more one is =
+      let work_is = map_push items yielded list in
+      let rows_are = ap (map lists_in) pushed ∙ map_push lists_in rows row in
+      let orders_are = ap (map order_in) more ∙ map_push order_in orders order in
+      subst (λ (w : List (List I)). AreAllShared goes_to places w (map lists_in rows_now) (map order_in orders_now)) (sym work_is)
+      (subst (λ (r : List (List (List I))). AreAllShared goes_to places (map items yielded ++ items list ∷ []) r (map order_in orders_now)) (sym rows_are)
+      (subst (λ (o : List (List ℕ)). AreAllShared goes_to places (map items yielded ++ items list ∷ []) (map lists_in rows ++ lists_in row ∷ []) o) (sym orders_are)
+      (one_shared (map items yielded) (map lists_in rows) (map order_in orders) (items list) (lists_in row) (order_in order) shared one is)))
+
+  -- each list is shared out to as many as there are places
+  pub shared_long : (work : List (List I)) (rows : List (List (List I))) (orders : List (List ℕ)) → AreAllShared goes_to places work rows orders → All (λ row. length row ≡ places) rows
+  shared_long work rows orders shared k d within =
+      let row = get_or rows k d in
+      let list = something_there work k (omega (arith, within, shared.as_many)) in
+      (holds_at Shared (zip work rows) k (list.0, row) shared.each (zipped_there work rows k list.0 row list.1 (slice_get-get_or rows k d within))).as_many
+
+-- a table that is turned shows the same of its entries
+pub turned_shows : {X Y : Type 0} (f : X → Y) (places : ℕ) (rows columns : List (List X)) → IsTurned places rows columns → IsTurned places (map (map f) rows) (map (map f) columns)
+turned_shows {X} {Y} f places rows columns turned = record {
+  as_many = length-map columns (map f) ∙ turned.as_many;
+  each = λ place column there.
+      let of_column = mapped_at (map f) columns place column there in
+      let some : X → Option X = λ x. Some x in
+      let entry : List X → Option X = λ row. slice_get row place in
+      ap (map (λ (y : Y). Some y)) of_column.2
+      ∙ map-map (λ (y : Y). Some y) f of_column.0
+      ∙ sym (map-map (option_map f) some of_column.0)
+      ∙ ap (map (option_map f)) (turned.each place of_column.0 of_column.1)
+      ∙ map-map (option_map f) entry rows
+      ∙ sym (map-map (λ (row : List Y). slice_get row place) (map f) rows ∙ alike f place rows);
+}
+  where
+    alike : (f : X → Y) (place : ℕ) (rows : List (List X)) → map (λ row. slice_get (map f row) place) rows ≡ map (λ row. option_map f (slice_get row place)) rows
+    alike f place [] = refl
+    alike f place (row ∷ rows) = ap₂ (λ x l. x ∷ l) (slice_get-map f row place) (alike f place rows)
+
+-- what holds of the entries of each row beside the heads of the columns holds of each column
+pub turned_beside : {S X Y Z : Type 0} (P : S → X → Type 0) (row_in : Y → List X) (column_in : Z → List X) (places : ℕ) (heads : List S) (rows : List Y) (columns : List Z)
+    → IsTurned places (map row_in rows) (map column_in columns) → All (λ row. All (λ at. P at.0 at.1) (zip heads (row_in row))) rows → All (λ at. All (P at.0) (column_in at.1)) (zip heads columns)
+turned_beside {S} {X} {Y} {Z} P row_in column_in places heads rows columns turned all k d within i e below =
+    let both = get_or (zip heads columns) k d in
+    let parts = zipped_at heads columns k both (slice_get-get_or (zip heads columns) k d within) in
+    let column = column_in both.1 in
+    let x = get_or column i e in
+    let found = row_at places (map row_in rows) (map column_in columns) k i column x turned (shown_at column_in columns k both.1 parts.1) (slice_get-get_or column i e below) in
+    let row = mapped_at row_in rows i found.0 found.1 in
+    holds_at (λ (at : S × X). P at.0 at.1) (zip heads (row_in row.0)) k (both.0, x) (holds_at (λ (row : Y). All (λ at. P at.0 at.1) (zip heads (row_in row))) rows i row.0 all row.1)
+    (zipped_there heads (row_in row.0) k both.0 x parts.0 (ap (λ (l : List X). slice_get l k) (sym row.2) ∙ found.2))
+
 -- ---- phases that have begun
 
-abbrev new_row : {V I R : Type 0} → V → Phase × List ℕ → List (WorkerView V I R)
-new_row fresh at = map (new_worker fresh at.0) at.1
+abbrev new_row : {V I R : Type 0} → V → Phase × List (List I) → List (WorkerView V I R)
+new_row fresh at = map (worker_with fresh at.0) at.1
 
 abbrev base_of : Phase → Contents
 base_of phase = phase.base
@@ -65,17 +138,17 @@ base_of phase = phase.base
 abbrev seats_of : Phase → ℕ
 seats_of phase = phase.words.seats
 
-abbrev long : List ℕ → ℕ
+abbrev long : {X : Type 0} → List X → ℕ
 long list = length list
 
-pub as_many_plans : {V I R : Type 0} (fresh : V) (stores : List Contents) (plans : List (List ℕ)) (phases : List Phase) (rows : List (List (WorkerView V I R))) → HaveBegun fresh stores plans phases rows → length plans ≡ length phases
+pub as_many_plans : {V I R : Type 0} (fresh : V) (stores : List Contents) (plans : List (List (List I))) (phases : List Phase) (rows : List (List (WorkerView V I R))) → HaveBegun fresh stores plans phases rows → length plans ≡ length phases
 as_many_plans fresh stores plans phases rows begun = sym (length-map plans long) ∙ sym (ap length begun.seats) ∙ length-map phases seats_of
 
 pub none_begun : {V I R : Type 0} (fresh : V) → HaveBegun {V = V} {I = I} {R = R} fresh [] [] [] []
 none_begun fresh = record { bases = refl; seats = refl; rows_are = refl }
 
-pub one_begun : {V I R : Type 0} (fresh : V) (stores : List Contents) (plans : List (List ℕ)) (phases : List Phase) (rows : List (List (WorkerView V I R))) (store : Contents) (plan : List ℕ) (phase : Phase) (row : List (WorkerView V I R))
-    → HaveBegun fresh stores plans phases rows → phase.base ≡ store → phase.words.seats ≡ length plan → row ≡ map (new_worker fresh phase) plan
+pub one_begun : {V I R : Type 0} (fresh : V) (stores : List Contents) (plans : List (List (List I))) (phases : List Phase) (rows : List (List (WorkerView V I R))) (store : Contents) (plan : List (List I)) (phase : Phase) (row : List (WorkerView V I R))
+    → HaveBegun fresh stores plans phases rows → phase.base ≡ store → phase.words.seats ≡ length plan → row ≡ map (worker_with fresh phase) plan
     → HaveBegun fresh (stores ++ store ∷ []) (plans ++ plan ∷ []) (phases ++ phase ∷ []) (rows ++ row ∷ [])
 one_begun {V} {I} {R} fresh stores plans phases rows store plan phase row begun base seats is = record {
   bases = map_push base_of phases phase ∙ ap₂ (λ (l : List Contents) (x : Contents). l ++ x ∷ []) begun.bases base;
@@ -87,92 +160,49 @@ one_begun {V} {I} {R} fresh stores plans phases rows store plan phase row begun 
 }
 
 -- the same, where a loop took them
-pub next_begun : {V I R Y T : Type 0} (fresh : V) (store_in : Y → Contents) (plan_in : Y → List ℕ) (workers_of : T → List (WorkerView V I R)) (yielded : List Y) (y : Y) (phases phases_now : List Phase) (rows rows_now : List T) (phase : Phase) (row : T)
+pub next_begun : {V I R Y T : Type 0} (fresh : V) (store_in : Y → Contents) (plan_in : Y → List (List I)) (workers_of : T → List (WorkerView V I R)) (yielded : List Y) (y : Y) (phases phases_now : List Phase) (rows rows_now : List T) (phase : Phase) (row : T)
     → HaveBegun fresh (map store_in yielded) (map plan_in yielded) phases (map workers_of rows) → phases_now ≡ phases ++ phase ∷ [] → rows_now ≡ rows ++ row ∷ []
-    → phase.base ≡ store_in y → phase.words.seats ≡ length (plan_in y) → workers_of row ≡ map (new_worker fresh phase) (plan_in y)
+    → phase.base ≡ store_in y → phase.words.seats ≡ length (plan_in y) → workers_of row ≡ map (worker_with fresh phase) (plan_in y)
     → HaveBegun fresh (map store_in (yielded ++ y ∷ [])) (map plan_in (yielded ++ y ∷ [])) phases_now (map workers_of rows_now)
 next_begun {V} {I} {R} fresh store_in plan_in workers_of yielded y phases phases_now rows rows_now phase row begun pushed more base seats is =
     let stores_are = map_push store_in yielded y in
     let plans_are = map_push plan_in yielded y in
     let rows_are = ap (map workers_of) more ∙ map_push workers_of rows row in
     subst (λ (s : List Contents). HaveBegun fresh s (map plan_in (yielded ++ y ∷ [])) phases_now (map workers_of rows_now)) (sym stores_are)
-    (subst (λ (p : List (List ℕ)). HaveBegun fresh (map store_in yielded ++ store_in y ∷ []) p phases_now (map workers_of rows_now)) (sym plans_are)
+    (subst (λ (p : List (List (List I))). HaveBegun fresh (map store_in yielded ++ store_in y ∷ []) p phases_now (map workers_of rows_now)) (sym plans_are)
     (subst (λ (p : List Phase). HaveBegun fresh (map store_in yielded ++ store_in y ∷ []) (map plan_in yielded ++ plan_in y ∷ []) p (map workers_of rows_now)) (sym pushed)
     (subst (λ (r : List (List (WorkerView V I R))). HaveBegun fresh (map store_in yielded ++ store_in y ∷ []) (map plan_in yielded ++ plan_in y ∷ []) (phases ++ phase ∷ []) r) (sym rows_are)
     (one_begun fresh (map store_in yielded) (map plan_in yielded) phases (map workers_of rows) (store_in y) (plan_in y) phase (workers_of row) begun base seats is))))
 
--- as many workers in each row as its plan says
-pub rows_long : {V I R : Type 0} (fresh : V) (stores : List Contents) (plans : List (List ℕ)) (phases : List Phase) (rows : List (List (WorkerView V I R))) (n : ℕ) → HaveBegun fresh stores plans phases rows → All (λ plan. length plan ≡ n) plans → All (λ row. length row ≡ n) rows
+-- as many workers in each row as it has lists
+pub rows_long : {V I R : Type 0} (fresh : V) (stores : List Contents) (plans : List (List (List I))) (phases : List Phase) (rows : List (List (WorkerView V I R))) (n : ℕ) → HaveBegun fresh stores plans phases rows → All (λ plan. length plan ≡ n) plans → All (λ row. length row ≡ n) rows
 rows_long {V} {I} {R} fresh stores plans phases rows n begun each =
     let IsLong : List (WorkerView V I R) → Type 0 = λ row. length row ≡ n in
     subst (All IsLong) (sym begun.rows_are)
     (All-map IsLong (new_row fresh) (zip phases plans) (λ k d within.
     let both = get_or (zip phases plans) k d in
     let parts = zipped_at phases plans k both (slice_get-get_or (zip phases plans) k d within) in
-    length-map both.1 (new_worker {V = V} {I = I} {R = R} fresh both.0) ∙ holds_at (λ (plan : List ℕ). length plan ≡ n) plans k both.1 each parts.1))
+    length-map both.1 (worker_with {V = V} {I = I} {R = R} fresh both.0) ∙ holds_at (λ (plan : List (List I)). length plan ≡ n) plans k both.1 each parts.1))
 
-module _ {V I R T L : Type 0} (goes_to : I → ℕ) (workers_of : T → List (WorkerView V I R)) (items : L → List I) where
+-- an order names a place as often as items go there
+pub those_named : {I : Type 0} (goes_to : I → ℕ) (place : ℕ) (list : List I) → length (those_of (λ p. p) place (map goes_to list)) ≡ length (those_of goes_to place list)
+those_named goes_to place [] = refl
+those_named {I} goes_to place (x ∷ list) = by (goes_to x == place) (those_named goes_to place list)
+  where
+    by : (b : Bool) → length (those_of (λ p. p) place (map goes_to list)) ≡ length (those_of goes_to place list)
+        → length (cond b (goes_to x ∷ those_of (λ p. p) place (map goes_to list)) (those_of (λ p. p) place (map goes_to list))) ≡ length (cond b (x ∷ those_of goes_to place list) (those_of goes_to place list))
+    by true rest = ap suc rest
+    by false rest = rest
+
+module _ {V I R T : Type 0} (workers_of : T → List (WorkerView V I R)) where
   abbrev IsNew : WorkerView V I R → Type 0
   IsNew worker = worker.tray ≡ []
 
+  abbrev IsIdle : WorkerView V I R → Type 0
+  IsIdle worker = worker.waiting ≡ []
+
   abbrev tray_of : WorkerView V I R → List (Told I R)
   tray_of worker = worker.tray
-
-  -- new workers are teams with room
-  pub are_ready : (fresh : V) (places : ℕ) (stores : List Contents) (shares plans : List (List ℕ)) (phases : List Phase) (rows : List (List (WorkerView V I R))) (teams : List T) (work : List L)
-      → length shares ≡ length work → All (λ at. AreShares goes_to places (items at.1) at.0) (zip shares work)
-      → IsTurned places shares plans → HaveBegun fresh stores plans phases rows → IsTurned (length work) rows (map workers_of teams)
-      → AreReady goes_to stores (map items work) phases (map workers_of teams)
-  are_ready fresh places stores shares plans phases rows teams work same shared planned begun turned =
-      let all = map items work in
-      let many = as_many_plans fresh stores plans phases rows begun in
-      let is = subst (λ (r : List (List (WorkerView V I R))). IsTurned (length work) r (map workers_of teams)) begun.rows_are turned in
-      let Fits : ℕ → Type 0 = λ n. n ≡ length all in
-      let HasPlace : List (WorkerView V I R) × List I → Type 0 = λ at. HasRoom goes_to at.1 at.0 in
-      let each : All (λ plan. length plan ≡ length all) plans = λ k d within. columns_long places shares plans planned k d within ∙ same ∙ sym (length-map work items) in
-      record {
-        bases = begun.bases;
-        seats = All-from_map Fits seats_of phases (subst (All Fits) (sym begun.seats) (All-map Fits long plans each));
-        as_many = turned.as_many ∙ sym (length-map work items);
-        belong = new_teams fresh phases plans (length work) (map workers_of teams) many is;
-        room = subst (All HasPlace) (sym (zip_maps workers_of items teams work))
-            (All-map HasPlace (λ at. (workers_of at.0, items at.1)) (zip teams work) (teams_have_room fresh workers_of items goes_to phases plans shares (length work) places teams work is planned shared));
-        empty = turned_all IsNew (length work) rows (map workers_of teams) turned
-            (subst (All (All IsNew)) (sym begun.rows_are) (All-map (All IsNew) (new_row fresh) (zip phases plans) (λ k d within.
-            let both = get_or (zip phases plans) k d in
-            All-map IsNew (new_worker fresh both.0) both.1 (λ i e below. refl))));
-      }
-
-  -- ---- teams that have handled their lists
-
-  -- the trays of one phase
-  pub trays_are : (rests : V → Type 0) (places : ℕ) (before after : List T) (work : List L) (columns : List (List (WorkerView V I R))) (place : ℕ) (column : List (WorkerView V I R))
-      → length after ≡ length before → length before ≡ length work → All (All IsNew) (map workers_of before)
-      → All (λ at. HasHandled rests goes_to (workers_of at.0) (items at.1.0) (workers_of at.1.1)) (zip before (zip work after))
-      → IsTurned places (map workers_of after) columns → slice_get columns place ≡ Some column
-      → map (map (λ t. t.item)) (map (λ worker. worker.tray) column) ≡ map (those_of goes_to place) (map items work)
-  trays_are rests places before after work columns place column same many empty handled turned there =
-      let item : Told I R → I = λ t. t.item in
-      let shown : WorkerView V I R → List I = λ worker. map item worker.tray in
-      let asked : L → List I = λ list. those_of goes_to place (items list) in
-      let long = length-column places (map workers_of after) columns place column turned there in
-      map-map (map item) tray_of column
-      ∙ same_at_each (map shown column) (map asked work)
-      (omega (arith, length-map column shown, long, length-map after workers_of, length-map work asked, same, many))
-      (λ k x y at_x at_y.
-      let now = mapped_at shown column k x at_x in
-      let list = mapped_at asked work k y at_y in
-      let row = row_at places (map workers_of after) columns place k column now.0 turned there now.1 in
-      let team = mapped_at workers_of after k row.0 row.1 in
-      let old = something_there before k (omega (arith, slice_get_within column k now.0 now.1, long, length-map after workers_of, same)) in
-      let done = holds_at (λ at. HasHandled rests goes_to (workers_of at.0) (items at.1.0) (workers_of at.1.1)) (zip before (zip work after)) k (old.0, (list.0, team.0)) handled
-      (zipped_there before (zip work after) k old.0 (list.0, team.0) old.1 (zipped_there work after k list.0 team.0 list.1 team.1)) in
-      let here : slice_get (workers_of team.0) place ≡ Some now.0 = ap (λ (l : List (WorkerView V I R)). slice_get l place) (sym team.2) ∙ row.2 in
-      let was = something_there (workers_of old.0) place (omega (arith, slice_get_within (workers_of team.0) place now.0 here, done.as_many)) in
-      let answered = done.each place was.0 now.0 was.1 here in
-      let new = holds_at IsNew (workers_of old.0) place was.0 (holds_at (All IsNew) (map workers_of before) k (workers_of old.0) empty (shown_at workers_of before k old.0 old.1)) was.1 in
-      now.2 ∙ ap (map item) (answered.tray ∙ ap (λ (tray : List (Told I R)). tray ++ answered.told) new) ∙ answered.items ∙ sym list.2)
-      ∙ sym (map-map (those_of goes_to place) items work)
 
   -- a team has as many workers as there are phases
   pub teams_long : (phases : List Phase) (teams : List T) → All (λ team. IsTeam phases (workers_of team)) teams → All (λ team. length (workers_of team) ≡ length phases) teams
@@ -181,14 +211,96 @@ module _ {V I R T L : Type 0} (goes_to : I → ℕ) (workers_of : T → List (Wo
       sym (length-map team (λ (worker : WorkerView V I R). worker.phase)) ∙ ap length (belong k d within)
 
   -- the workers of each phase are all there
-  pub all_belong : {C : Type 0} (workers_in : C → List (WorkerView V I R)) (phases : List Phase) (after : List T) (columns : List C) → All (λ team. IsTeam phases (workers_of team)) after → IsTurned (length phases) (map workers_of after) (map workers_in columns) → All (λ phase. phase.words.seats ≡ length after) phases
+  pub all_belong : {C : Type 0} (workers_in : C → List (WorkerView V I R)) (phases : List Phase) (after : List T) (columns : List C) → All (λ team. IsTeam phases (workers_of team)) after → All (λ team. All IsIdle (workers_of team)) after
+      → IsTurned (length phases) (map workers_of after) (map workers_in columns) → All (λ phase. phase.words.seats ≡ length after) phases
       → All (λ at. AreAll at.0 (workers_in at.1)) (zip phases columns)
-  all_belong workers_in phases after columns belong turned seats k d within =
+  all_belong workers_in phases after columns belong idle turned seats k d within =
       let both = get_or (zip phases columns) k d in
       let parts = zipped_at phases columns k both (slice_get-get_or (zip phases columns) k d within) in
-      column_belongs phases (length phases) (map workers_of after) (map workers_in columns) k both.0 (workers_in both.1) (All-map (IsTeam phases) workers_of after belong) turned parts.0
+      column_belongs phases (length phases) (map workers_of after) (map workers_in columns) k both.0 (workers_in both.1) (All-map (IsTeam phases) workers_of after belong) (All-map (All IsIdle) workers_of after idle) turned parts.0
       (shown_at workers_in columns k both.1 parts.1)
       (length-map after workers_of ∙ sym (holds_at (λ (p : Phase). p.words.seats ≡ length after) phases k both.0 seats parts.0))
+
+  -- ---- new workers are teams, with whom the shares of their lists wait
+
+  module _ (goes_to : I → ℕ) (fresh : V) (places : ℕ) (stores : List Contents) (shared lists : List (List (List I))) (orders : List (List ℕ)) (phases : List Phase) (rows : List (List (WorkerView V I R))) (teams : List T) (work : List (List I)) (all : AreAllShared goes_to places work shared orders) (planned : IsTurned places shared lists) (begun : HaveBegun fresh stores lists phases rows) (turned : IsTurned (length work) rows (map workers_of teams)) where
+    same_rows : IsTurned (length work) (map (λ at. map (worker_with fresh at.0) at.1) (zip phases lists)) (map workers_of teams)
+    same_rows = subst (λ (r : List (List (WorkerView V I R))). IsTurned (length work) r (map workers_of teams)) begun.rows_are turned
+
+    waits_at : (w : ℕ) (team : List (WorkerView V I R)) (list : List I) → slice_get (map workers_of teams) w ≡ Some team → slice_get work w ≡ Some list → (place : ℕ) (worker : WorkerView V I R) → slice_get team place ≡ Some worker → worker.waiting ≡ those_of goes_to place list
+    waits_at w team list there listed place worker at =
+        let new = new_in_team fresh phases lists shared (length work) places (map workers_of teams) w place team worker same_rows planned there at in
+        let given = holds_at (λ (at : List I × List (List I)). AreSharedOut goes_to places at.0 at.1) (zip work shared) w (list, new.2) all.each (zipped_there work shared w list new.2 listed new.3) in
+        ap (λ (w : WorkerView V I R). w.waiting) new.5 ∙ given.each place new.1 new.4
+
+    pub have_work : HaveWork goes_to work (map workers_of teams)
+    have_work = record {
+      as_many = turned.as_many;
+      waits = λ k d within.
+          let both = get_or (zip (map workers_of teams) work) k d in
+          let parts = zipped_at (map workers_of teams) work k both (slice_get-get_or (zip (map workers_of teams) work) k d within) in
+          waits_at k both.0 both.1 parts.0 parts.1;
+    }
+
+    pub are_ready : length stores ≡ places → All (GoesWithin goes_to places) work → AreReady stores phases (map workers_of teams) orders
+    are_ready as_many within =
+        let many = as_many_plans fresh stores lists phases rows begun in
+        let orders_long : length orders ≡ length work = ap length all.orders_are ∙ length-map work (map goes_to) in
+        let Fits : ℕ → Type 0 = λ n. n ≡ length orders in
+        let belong = new_teams fresh phases lists (length work) (map workers_of teams) many same_rows in
+        record {
+          bases = begun.bases;
+          seats = All-from_map Fits seats_of phases (subst (All Fits) (sym begun.seats) (All-map Fits long lists (λ k d below. columns_long places shared lists planned k d below ∙ all.as_many ∙ sym orders_long)));
+          as_many = turned.as_many ∙ sym orders_long;
+          belong = belong;
+          named = λ k d below.
+              let both = get_or (zip (map workers_of teams) orders) k d in
+              let parts = zipped_at (map workers_of teams) orders k both (slice_get-get_or (zip (map workers_of teams) orders) k d below) in
+              let list = mapped_at (map goes_to) work k both.1 (ap (λ (l : List (List ℕ)). slice_get l k) (sym all.orders_are) ∙ parts.1) in
+              let phases_long : length phases ≡ places = omega (arith, as_many, ap length begun.bases, length-map phases base_of) in
+              let team_long : length both.0 ≡ places = sym (length-map both.0 (λ (worker : WorkerView V I R). worker.phase)) ∙ ap length (holds_at (IsTeam phases) (map workers_of teams) k both.0 belong parts.0) ∙ phases_long in
+              record {
+                within = goes_within goes_to (length both.0) list.0 both.1 list.2 (subst (λ (n : ℕ). GoesWithin goes_to n list.0) (sym team_long) (holds_at (GoesWithin goes_to places) work k list.0 within list.1));
+                each = λ place worker at.
+                    ap length (waits_at k both.0 list.0 parts.0 list.1 place worker at) ∙ sym (those_named goes_to place list.0) ∙ ap (λ (o : List ℕ). length (those_of (λ (p : ℕ). p) place o)) (sym list.2);
+              };
+          empty = turned_all IsNew (length work) rows (map workers_of teams) turned
+              (subst (All (All IsNew)) (sym begun.rows_are) (All-map (All IsNew) (new_row fresh) (zip phases lists) (λ k d within.
+              let both = get_or (zip phases lists) k d in
+              All-map IsNew (worker_with fresh both.0) both.1 (λ i e below. refl))));
+        }
+
+  -- ---- teams that have handled their orders
+
+  -- the trays of one phase
+  pub trays_are : (goes_to : I → ℕ) (rests : V → Type 0) (places : ℕ) (before after : List T) (work : List (List I)) (columns : List (List (WorkerView V I R))) (place : ℕ) (column : List (WorkerView V I R))
+      → length after ≡ length before → HaveWork goes_to work (map workers_of before) → All (All IsNew) (map workers_of before)
+      → All (λ at. HaveFinished rests (workers_of at.0) (workers_of at.1)) (zip before after)
+      → IsTurned places (map workers_of after) columns → slice_get columns place ≡ Some column
+      → map (map (λ t. t.item)) (map (λ worker. worker.tray) column) ≡ map (those_of goes_to place) work
+  trays_are goes_to rests places before after work columns place column same have empty finished turned there =
+      let item : Told I R → I = λ t. t.item in
+      let shown : WorkerView V I R → List I = λ worker. map item worker.tray in
+      let asked : List I → List I = λ list. those_of goes_to place list in
+      let long = length-column places (map workers_of after) columns place column turned there in
+      map-map (map item) tray_of column
+      ∙ same_at_each (map shown column) (map asked work)
+      (omega (arith, length-map column shown, long, length-map after workers_of, length-map before workers_of, length-map work asked, same, have.as_many))
+      (λ k x y at_x at_y.
+      let now = mapped_at shown column k x at_x in
+      let list = mapped_at asked work k y at_y in
+      let row = row_at places (map workers_of after) columns place k column now.0 turned there now.1 in
+      let team = mapped_at workers_of after k row.0 row.1 in
+      let old = something_there before k (omega (arith, slice_get_within column k now.0 now.1, long, length-map after workers_of, same)) in
+      let done = holds_at (λ at. HaveFinished rests (workers_of at.0) (workers_of at.1)) (zip before after) k (old.0, team.0) finished (zipped_there before after k old.0 team.0 old.1 team.1) in
+      let here : slice_get (workers_of team.0) place ≡ Some now.0 = ap (λ (l : List (WorkerView V I R)). slice_get l place) (sym team.2) ∙ row.2 in
+      let was = something_there (workers_of old.0) place (omega (arith, slice_get_within (workers_of team.0) place now.0 here, done.as_many)) in
+      let answered = done.each place was.0 now.0 was.1 here in
+      let stood = shown_at workers_of before k old.0 old.1 in
+      let new = holds_at IsNew (workers_of old.0) place was.0 (holds_at (All IsNew) (map workers_of before) k (workers_of old.0) empty stood) was.1 in
+      let Waits : List (WorkerView V I R) × List I → Type 0 = λ at. (place : ℕ) (worker : WorkerView V I R) → slice_get at.0 place ≡ Some worker → worker.waiting ≡ those_of goes_to place at.1 in
+      let waits = holds_at Waits (zip (map workers_of before) work) k (workers_of old.0, list.0) have.waits (zipped_there (map workers_of before) work k (workers_of old.0) list.0 stood list.1) place was.0 was.1 in
+      now.2 ∙ ap (map item) (answered.tray ∙ ap (λ (tray : List (Told I R)). tray ++ answered.told) new) ∙ answered.items ∙ waits ∙ sym list.2)
 
 -- ---- phases that are closed
 
@@ -227,12 +339,12 @@ module _ {V I R F : Type 0} (closes : Contents → List (List (Told I R)) → Li
       (one_ended (map phase_in yielded) (map workers_in yielded) stores (map finals_in told) (phase_in y) (workers_in y) store (finals_in finals) ended (length-map yielded workers_in ∙ sym (length-map yielded phase_in)) one))))
 
   -- each phase is closed over the items that went there
-  pub all_closed : {T L : Type 0} (goes_to : I → ℕ) (workers_of : T → List (WorkerView V I R)) (items : L → List I) (rests : V → Type 0) (phases : List Phase) (before after : List T) (work : List L) (columns : List (List (WorkerView V I R))) (stores : List Contents) (told : List (List (List F)))
-      → AreReady goes_to (map base_of phases) (map items work) phases (map workers_of before) → length after ≡ length before
-      → All (λ at. HasHandled rests goes_to (workers_of at.0) (items at.1.0) (workers_of at.1.1)) (zip before (zip work after))
+  pub all_closed : {T : Type 0} (goes_to : I → ℕ) (workers_of : T → List (WorkerView V I R)) (rests : V → Type 0) (phases : List Phase) (before after : List T) (orders : List (List ℕ)) (work : List (List I)) (columns : List (List (WorkerView V I R))) (stores : List Contents) (told : List (List (List F)))
+      → AreReady (map base_of phases) phases (map workers_of before) orders → HaveWork goes_to work (map workers_of before) → length after ≡ length before
+      → All (λ at. HaveFinished rests (workers_of at.0) (workers_of at.1)) (zip before after)
       → IsTurned (length phases) (map workers_of after) columns → HaveEnded closes phases columns stores told
-      → HaveClosed closes goes_to (map base_of phases) (map items work) stores told
-  all_closed goes_to workers_of items rests phases before after work columns stores told ready same handled turned ended = record {
+      → HaveClosed closes goes_to (map base_of phases) work stores told
+  all_closed goes_to workers_of rests phases before after orders work columns stores told ready have same finished turned ended = record {
     stores = ended.stores ∙ sym (length-map phases base_of);
     as_many = ended.as_many ∙ sym (length-map phases base_of);
     each = λ place old now finals was is at.
@@ -243,7 +355,7 @@ module _ {V I R F : Type 0} (closes : Contents → List (List (Told I R)) → Li
         let trays = map (λ (worker : WorkerView V I R). worker.tray) column.0 in
         record {
           trays = trays;
-          items = trays_are goes_to workers_of items rests (length phases) before after work columns place column.0 same (omega (arith, ready.as_many, length-map before workers_of, length-map work items)) ready.empty handled turned column.1;
+          items = trays_are workers_of goes_to rests (length phases) before after work columns place column.0 same have ready.empty finished turned column.1;
           election = done.election ∙ ap (λ (c : Contents). c.election) (sym phase.2);
           stored = done.stored;
           told = subst (λ (c : Contents). closes c trays finals now.ballots) (sym phase.2) done.told;

@@ -1,17 +1,26 @@
 -- The replies of several phases, in the order of the lists.
-use Rattle.std.proofs.Common.{◌≡◌, ◌∙◌, ℕ, All, List, [], ◌∷◌, Some, ap, arith, get_or, length, map, refl, slice_get, subst, sym, zip}
+use Rattle.std.proofs.Common.{◌≡◌, ◌∙◌, ℕ, All, Bool, true, false, List, [], ◌∷◌, Some, ap, ap₂, arith, cond, get_or, length, map, refl, slice_get, subst, sym, zip}
 use Rattle.std.proofs.lemmas.List.{length-map}
+use Rattle.std.proofs.lemmas.List.Elements.{All-map}
 use Rattle.std.proofs.lemmas.Option.{same_Some, slice_get-get_or, slice_get_within}
 use Rattle.std.proofs.lemmas.Slice.Zip.{length-zip}
+use Rattle.std.specs.List.{filter}
+use Rattle.std.specs.Prelude.{◌==◌}
 use Rattle.body_store.specs.Contents.{Contents}
-use Rattle.part_play.proofs.Stages.{shown_at}
-use Rattle.part_play.specs.Several.{AnswersEach, AreAllTold, AreByPlaces, HasClosed, HasPlayed, HaveClosed}
+use Rattle.part_play.proofs.Stages.{shown_at, those_named}
+use Rattle.part_play.specs.Several.{AnswersEach, AreAllTold, AreByPlaces, HasClosed, HasPlayed, HaveClosed, replies_at}
 use Rattle.phase_kind.proofs.Counts.{something_there}
 use Rattle.phase_kind.proofs.Planned.{column_at, holds_at, length-column, mapped_at, row_at, same_at_each, zipped_at, zipped_there}
+use Rattle.phase_kind.proofs.Shared.{goes_within}
 use Rattle.phase_kind.specs.Table.{IsTurned}
 use Rattle.phase_kind.specs.Team.{AreByPlace, AreInOrder, GoesWithin, replies_to, those_of}
 use Rattle.phase_kind.specs.Told.{Told}
 use Rattle.store_spec.specs.Ballot.{Ballot}
+
+-- as many as the items of each
+pub lengths_of : {X Y : Type 0} (f : X → Y) (xss : List (List X)) → map length xss ≡ map length (map (map f) xss)
+lengths_of f [] = refl
+lengths_of f (xs ∷ xss) = ap (λ (n : ℕ). n ∷ map length xss) (sym (length-map xs f)) ∙ ap (λ (l : List ℕ). length (map f xs) ∷ l) (lengths_of f xss)
 
 -- replies that are kept by place and by list, turned round
 module _ {I L E C F : Type 0} (goes_to : I → ℕ) (items : L → List I) (list_of : E → List F) (entries_of : C → List E) (work : List L) (told : List (List E)) (rows : List C) (turned : IsTurned (length work) told (map entries_of rows)) where
@@ -90,12 +99,43 @@ module _ {I L E C F : Type 0} (goes_to : I → ℕ) (items : L → List I) (list
           ∙ sym entry.2);
     }
 
--- ---- the whole
+-- ---- replies by an order, which names the place of each item
 
--- as many as the items of each
-pub lengths_of : {X Y : Type 0} (f : X → Y) (xss : List (List X)) → map length xss ≡ map length (map (map f) xss)
-lengths_of f [] = refl
-lengths_of f (xs ∷ xss) = ap (λ (n : ℕ). n ∷ map length xss) (sym (length-map xs f)) ∙ ap (λ (l : List ℕ). length (map f xs) ∷ l) (lengths_of f xss)
+module _ {I : Type 0} (goes_to : I → ℕ) where
+  pub within_named : (places : ℕ) (work : List (List I)) → All (GoesWithin goes_to places) work → All (GoesWithin (λ p. p) places) (map (map goes_to) work)
+  within_named places work within = All-map (GoesWithin (λ p. p) places) (map goes_to) work (λ k d below. goes_within goes_to places (get_or work k d) (map goes_to (get_or work k d)) refl (within k d below))
+
+  lengths_named : (place : ℕ) (work : List (List I)) → map length (map (those_of (λ p. p) place) (map (map goes_to) work)) ≡ map length (map (those_of goes_to place) work)
+  lengths_named place [] = refl
+  lengths_named place (list ∷ work) = ap₂ (λ (n : ℕ) (l : List ℕ). n ∷ l) (those_named goes_to place list) (lengths_named place work)
+
+  pub by_places_named : {F : Type 0} (work : List (List I)) (told : List (List (List F))) → AreByPlaces goes_to work told → AreByPlaces (λ p. p) (map (map goes_to) work) told
+  by_places_named work told by_places place finals at = by_places place finals at ∙ sym (lengths_named place work)
+
+  module _ {F : Type 0} where
+    replies_named : (place : ℕ) (list : List I) (replies : List F) → replies_to (λ p. p) place (map goes_to list) replies ≡ replies_to goes_to place list replies
+    replies_named place [] replies = refl
+    replies_named place (x ∷ list) [] = refl
+    replies_named place (x ∷ list) (reply ∷ replies) = by (goes_to x == place) (replies_named place list replies)
+      where
+        by : (b : Bool) → replies_to (λ p. p) place (map goes_to list) replies ≡ replies_to goes_to place list replies
+            → map (λ (row : ℕ × F). row.1) (cond b ((goes_to x, reply) ∷ filter (λ (row : ℕ × F). row.0 == place) (zip (map goes_to list) replies)) (filter (λ (row : ℕ × F). row.0 == place) (zip (map goes_to list) replies)))
+            ≡ map (λ (row : I × F). row.1) (cond b ((x, reply) ∷ filter (λ (row : I × F). goes_to row.0 == place) (zip list replies)) (filter (λ (row : I × F). goes_to row.0 == place) (zip list replies)))
+        by true rest = ap (λ l. reply ∷ l) rest
+        by false rest = rest
+
+    all_named : (place : ℕ) (work : List (List I)) (replies : List (List F)) → replies_at (λ p. p) place (map (map goes_to) work) replies ≡ replies_at goes_to place work replies
+    all_named place [] replies = refl
+    all_named place (list ∷ work) [] = refl
+    all_named place (list ∷ work) (row ∷ replies) = ap₂ (λ (r : List F) (l : List (List F)). r ∷ l) (replies_named place list row) (all_named place work replies)
+
+    pub told_named : (work : List (List I)) (told : List (List (List F))) (replies : List (List F)) → AreAllTold (λ p. p) (map (map goes_to) work) told replies → AreAllTold goes_to work told replies
+    told_named work told replies all = record {
+      answered = all.answered ∙ sym (lengths_of goes_to work);
+      each = λ place finals at. sym (all_named place work replies) ∙ all.each place finals at;
+    }
+
+-- ---- the whole
 
 module _ {I R F : Type 0} (closes : Contents → List (List (Told I R)) → List (List F) → List Ballot → Type 0) (goes_to : I → ℕ) (before : List Contents) (work : List (List I)) (after : List Contents) (told : List (List (List F))) (closed : HaveClosed closes goes_to before work after told) where
   -- each item that goes to a place has a reply there

@@ -3,9 +3,9 @@
 use Rattle.std.specs.Prelude.{◌≡◌, ℕ, All, List, [], length, map, zip, Some, slice_get}
 use Rattle.body_store.specs.Contents.{Contents, IsStored}
 use Rattle.phase_kind.specs.Phase.{Phase}
-use Rattle.phase_kind.specs.Team.{HasRoom, IsTeam, replies_to, those_of}
+use Rattle.phase_kind.specs.Team.{AreNamed, AreSharedOut, IsTeam, replies_to, those_of}
 use Rattle.phase_kind.specs.Told.{Told}
-use Rattle.phase_kind.specs.Worker.{WorkerView, new_worker}
+use Rattle.phase_kind.specs.Worker.{WorkerView, worker_with}
 use Rattle.store_spec.specs.Ballot.{Ballot}
 
 -- The phase of one store is closed: its trays had these lists, and what its kind tells of a close is so.
@@ -36,20 +36,31 @@ pub record HasPlayed {I R F : Type 0} (closes : Contents → List (List (Told I 
 
 -- ---- its steps
 
--- phases of these stores that have begun, each with new workers as its plan says
-pub record HaveBegun {V I R : Type 0} (fresh : V) (stores : List Contents) (plans : List (List ℕ)) (phases : List Phase) (rows : List (List (WorkerView V I R))) : Type 0 where
-  pub bases : map (λ phase. phase.base) phases ≡ stores
-  pub seats : map (λ phase. phase.words.seats) phases ≡ map length plans
-  pub rows_are : rows ≡ map (λ at. map (new_worker fresh at.0) at.1) (zip phases plans)
+-- All lists are shared out: to each as many lists as there are places, and an order, which names the place of each item.
+pub record AreAllShared {I : Type 0} (goes_to : I → ℕ) (places : ℕ) (work : List (List I)) (rows : List (List (List I))) (orders : List (List ℕ)) : Type 0 where
+  pub as_many : length rows ≡ length work
+  pub each : All (λ at. AreSharedOut goes_to places at.0 at.1) (zip work rows)
+  pub orders_are : orders ≡ map (map goes_to) work
 
--- phases of these stores, and a team for each list: new workers with room for its items
-pub record AreReady {V I R : Type 0} (goes_to : I → ℕ) (stores : List Contents) (work : List (List I)) (phases : List Phase) (teams : List (List (WorkerView V I R))) : Type 0 where
+-- phases of these stores that have begun, each with a new worker for each of its lists
+pub record HaveBegun {V I R : Type 0} (fresh : V) (stores : List Contents) (lists : List (List (List I))) (phases : List Phase) (rows : List (List (WorkerView V I R))) : Type 0 where
   pub bases : map (λ phase. phase.base) phases ≡ stores
-  pub seats : All (λ phase. phase.words.seats ≡ length work) phases
-  pub as_many : length teams ≡ length work
+  pub seats : map (λ phase. phase.words.seats) phases ≡ map length lists
+  pub rows_are : rows ≡ map (λ at. map (worker_with fresh at.0) at.1) (zip phases lists)
+
+-- phases of these stores, and a team for each order: new workers, with whom an item waits for each entry that names them
+pub record AreReady {V I R : Type 0} (stores : List Contents) (phases : List Phase) (teams : List (List (WorkerView V I R))) (orders : List (List ℕ)) : Type 0 where
+  pub bases : map (λ phase. phase.base) phases ≡ stores
+  pub seats : All (λ phase. phase.words.seats ≡ length orders) phases
+  pub as_many : length teams ≡ length orders
   pub belong : All (IsTeam phases) teams
-  pub room : All (λ at. HasRoom goes_to at.1 at.0) (zip teams work)
+  pub named : All (λ at. AreNamed at.1 at.0) (zip teams orders)
   pub empty : All (All (λ worker. worker.tray ≡ [])) teams
+
+-- with each worker of each team those items of its list wait that go to its place
+pub record HaveWork {V I R : Type 0} (goes_to : I → ℕ) (work : List (List I)) (teams : List (List (WorkerView V I R))) : Type 0 where
+  pub as_many : length teams ≡ length work
+  pub waits : All (λ at. (place : ℕ) (worker : WorkerView V I R) → slice_get at.0 place ≡ Some worker → worker.waiting ≡ those_of goes_to place at.1) (zip teams work)
 
 -- The phase with these workers is closed: the store after it, and the final replies to its trays.
 pub record HasEnded {V I R F : Type 0} (closes : Contents → List (List (Told I R)) → List (List F) → List Ballot → Type 0) (phase : Phase) (workers : List (WorkerView V I R)) (now : Contents) (finals : List (List F)) : Type 0 where

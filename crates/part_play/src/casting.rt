@@ -23,22 +23,22 @@ pub fn play_casting<R: Threads + Sync, T: Turns>(
     alloc: Global,
     stores: Vec<Closed>,
     spread: &ByParts,
-    work: &[BallotList],
+    work: Vec<BallotList>,
     turns: &T,
 ) -> Result<(Vec<Closed>, Vec<Vec<Final>>), Memory>
-    requires some_list { 1 ≤ length work.now }
-    requires few_lists { length work.now ≤ 64 }
+    requires some_list { 1 ≤ length work.items }
+    requires few_lists { length work.items ≤ 64 }
     requires parts { length stores.items ≡ 2 ^ spread.now }
-    requires elections { All (λ list. All (λ store. list.election ≡ store.election) stores.items) work.now }
+    requires elections { All (λ list. All (λ store. list.election ≡ store.election) stores.items) work.items }
     ensures elections { IfOk result (λ played. map (λ store. store.election) played.0.items
         ≡ map (λ store. store.election) stores.items) }
     ensures stored { IfOk result (λ played. All IsStored played.0.items) }
     ensures plays { IfOk result (λ played. (e : Election) → All (λ store. store.election ≡ e) stores.items
         → PlaysCastingInParts spread.now e (map (λ store. store.ballots) stores.items)
-        (map (λ list. list.ballots) work.now) (map (λ list. map reply_of list.items) played.1.items)
+        (map (λ list. list.ballots) work.items) (map (λ list. map reply_of list.items) played.1.items)
         (map (λ store. store.ballots) played.0.items)) }
 {
-    all_go_within::<Casting>(spread, work);
+    all_go_within::<Casting>(spread, &work);
     let (after, replies) = play_several::<R, ByParts, T, Casting>(
         rt, alloc, stores, spread, work, turns,
     )?;

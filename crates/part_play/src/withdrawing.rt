@@ -22,21 +22,21 @@ pub fn play_withdrawing<R: Threads + Sync, T: Turns>(
     alloc: Global,
     stores: Vec<Closed>,
     spread: &ByParts,
-    work: &[Vec<u64>],
+    work: Vec<Vec<u64>>,
     turns: &T,
 ) -> Result<(Vec<Closed>, Vec<Vec<WithdrawReply>>), Memory>
-    requires some_list { 1 ≤ length work.now }
-    requires few_lists { length work.now ≤ 64 }
+    requires some_list { 1 ≤ length work.items }
+    requires few_lists { length work.items ≤ 64 }
     requires parts { length stores.items ≡ 2 ^ spread.now }
     ensures elections { IfOk result (λ played. map (λ store. store.election) played.0.items
         ≡ map (λ store. store.election) stores.items) }
     ensures stored { IfOk result (λ played. All IsStored played.0.items) }
     ensures plays { IfOk result (λ played. PlaysWithdrawingInParts spread.now
-        (map (λ store. store.ballots) stores.items) (map (λ list. list.items) work.now)
+        (map (λ store. store.ballots) stores.items) (map (λ list. list.items) work.items)
         (map (λ list. map reply_of list.items) played.1.items)
         (map (λ store. store.ballots) played.0.items)) }
 {
-    all_go_within::<Withdrawing>(spread, work);
+    all_go_within::<Withdrawing>(spread, &work);
     let (after, replies) = play_several::<R, ByParts, T, Withdrawing>(
         rt, alloc, stores, spread, work, turns,
     )?;

@@ -25,17 +25,17 @@ fn cast<R: Threads + Sync, T: Turns>(
     rt: &R,
     alloc: Global,
     store: PartStore,
-    lists: &[BallotList],
+    lists: Vec<BallotList>,
     turns: &T,
 ) -> Result<(PartStore, Vec<Vec<Final>>), Memory>
-    requires some_list { 1 ≤ length lists.now }
-    requires few_lists { length lists.now ≤ 64 }
-    requires elections { All (λ list. list.election ≡ store.election) lists.now }
+    requires some_list { 1 ≤ length lists.items }
+    requires few_lists { length lists.items ≤ 64 }
+    requires elections { All (λ list. list.election ≡ store.election) lists.items }
     ensures election { IfOk result (λ played. played.0.election ≡ store.election) }
     ensures bits { IfOk result (λ played. played.0.bits ≡ store.bits) }
     ensures parted { IfOk result (λ played. IsParted played.0) }
     ensures closes { IfOk result (λ played. ClosesBy (of_parts store.bits store.election) (joined store.sets)
-        (phases.Casts (map (λ list. list.ballots) lists.now))
+        (phases.Casts (map (λ list. list.ballots) lists.items))
         (closing (words_of (replies.Cast played.1)) (joined played.0.sets))) }
 {
     let bits = store.bits();
@@ -52,16 +52,16 @@ fn withdraw<R: Threads + Sync, T: Turns>(
     rt: &R,
     alloc: Global,
     store: PartStore,
-    lists: &[Vec<u64>],
+    lists: Vec<Vec<u64>>,
     turns: &T,
 ) -> Result<(PartStore, Vec<Vec<WithdrawReply>>), Memory>
-    requires some_list { 1 ≤ length lists.now }
-    requires few_lists { length lists.now ≤ 64 }
+    requires some_list { 1 ≤ length lists.items }
+    requires few_lists { length lists.items ≤ 64 }
     ensures election { IfOk result (λ played. played.0.election ≡ store.election) }
     ensures bits { IfOk result (λ played. played.0.bits ≡ store.bits) }
     ensures parted { IfOk result (λ played. IsParted played.0) }
     ensures closes { IfOk result (λ played. ClosesBy (of_parts store.bits store.election) (joined store.sets)
-        (phases.Withdraws (map (λ list. list.items) lists.now))
+        (phases.Withdraws (map (λ list. list.items) lists.items))
         (closing (words_of (replies.Withdrawn played.1)) (joined played.0.sets))) }
 {
     let bits = store.bits();
@@ -113,11 +113,11 @@ pub fn play_parts<P: PartCount, R: Threads + Sync, T: Turns>(
     let store = store.into_store();
     match work {
         Work::Casting(lists) => {
-            let (after, finals) = cast(rt, alloc, store, &lists, turns)?;
+            let (after, finals) = cast(rt, alloc, store, lists, turns)?;
             Ok((PartsOf::new(after), Replies::Cast(finals)))
         }
         Work::Withdrawing(lists) => {
-            let (after, answers) = withdraw(rt, alloc, store, &lists, turns)?;
+            let (after, answers) = withdraw(rt, alloc, store, lists, turns)?;
             Ok((PartsOf::new(after), Replies::Withdrawn(answers)))
         }
         Work::Finding(lists) => {

@@ -60,8 +60,7 @@ pub fn casts<R: Threads + Sync, T: Turns>(
     let second = Closed::empty(alloc, election)?;
     let stores = pair(alloc, first, second)?;
     let spread = ByParts::new(1);
-    let lists = work.as_slice();
-    let (after, replies) = play_casting(rt, alloc, stores, &spread, lists, turns)?;
+    let (after, replies) = play_casting(rt, alloc, stores, &spread, work, turns)?;
     Ok((after, replies))
 }
 
@@ -69,10 +68,10 @@ fn withdraws<R: Threads + Sync>(
     rt: &R,
     alloc: Global,
     stores: Vec<Closed>,
-    work: &[Vec<u64>],
+    work: Vec<Vec<u64>>,
 ) -> Result<(Vec<Closed>, Vec<Vec<WithdrawReply>>), Memory>
-    requires some { 1 ≤ length work.now }
-    requires few { length work.now ≤ 64 }
+    requires some { 1 ≤ length work.items }
+    requires few { length work.items ≤ 64 }
     requires two { length stores.items ≡ 2 }
     ensures { IfOk result (λ played. length played.0.items ≡ 2) }
 {
@@ -133,11 +132,11 @@ fn three_withdrawn<R: Threads + Sync + Abort>(
     requires { length nine.items ≡ 2 }
     ensures { IfOk result (λ stores. length stores.items ≡ 2) }
 {
-    let work = [
+    let work = vec![in alloc;
         Vec::from_slice(alloc, &[9, 7, u64::MAX, 9])?,
         Vec::from_slice(alloc, &[1, 1])?,
-    ];
-    let (six, replies) = withdraws(rt, alloc, nine, &work)?;
+    ]?;
+    let (six, replies) = withdraws(rt, alloc, nine, work)?;
     same(
         rt,
         &replies,

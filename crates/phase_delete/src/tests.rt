@@ -1,7 +1,7 @@
 //! Withdrawing phases of the example election and of a crowded one, in which all withdrawers work at once, with what is
 //! seen of them at their turns.
 
-ghost use Rattle.std.specs.Prelude.{◌≡◌, ◌≤◌, IfOk, length, map};
+ghost use Rattle.std.specs.Prelude.{◌≡◌, ◌≤◌, [], IfOk, length, map};
 ghost use Rattle.store_spec.specs.Ballot.{IsListing};
 
 use crate::{WithdrawPhase, Withdrawer, run_withdraw};
@@ -181,7 +181,8 @@ fn lists_of_numbers(rt: HostRuntime) -> Result<(), Fail> {
 
 /// A withdrawer withdraws one number.
 fn withdraws_22(rt: &impl Abort, phase: &WithdrawPhase, tab: &mut Withdrawer, list: &Vec<u64>)
-    requires { tab.old.phase ≡ phase.now }
+    requires belongs { tab.old.phase ≡ phase.now }
+    requires idle { tab.old.waiting ≡ [] }
 {
     assert_eq!(rt; tab.room(), 1);
     assert_eq!(rt; list.as_slice(), [22].as_slice());

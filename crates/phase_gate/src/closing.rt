@@ -39,7 +39,7 @@ pub fn play_phase<R: Threads + Sync, T: Turns>(
             Ok((after, Replies::Cast(finals)))
         }
         Work::Withdrawing(lists) => {
-            let (after, answers) = play_withdrawing(rt, alloc, store, &lists, turns)?;
+            let (after, answers) = play_withdrawing(rt, alloc, store, lists, turns)?;
             Ok((after, Replies::Withdrawn(answers)))
         }
         Work::Finding(lists) => {

@@ -1,7 +1,7 @@
 //! Casting phases of the example election and of a crowded one, in which all tabulators cast at once, with what is seen
 //! of them at their turns.
 
-ghost use Rattle.std.specs.Prelude.{◌≡◌, ◌≤◌, All, IfOk, length, map};
+ghost use Rattle.std.specs.Prelude.{◌≡◌, ◌≤◌, [], All, IfOk, length, map};
 ghost use Rattle.store_spec.specs.Election.{example};
 
 use crate::{CastPhase, CastReply, Final, Tabulator, run_cast};
@@ -224,6 +224,7 @@ fn lists_of_ballots(rt: HostRuntime) -> Result<(), Fail> {
 /// A tabulator casts one ballot.
 fn casts_nine(rt: &impl Abort, phase: &CastPhase, tab: &mut Tabulator, nine: &BallotList)
     requires belongs { tab.old.phase ≡ phase.now }
+    requires idle { tab.old.waiting ≡ [] }
     requires example { phase.now.base.election ≡ example }
     requires list { nine.now.election ≡ example }
 {

@@ -11,10 +11,10 @@ use Rattle.std.specs.Prelude.{◌==◌}
 use Rattle.phase_kind.proofs.Trays.{take_next, zip_more}
 use Rattle.phase_kind.specs.Team.{AreByPlace, AreInOrder, AreShares, GoesWithin, replies_to, those_of}
 
-same_test : (a b : ℕ) → a ≡ b → (a == b) ≡ true
+pub same_test : (a b : ℕ) → a ≡ b → (a == b) ≡ true
 same_test a b same = ⊎_elim (λ h. h.0) (λ h. absurd (h.1 same)) (eqb_tells a b)
 
-other_test : (a b : ℕ) → a ≢ b → (a == b) ≡ false
+pub other_test : (a b : ℕ) → a ≢ b → (a == b) ≡ false
 other_test a b other = ⊎_elim (λ h. absurd (other h.1)) (λ h. h.0) (eqb_tells a b)
 
 -- something stands at each place of a list
@@ -45,12 +45,6 @@ module _ {I : Type 0} (goes_to : I → ℕ) where
   -- one that goes elsewhere
   pub next_elsewhere : (list : List I) (index : ℕ) (x : I) (place : ℕ) → slice_get list index ≡ Some x → goes_to x ≢ place → those_of goes_to place (take (index + 1) list) ≡ those_of goes_to place (take index list)
   next_elsewhere list index x place there other = next_of list index x place there ∙ ap (λ b. those_of goes_to place (take index list) ++ cond b (x ∷ []) []) (other_test (goes_to x) place other) ∙ append-nil (those_of goes_to place (take index list))
-
-  -- where all go to one place
-  pub all_there : (place : ℕ) (list : List I) → ((x : I) → goes_to x ≡ place) → those_of goes_to place list ≡ list
-  all_there place [] here = refl
-  all_there place (x ∷ list) here =
-      ap (λ b. cond b (x ∷ those_of goes_to place list) (those_of goes_to place list)) (same_test (goes_to x) place (here x)) ∙ ap (λ l. x ∷ l) (all_there place list here)
 
   few_there : (place : ℕ) (front rest : List I) → length (those_of goes_to place front) ≤ length (those_of goes_to place (front ++ rest))
   few_there place front rest = omega (arith, ap length (filter-append (λ y. goes_to y == place) front rest), length-append (those_of goes_to place front) (those_of goes_to place rest))

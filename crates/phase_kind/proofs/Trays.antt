@@ -1,9 +1,8 @@
 -- Items beside their replies.
-use Rattle.std.proofs.Common.{◌≡◌, zero, suc, ◌+◌, List, [], ◌∷◌, ◌++◌, Some, get_or, length, map, length-append, take, refl, sym, ap, ap₂, ◌∙◌, subst, arith, ℕ}
-use Rattle.std.proofs.Math.Seq.{get_or-append_seam}
-use Rattle.std.proofs.lemmas.List.{length-map, map_push, take_more}
+use Rattle.std.proofs.Common.{◌≡◌, zero, suc, ◌+◌, ◌<◌, ◌≤◌, List, [], ◌∷◌, ◌++◌, Some, append-nil, drop, get_or, length, map, length-append, take, refl, sym, ap, ap₂, ◌∙◌, subst, arith, ℕ}
+use Rattle.std.proofs.lemmas.List.{drop_all, length-drop, length-map, map_push, take_more}
 use Rattle.std.proofs.lemmas.List.Elements.{All-cons, All-head, All-nil, All-tail}
-use Rattle.std.proofs.lemmas.Option.{get_or_from_slice_get, slice_get-get_or, slice_get-map, slice_get_within}
+use Rattle.std.proofs.lemmas.Option.{get_or_from_slice_get, none-some, same_Some, slice_get-map, slice_get_within}
 use Rattle.std.proofs.lemmas.Simd.{map-map}
 use Rattle.std.specs.List.{All, slice_get, zip}
 use Rattle.std.specs.Option.{option_map}
@@ -18,6 +17,17 @@ zip_more [] [] x y same = refl
 zip_more [] (b ∷ ys) x y same = absurd (omega arith)
 zip_more (a ∷ xs) [] x y same = absurd (omega arith)
 zip_more (a ∷ xs) (b ∷ ys) x y same = ap (λ l. (a, b) ∷ l) (zip_more xs ys x y (omega arith))
+
+-- nothing stands beside nothing
+pub zip_none : {X Y : Type 0} (xs : List X) → zip {X = Y} xs [] ≡ []
+zip_none [] = refl
+zip_none (x ∷ xs) = refl
+
+-- one element more comes beside what stands there
+pub zip_onto : {X Y : Type 0} (xs : List X) (ys : List Y) (x : X) (y : Y) → slice_get xs (length ys) ≡ Some x → zip xs (ys ++ y ∷ []) ≡ zip xs ys ++ (x, y) ∷ []
+zip_onto [] ys x y there = absurd (none-some x there)
+zip_onto (a ∷ xs) [] x y there = ap₂ (λ b l. (b, y) ∷ l) (same_Some a x there) (zip_none xs)
+zip_onto (a ∷ xs) (b ∷ ys) x y there = ap (λ l. (a, b) ∷ l) (zip_onto xs ys x y there)
 
 -- the first elements of rows
 pub firsts_of-zip : {X Y : Type 0} (xs : List X) (ys : List Y) → length ys ≡ length xs → map (λ p. p.0) (zip xs ys) ≡ xs
@@ -35,12 +45,6 @@ seconds_of-zip (x ∷ xs) (y ∷ ys) same = ap (λ l. y ∷ l) (seconds_of-zip x
 pub take_next : {X : Type 0} (xs : List X) (place : ℕ) (x : X) → slice_get xs place ≡ Some x → take (place + 1) xs ≡ take place xs ++ x ∷ []
 take_next xs place x there = take_more xs place x (slice_get_within xs place x there) ∙ ap (λ y. take place xs ++ y ∷ []) (get_or_from_slice_get xs place x x there)
 
-pub last_there : {X : Type 0} (xs : List X) (x : X) (place : ℕ) → place ≡ length xs → slice_get (xs ++ x ∷ []) place ≡ Some x
-last_there xs x place last =
-    ap (slice_get (xs ++ x ∷ [])) last
-    ∙ slice_get-get_or (xs ++ x ∷ []) (length xs) x (omega (arith, length-append xs (x ∷ [])))
-    ∙ ap (λ y. Some y) (get_or-append_seam xs x [] x)
-
 -- ---- trays
 
 module _ {I R : Type 0} where
@@ -50,26 +54,61 @@ module _ {I R : Type 0} where
   abbrev paired : I × R → Told I R
   paired row = told_of row.0 row.1
 
-  pub items_told : (items : List I) (replies : List R) → length items ≡ length replies → map (λ t. t.item) (told_in items replies) ≡ items
-  items_told items replies same = map-map (λ (t : Told I R). t.item) paired (zip items replies) ∙ firsts_of-zip items replies (sym same)
+  -- nothing is told where there is no reply
+  pub none_told : (items : List I) → told_in {R = R} items [] ≡ []
+  none_told items = ap (map paired) (zip_none items)
 
-  pub replies_told : (items : List I) (replies : List R) → length items ≡ length replies → map (λ t. t.reply) (told_in items replies) ≡ replies
-  replies_told items replies same = map-map (λ (t : Told I R). t.reply) paired (zip items replies) ∙ seconds_of-zip items replies (sym same)
+  -- the items that have replies, and those behind them
+  pub items_told : (items : List I) (replies : List R) → length replies ≤ length items → items ≡ map (λ t. t.item) (told_in items replies) ++ drop (length replies) items
+  items_told [] [] few = refl
+  items_told [] (r ∷ replies) few = absurd (omega arith)
+  items_told (x ∷ items) [] few = refl
+  items_told (x ∷ items) (r ∷ replies) few = ap (λ l. x ∷ l) (items_told items replies (omega arith))
+
+  pub replies_told : (items : List I) (replies : List R) → length replies ≤ length items → map (λ t. t.reply) (told_in items replies) ≡ replies
+  replies_told [] [] few = refl
+  replies_told [] (r ∷ replies) few = absurd (omega arith)
+  replies_told (x ∷ items) [] few = refl
+  replies_told (x ∷ items) (r ∷ replies) few = ap (λ l. r ∷ l) (replies_told items replies (omega arith))
+
+  -- where nothing waits, there is a reply to each item
+  pub none_waits : (items : List I) (replies : List R) → length replies ≤ length items → drop (length replies) items ≡ [] → length items ≡ length replies
+  none_waits items replies few none = omega (arith, few, ap length none, length-drop (length replies) items)
+
+  -- what tells of a tray does so whatever waits
+  pub still_told : (items more : List I) (replies : List R) → length replies ≤ length items → told_in (items ++ more) replies ≡ told_in items replies
+  still_told [] more [] few = none_told more
+  still_told [] more (r ∷ replies) few = absurd (omega arith)
+  still_told (x ∷ items) more [] few = refl
+  still_told (x ∷ items) more (r ∷ replies) few = ap (λ l. told_of x r ∷ l) (still_told items more replies (omega arith))
+
+  -- the first that waits is there
+  pub first_there : (items : List I) (replies : List R) → 0 < length (drop (length replies) items) → (x : I) × (slice_get items (length replies) ≡ Some x)
+  first_there [] [] some = absurd (omega arith)
+  first_there [] (r ∷ replies) some = absurd (omega arith)
+  first_there (x ∷ items) [] some = (x, refl)
+  first_there (x ∷ items) (r ∷ replies) some = first_there items replies some
+
+  -- it is answered
+  pub first_told : (items : List I) (replies : List R) (item : I) (reply : R) → slice_get items (length replies) ≡ Some item → told_in items (replies ++ reply ∷ []) ≡ told_in items replies ++ told_of item reply ∷ []
+  first_told items replies item reply there = ap (map paired) (zip_onto items replies item reply there) ∙ map_push paired (zip items replies) (item, reply)
+
+  pub first_waits : (items : List I) (replies : List R) (item : I) (reply : R) → slice_get items (length replies) ≡ Some item → drop (length replies) items ≡ item ∷ drop (length (replies ++ reply ∷ [])) items
+  first_waits [] replies item reply there = absurd (none-some item there)
+  first_waits (x ∷ items) [] item reply there = ap (λ y. y ∷ items) (same_Some x item there)
+  first_waits (x ∷ items) (r ∷ replies) item reply there = first_waits items replies item reply there
 
   pub length-told : (items : List I) (replies : List R) → length items ≡ length replies → length (told_in items replies) ≡ length replies
-  length-told items replies same = sym (length-map (told_in items replies) (λ (t : Told I R). t.reply)) ∙ ap length (replies_told items replies same)
-
-  -- one item more, and its reply
-  pub one_told : (items items_now : List I) (replies replies_now : List R) (item : I) (reply : R) → length items ≡ length replies → items_now ≡ items ++ item ∷ [] → replies_now ≡ replies ++ reply ∷ [] → told_in items_now replies_now ≡ told_in items replies ++ told_of item reply ∷ []
-  one_told items items_now replies replies_now item reply same more more_replies =
-      ap₂ told_in more more_replies ∙ ap (map paired) (zip_more items replies item reply (sym same)) ∙ map_push paired (zip items replies) (item, reply)
+  length-told items replies same = sym (length-map (told_in items replies) (λ (t : Told I R). t.reply)) ∙ ap length (replies_told items replies (omega arith))
 
   -- an item and its reply stand at one place
   pub told_parts : (items : List I) (replies : List R) (place : ℕ) (told : Told I R) → length items ≡ length replies → slice_get (told_in items replies) place ≡ Some told → (slice_get items place ≡ Some told.item) × (slice_get replies place ≡ Some told.reply)
   told_parts items replies place told same there =
-      let rows = told_in items replies in (
-        ap (λ l. slice_get l place) (sym (items_told items replies same)) ∙ slice_get-map (λ (t : Told I R). t.item) rows place ∙ ap (option_map (λ (t : Told I R). t.item)) there,
-        ap (λ l. slice_get l place) (sym (replies_told items replies same)) ∙ slice_get-map (λ (t : Told I R). t.reply) rows place ∙ ap (option_map (λ (t : Told I R). t.reply)) there,
+      let rows = told_in items replies in
+      let whole : map (λ (t : Told I R). t.item) rows ≡ items =
+      sym (items_told items replies (omega arith) ∙ ap (λ l. map (λ (t : Told I R). t.item) rows ++ l) (drop_all (length replies) items (omega arith)) ∙ append-nil (map (λ (t : Told I R). t.item) rows)) in (
+        ap (λ l. slice_get l place) (sym whole) ∙ slice_get-map (λ (t : Told I R). t.item) rows place ∙ ap (option_map (λ (t : Told I R). t.item)) there,
+        ap (λ l. slice_get l place) (sym (replies_told items replies (omega arith))) ∙ slice_get-map (λ (t : Told I R). t.reply) rows place ∙ ap (option_map (λ (t : Told I R). t.reply)) there,
       )
 
   -- what stands at a place
@@ -88,14 +127,22 @@ module _ {I R : Type 0} where
       ∙ ap (λ t. take place rows ++ t ∷ []) (told_there items replies place item none d same there)
 
   -- the tray tells of the seat after it as before
-  pub still_tells : {V : Type 0} (tells : Phase → V → List (Told I R) → Type 0) (phase before after : Phase) (old now : V) (items items_now : List I) (replies replies_now : List R) (item : I) (reply : R)
-      → before ≡ phase → after ≡ phase → length items ≡ length replies → items_now ≡ items ++ item ∷ [] → replies_now ≡ replies ++ reply ∷ []
+  pub still_tells : {V : Type 0} (tells : Phase → V → List (Told I R) → Type 0) (phase before after : Phase) (old now : V) (items : List I) (replies replies_now : List R) (item : I) (reply : R)
+      → before ≡ phase → after ≡ phase → slice_get items (length replies) ≡ Some item → replies_now ≡ replies ++ reply ∷ []
       → (tells phase old (told_in items replies) → tells phase now (told_in items replies ++ told_of item reply ∷ []))
-      → tells before old (told_in items replies) → tells after now (told_in items_now replies_now)
-  still_tells tells phase before after old now items items_now replies replies_now item reply was is same more more_replies on told =
-      subst (λ (p : Phase). tells p now (told_in items_now replies_now)) (sym is)
-      (subst (tells phase now) (sym (one_told items items_now replies replies_now item reply same more more_replies))
+      → tells before old (told_in items replies) → tells after now (told_in items replies_now)
+  still_tells tells phase before after old now items replies replies_now item reply was is there more on told =
+      subst (λ (p : Phase). tells p now (told_in items replies_now)) (sym is)
+      (subst (tells phase now) (sym (ap (told_in items) more ∙ first_told items replies item reply there))
       (on (subst (λ (p : Phase). tells p old (told_in items replies)) was told)))
+
+-- what joins an empty list is its first element
+pub only_first : {X : Type 0} (before now rest : List X) (x y : X) → before ≡ [] → now ≡ before ++ x ∷ [] → now ≡ y ∷ rest → (y ≡ x) × (rest ≡ [])
+only_first before now rest x y none joined is =
+    let both : y ∷ rest ≡ x ∷ [] = sym is ∙ joined ∙ ap (λ l. l ++ x ∷ []) none in
+    let head : y ≡ x = cc in
+    let tail : rest ≡ [] = cc in
+    (head, tail)
 
 -- what is made of each place is the same for all of the first list
 pub made_alike : {S N W : Type 0} (made_at : S × N → W) (made : N → W) (seats : List S) (plan : List N) → length seats ≡ length plan → All (λ seat. (n : N) → made_at (seat, n) ≡ made n) seats → map made_at (zip seats plan) ≡ map made plan
@@ -119,5 +166,6 @@ pub replies_of_trays : {T I R : Type 0} (items : T → List I) (replies : T → 
 replies_of_trays items replies [] paired = refl
 replies_of_trays {T} {I} {R} items replies (tray ∷ trays) paired =
     let Paired : T → Type 0 = λ tray. length (items tray) ≡ length (replies tray) in
-    ap (λ l. l ∷ map replies trays) (sym (replies_told (items tray) (replies tray) (All-head Paired tray trays paired)))
+    let same : length (items tray) ≡ length (replies tray) = All-head Paired tray trays paired in
+    ap (λ l. l ∷ map replies trays) (sym (replies_told (items tray) (replies tray) (omega (arith, same))))
     ∙ ap (λ l. map (λ (t : Told I R). t.reply) (told_in (items tray) (replies tray)) ∷ l) (replies_of_trays items replies trays (All-tail Paired tray trays paired))

@@ -1,7 +1,7 @@
--- A team has a worker of each of several phases, and its list is shared out among them by where each item goes.
-use Rattle.std.specs.Prelude.{◌≡◌, ◌==◌, ◌<◌, ◌≤◌, ℕ, List, length, map, zip, filter, All, Some, slice_get}
+-- A team has a worker of each of several phases, among whom its list was shared out by where each item goes.
+use Rattle.std.specs.Prelude.{◌≡◌, ◌==◌, ◌+◌, ◌<◌, ℕ, List, length, map, zip, filter, All, Some, slice_get}
 use Rattle.phase_kind.specs.Phase.{Phase}
-use Rattle.phase_kind.specs.Worker.{HasAnswered, WorkerView}
+use Rattle.phase_kind.specs.Worker.{HasFinished, WorkerView}
 
 -- the items of a list that go to a place, in their order
 abbrev pub those_of : {I : Type 0} → (I → ℕ) → ℕ → List I → List I
@@ -15,23 +15,36 @@ replies_to goes_to place list replies = map (λ row. row.1) (filter (λ row. goe
 abbrev pub GoesWithin : {I : Type 0} → (I → ℕ) → ℕ → List I → Type 0
 GoesWithin goes_to places list = All (λ x. goes_to x < places) list
 
+-- A list that is shared out: at each of so many places a list of the items that go there.
+pub record AreSharedOut {I : Type 0} (goes_to : I → ℕ) (places : ℕ) (list : List I) (lists : List (List I)) : Type 0 where
+  pub as_many : length lists ≡ places
+  pub each : (place : ℕ) (those : List I) → slice_get lists place ≡ Some those → those ≡ those_of goes_to place list
+
 -- how many items of a list go to each of so many places
 pub record AreShares {I : Type 0} (goes_to : I → ℕ) (places : ℕ) (list : List I) (shares : List ℕ) : Type 0 where
   pub as_many : length shares ≡ places
   pub each : (place share : ℕ) → slice_get shares place ≡ Some share → share ≡ length (those_of goes_to place list)
 
+-- Lists, one for each of so many places. Each has got those of the first items of a list that went there by an order, and
+-- has room for all that the order sends there.
+pub record AreFilled {I L : Type 0} (items : L → List I) (room : L → ℕ) (places : ℕ) (order : List ℕ) (got : List I) (lists : List L) : Type 0 where
+  pub as_many : length lists ≡ places
+  pub each : (place : ℕ) (list : L) → slice_get lists place ≡ Some list
+      → (items list ≡ replies_to (λ place. place) place order got) × (room list + length (items list) ≡ length (those_of (λ place. place) place order))
+
 -- a worker of each phase, in the order of the phases
 abbrev pub IsTeam : {V I R : Type 0} → List Phase → List (WorkerView V I R) → Type 0
 IsTeam phases team = map (λ worker. worker.phase) team ≡ phases
 
--- each worker's tray has room for the items that go to it
-abbrev pub HasRoom : {V I R : Type 0} → (I → ℕ) → List I → List (WorkerView V I R) → Type 0
-HasRoom {V} {I} {R} goes_to list team = (place : ℕ) (worker : WorkerView V I R) → slice_get team place ≡ Some worker → length (those_of goes_to place list) ≤ worker.room
+-- The entries of an order are places of a team, and name each worker as often as items wait there.
+pub record AreNamed {V I R : Type 0} (order : List ℕ) (team : List (WorkerView V I R)) : Type 0 where
+  pub within : GoesWithin (λ place. place) (length team) order
+  pub each : (place : ℕ) (worker : WorkerView V I R) → slice_get team place ≡ Some worker → length worker.waiting ≡ length (those_of (λ place. place) place order)
 
--- the team has handled a list: each worker has answered the items that go to it
-pub record HasHandled {V I R : Type 0} (rests : V → Type 0) (goes_to : I → ℕ) (before : List (WorkerView V I R)) (list : List I) (after : List (WorkerView V I R)) : Type 0 where
+-- each worker of a team has answered all that waited
+pub record HaveFinished {V I R : Type 0} (rests : V → Type 0) (before after : List (WorkerView V I R)) : Type 0 where
   pub as_many : length after ≡ length before
-  pub each : (place : ℕ) (old now : WorkerView V I R) → slice_get before place ≡ Some old → slice_get after place ≡ Some now → HasAnswered rests old (those_of goes_to place list) now
+  pub each : (place : ℕ) (old now : WorkerView V I R) → slice_get before place ≡ Some old → slice_get after place ≡ Some now → HasFinished rests old now
 
 -- Replies to the items of a list, kept by the places where the items go: at each place as many as go there.
 abbrev pub AreByPlace : {I R : Type 0} → (I → ℕ) → List I → List (List R) → Type 0

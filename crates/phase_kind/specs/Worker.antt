@@ -4,24 +4,31 @@ use Rattle.phase_kind.specs.Phase.{Phase}
 use Rattle.phase_kind.specs.Told.{Told}
 use Rattle.word_rule.specs.Places.{Place}
 
--- the phase to which it belongs, what its seat knows, how many more items its tray has room for, and the tray
+-- the phase to which it belongs, what its seat knows, how many more items its tray has room for, the tray, and the items
+-- that wait behind those of the tray
 pub record WorkerView (V I R : Type 0) : Type 0 where
   pub phase : Phase
   pub seat : V
   pub room : ℕ
   pub tray : List (Told I R)
+  pub waiting : List I
 
 abbrev pub new_worker : {V I R : Type 0} → V → Phase → ℕ → WorkerView V I R
-new_worker fresh phase room = record { phase = phase; seat = fresh; room = room; tray = [] }
+new_worker fresh phase room = record { phase = phase; seat = fresh; room = room; tray = []; waiting = [] }
+
+-- a new worker with a list, all of which waits
+abbrev pub worker_with : {V I R : Type 0} → V → Phase → List I → WorkerView V I R
+worker_with fresh phase list = record { phase = phase; seat = fresh; room = 0; tray = []; waiting = list }
 
 -- the seat of a worker
 abbrev pub seat_of : {V I R : Type 0} → WorkerView V I R → Place V
 seat_of worker = record { words = worker.phase.words; view = worker.seat }
 
--- all workers of a phase
+-- all workers of a phase, of which none has an item that waits
 pub record AreAll {V I R : Type 0} (phase : Phase) (workers : List (WorkerView V I R)) : Type 0 where
   pub all : length workers ≡ phase.words.seats
   pub belong : All (λ worker. worker.phase ≡ phase) workers
+  pub idle : All (λ worker. worker.waiting ≡ []) workers
 
 -- The seats and trays that are left of all workers of a phase. Each tray tells of its seat.
 pub record AreLeft {V I R : Type 0} (tells : Phase → V → List (Told I R) → Type 0) (phase : Phase) (seats : List (Place V)) (trays : List (List (Told I R))) : Type 0 where
@@ -32,7 +39,7 @@ pub record AreLeft {V I R : Type 0} (tells : Phase → V → List (Told I R) →
   pub told : All (λ worker. tells worker.phase worker.seat worker.tray) workers
 
 -- The worker has answered a list: it is at rest, the list's items stand in their order behind what its tray held, each
--- with its reply, and the tray has so much less room.
+-- with its reply, the tray has so much less room, and nothing waits.
 pub record HasAnswered {V I R : Type 0} (rests : V → Type 0) (before : WorkerView V I R) (list : List I) (after : WorkerView V I R) : Type 0 where
   pub phase : after.phase ≡ before.phase
   pub at_rest : rests after.seat
@@ -40,15 +47,27 @@ pub record HasAnswered {V I R : Type 0} (rests : V → Type 0) (before : WorkerV
   pub told : List (Told I R)
   pub tray : after.tray ≡ before.tray ++ told
   pub items : map (λ t. t.item) told ≡ list
+  pub idle : after.waiting ≡ []
+
+-- The worker has answered all that waited: it is at rest, those items stand in their order behind what its tray held, each
+-- with its reply, and nothing waits.
+pub record HasFinished {V I R : Type 0} (rests : V → Type 0) (before after : WorkerView V I R) : Type 0 where
+  pub phase : after.phase ≡ before.phase
+  pub at_rest : rests after.seat
+  pub room : after.room ≡ before.room
+  pub told : List (Told I R)
+  pub tray : after.tray ≡ before.tray ++ told
+  pub items : map (λ t. t.item) told ≡ before.waiting
+  pub idle : after.waiting ≡ []
 
 -- ---- how a worker is kept
 
--- The tray tells of the seat, its list may hold such items, and has one at each place where a reply is. There is memory for
--- as many as there are places.
+-- The tray tells of the seat. Its list may hold such items; it has one at each place where a reply is, and behind these are
+-- those that wait. There is memory for as many items and replies as there are places.
 pub record IsKept (Tells IsOf : Type 0) (items more replies capacity places : ℕ) : Type 0 where
   pub told : Tells
   pub is_of : IsOf
-  pub paired : items ≡ replies
-  pub within : replies ≤ places
+  pub paired : replies ≤ items
+  pub within : items ≤ places
   pub reserved : places ≤ capacity
-  pub listed : places ≤ more + replies
+  pub listed : places ≤ more + items

@@ -1,8 +1,9 @@
 //! The two ends of a phase: its workers at their seats, and what is left of them.
 
 ghost use Rattle.phase_kind.specs.Told.{told_in};
-ghost use Rattle.phase_kind.specs.Worker.{new_worker, seat_of};
-ghost use Rattle.std.specs.Prelude.{◌≡◌, ◌≤◌, All, IfOk, length, map};
+ghost use Rattle.phase_kind.specs.Worker.{new_worker, seat_of, worker_with};
+ghost use Rattle.std.specs.Prelude.{◌≡◌, ◌≤◌, [], All, IfOk, length, map};
+ghost use Rattle.word_rule.specs.Places.{AreAll as AreSeats};
 ghost use Rattle.word_rule.specs.Seats.{SharedWords};
 ghost use Rattle.phase_kind.specs.Phase.{IsPhase, Phase};
 
@@ -25,15 +26,52 @@ pub fn opened<K: Kind>(
     ensures workers { IfOk result (λ made. made.2.items
         ≡ map (new_worker K.fresh (record { base = closed.now; words = K.seen made.1 })) plan.now) }
 {
+    let (shape, words, seats) = words_of::<K>(alloc, closed, plan.len())?;
+    let workers = seated(alloc, closed, seats, plan)?;
+    Ok((shape, words, workers))
+}
+
+/// The same with a worker for each of some lists, which waits in its tray.
+pub fn opened_with<K: Kind>(
+    alloc: Global,
+    closed: &Closed,
+    work: Vec<K::List>,
+) -> Result<(Shape, K::Words, Vec<Worker<K>>), Memory>
+    requires some { 1 ≤ length work.items }
+    requires is_of { All (λ list. K.is_of closed.now list) work.items }
+    ensures phase { IfOk result
+        (λ made. IsPhase K.may_claim closed.now (K.seen made.1) made.0) }
+    ensures seats { IfOk result (λ made. (K.seen made.1).seats ≡ length work.items) }
+    ensures workers { IfOk result (λ made. made.2.items
+        ≡ map (worker_with K.fresh (record { base = closed.now; words = K.seen made.1 }))
+        (map K.items work.items)) }
+{
+    let (shape, words, seats) = words_of::<K>(alloc, closed, work.len())?;
+    let workers = seated_with(alloc, closed, seats, work)?;
+    Ok((shape, words, workers))
+}
+
+/// The words of a phase with their shape, and so many new seats at them.
+fn words_of<K: Kind>(
+    alloc: Global,
+    closed: &Closed,
+    seats: usize,
+) -> Result<(Shape, K::Words, Vec<K::Seat>), Memory>
+    requires { 1 ≤ seats }
+    ensures phase { IfOk result
+        (λ made. IsPhase K.may_claim closed.now (K.seen made.1) made.0) }
+    ensures as_many { IfOk result (λ made. (K.seen made.1).seats ≡ seats) }
+    ensures seats { IfOk result
+        (λ made. AreSeats K.fresh (K.seen made.1) (map K.standing made.2.items)) }
+{
     let election = closed.election();
     let shape = Shape {
         order: election.order(),
         cells: election.cells(),
         claims: K::claims(closed),
     };
-    let (words, seats) = K::begin(alloc, closed, shape, plan.len())?;
-    let workers = seated(alloc, closed, seats, plan)?;
-    Ok((shape, words, workers))
+    let (words, seats) = K::begin(alloc, closed, shape, seats)?;
+    Ok((shape, words, seats))
 }
 
 /// A worker at each of new seats of some words, with a tray as the plan says.
@@ -56,11 +94,34 @@ fn seated<K: Kind>(
     Ok(workers)
 }
 
-/// The seats of workers, and their trays.
+/// A worker at each of new seats of some words, in whose tray a list waits.
+fn seated_with<K: Kind>(
+    alloc: Global,
+    closed: &Closed,
+    seats: Vec<K::Seat>,
+    work: Vec<K::List>,
+) -> Result<Vec<Worker<K>>, Memory>
+    requires as_many { length seats.items ≡ length work.items }
+    requires new { All (λ seat. (K.standing seat).view ≡ K.fresh) seats.items }
+    requires is_of { All (λ list. K.is_of closed.now list) work.items }
+    ensures { IfOk result (λ workers. (words : SharedWords)
+        → All (λ seat. (K.standing seat).words ≡ words) seats.items
+        → workers.items ≡ map (worker_with K.fresh (record { base = closed.now; words = words }))
+        (map K.items work.items)) }
+{
+    let mut workers = Vec::with_capacity(alloc, work.len())?;
+    for (seat, list) in seats.into_iter().zip(work) {
+        workers.push(Worker::with_list(alloc, closed, seat, list)?)?;
+    }
+    Ok(workers)
+}
+
+/// The seats of workers for which nothing waits, and their trays.
 pub fn taken_apart<K: Kind>(
     alloc: Global,
     workers: Vec<Worker<K>>,
 ) -> Result<(Vec<K::Seat>, Vec<Tray<K::List, K::Reply>>), Memory>
+    requires { All (λ worker. worker.waiting ≡ []) workers.items }
     ensures seats { IfOk result
         (λ parts. map K.standing parts.0.items ≡ map seat_of workers.items) }
     ensures trays { IfOk result

@@ -152,8 +152,8 @@ pub trait Kind: Drop + Send + Sync {
             → answers (record { base = closed.now; words = seen words.now })
             (standing seat.old).view x result (standing seat.new).view };
 
-    /// Ends a phase of a store, of which the words and all seats and trays are left: what its workers answered comes to
-    /// the store, and each item has a final reply. After `Memory` the store holds what it held.
+    /// Ends a phase of a store, of which the words and all seats and trays are left: what its workers answered comes
+    /// to the store, and each item has a final reply. After `Memory` the store holds what it held.
     fn end(
         alloc: Global,
         closed: &mut Closed,
@@ -176,8 +176,8 @@ pub trait Kind: Drop + Send + Sync {
             (map (λ list. list.items) finals.items) closed.new.ballots) }
         ensures unchanged { OnErr result (closed.new ≡ closed.old) };
 
-    /// An empty tray tells of a new seat. Where an item was answered, a tray with it and its reply tells of the seat. Each
-    /// seat of which a tray tells is at rest.
+    /// An empty tray tells of a new seat. Where an item was answered, a tray with it and its reply tells of the seat.
+    /// Each seat of which a tray tells is at rest.
     fn trays_tell()
         ensures none { (phase : Phase) → tells phase fresh [] }
         ensures more { (phase : Phase) (old now : Self.Sight)

@@ -1,15 +1,13 @@
 //! What is always so of teams. The function here states a law and does nothing.
 
-ghost use Rattle.phase_kind.specs.Team.{HasHandled};
-ghost use Rattle.phase_kind.specs.Worker.{HasAnswered, WorkerView};
-ghost use Rattle.std.specs.Prelude.{◌≡◌, ◌↔◌, ◌∷◌, [], List, ℕ};
+ghost use Rattle.phase_kind.specs.Team.{HaveFinished};
+ghost use Rattle.phase_kind.specs.Worker.{HasFinished, WorkerView};
+ghost use Rattle.std.specs.Prelude.{◌↔◌, ◌∷◌, []};
 
 use crate::Kind;
 
-/// Where all items go to the one phase that there is, a team is one worker, and has handled a list where that worker has
-/// answered it.
+/// Where there is one phase, a team is one worker, and has finished where that worker has.
 pub fn one_worker_is_a_team<K: Kind>()
-    ensures { (goes_to : K.Item → ℕ) (before after : WorkerView K.Sight K.Item K.Reply) (list : List K.Item)
-        → ((x : K.Item) → goes_to x ≡ 0)
-        → HasHandled K.rests goes_to (before ∷ []) list (after ∷ []) ↔ HasAnswered K.rests before list after }
+    ensures { (before after : WorkerView K.Sight K.Item K.Reply)
+        → HaveFinished K.rests (before ∷ []) (after ∷ []) ↔ HasFinished K.rests before after }
 {}

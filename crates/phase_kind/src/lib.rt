@@ -1,5 +1,5 @@
-//! What both kinds of phase are made of, casting and withdrawing: workers that answer items from their seats, with trays
-//! for the items and the replies, and all workers of a phase at once.
+//! What both kinds of phase are made of, casting and withdrawing: workers that answer items from their seats, with
+//! trays for the items and the replies, and all workers of a phase at once.
 #![tactic(auto)]
 
 mod closing;
@@ -14,8 +14,8 @@ mod worker;
 
 pub use kind::Kind;
 pub use phase::PhaseOf;
-pub use running::run;
-pub use several::{Spread, in_order, run_several, shares};
+pub use running::{run, run_waiting};
+pub use several::{Spread, in_order, run_several, share_out};
 pub use table::turned;
 pub use tray::Tray;
 pub use worker::Worker;

@@ -1,9 +1,9 @@
 ghost use Rattle.body_store.specs.Contents.{IsStored};
 ghost use Rattle.phase_kind.specs.Phase.{AreOf};
-ghost use Rattle.phase_kind.specs.Worker.{AreAll, new_worker};
-ghost use Rattle.std.specs.Prelude.{◌≡◌, ◌<◌, ◌≤◌, IfErr, IfOk, Some, length, map, slice_get};
+ghost use Rattle.phase_kind.specs.Worker.{AreAll, new_worker, worker_with};
+ghost use Rattle.std.specs.Prelude.{◌≡◌, ◌<◌, ◌≤◌, All, IfErr, IfOk, Some, length, map, slice_get};
 
-use crate::closing::{opened, taken_apart};
+use crate::closing::{opened, opened_with, taken_apart};
 use crate::{Kind, Worker};
 use body_store::Closed;
 use outside_io::Memory;
@@ -60,6 +60,36 @@ impl<K: Kind> PhaseOf<K> {
         }
     }
 
+    /// Begins a phase with a worker for each of some lists, which waits in its tray: no item is copied. All memory
+    /// that its workers need is taken here. A list of 2^32 items and more counts as lack of memory.
+    pub fn begin_with(
+        alloc: Global,
+        closed: Closed,
+        work: Vec<K::List>,
+    ) -> Result<(PhaseOf<K>, Vec<Worker<K>>), (Closed, Memory)>
+        requires some_worker { 1 ≤ length work.items }
+        requires few_workers { length work.items ≤ 64 }
+        requires is_of { All (λ list. K.is_of closed list) work.items }
+        ensures base { IfOk result (λ begun. begun.0.base ≡ closed) }
+        ensures words { IfOk result (λ begun. AreOf K.may_claim closed begun.0.words) }
+        ensures seats { IfOk result (λ begun. begun.0.words.seats ≡ length work.items) }
+        ensures workers { IfOk result
+            (λ begun. begun.1.items ≡ map (worker_with K.fresh begun.0) (map K.items work.items)) }
+        ensures given_back { IfErr result (λ refused. refused.0 ≡ closed) }
+    {
+        match opened_with(alloc, &closed, work) {
+            Ok((shape, words, workers)) => Ok((
+                PhaseOf {
+                    closed,
+                    shape,
+                    words,
+                },
+                workers,
+            )),
+            Err(memory) => Err((closed, memory)),
+        }
+    }
+
     /// One look at the cell at which the search for a number begins. It promises nothing of the answer.
     pub fn peek(&self, number: u64) -> u64 {
         K::peek(&self.words, self.shape.order.home(number))
@@ -78,8 +108,8 @@ impl<K: Kind> PhaseOf<K> {
         K::reply(&self.closed, &self.shape, &self.words, seat, list, place)
     }
 
-    /// Ends the phase with all its workers, in order: the store after it, and a final reply to each item of each tray.
-    /// After `Memory` the store of before the phase comes back.
+    /// Ends the phase with all its workers, in order, for which nothing waits: the store after it, and a final reply
+    /// to each item of each tray. After `Memory` the store of before the phase comes back.
     pub fn close(
         self,
         alloc: Global,

@@ -1,14 +1,75 @@
 //! A phase's workers, all at once.
 
-ghost use Rattle.phase_kind.specs.Worker.{HasAnswered};
+ghost use Rattle.phase_kind.specs.Worker.{HasAnswered, HasFinished};
 ghost use Rattle.std.specs.Prelude.{◌≡◌, ◌+◌, ◌<◌, ◌≤◌, ◌++◌, [], ◌∷◌, All, Some, length, slice_get, slice_index_or, zip};
 
 use crate::{Kind, PhaseOf, Worker};
 use outside_io::Turns;
 use std::thread::{Threads, for_each_mut};
 
-/// Each worker answers the list at its place, in order, and all of them work at once: each in a thread of its own, but
-/// for one, which works in the caller's. Before each item its turn is told. No memory is taken.
+/// Each worker answers all that waits in its tray, in order, and all of them work at once: each in a thread of its
+/// own, but for one, which works in the caller's. Before each item its turn is told. No memory is taken.
+pub fn run_waiting<R: Threads + Sync, T: Turns, K: Kind>(
+    rt: &R,
+    phase: &PhaseOf<K>,
+    workers: &mut [Worker<K>],
+    turns: &T,
+)
+    requires belong { All (λ worker. worker.phase ≡ phase.now) workers.old }
+    ensures as_many { length workers.new ≡ length workers.old }
+    ensures belong { All (λ worker. worker.phase ≡ phase.now) workers.new }
+    ensures idle { All (λ worker. worker.waiting ≡ []) workers.new }
+    ensures finished { All (λ at. HasFinished K.rests at.0 at.1) (zip workers.old workers.new) }
+{
+    let answer_all = |place: usize, worker: &mut Worker<K>|
+        requires belongs { worker.now.phase ≡ phase.now }
+        ensures belongs { worker.exit.now.phase ≡ phase.entry.now }
+        ensures finished { HasFinished K.rests worker.entry.now worker.exit.now }
+    { answer_waiting(phase, worker, place, turns) };
+    for_each_mut(rt, workers, workers.len().max(1), &answer_all);
+}
+
+/// One worker answers all that waits, in order.
+fn answer_waiting<T: Turns, K: Kind>(
+    phase: &PhaseOf<K>,
+    worker: &mut Worker<K>,
+    place: usize,
+    turns: &T,
+)
+    requires belongs { worker.old.phase ≡ phase.now }
+    ensures { HasFinished K.rests worker.old worker.new }
+{
+    K::trays_tell();
+    let count = worker.waiting();
+    for index in 0..count {
+        answer_next(phase, worker, place, index, turns);
+    }
+}
+
+/// The worker at a place comes to the first item that waits: its turn is told, and it answers the item.
+pub(crate) fn answer_next<T: Turns, K: Kind>(
+    phase: &PhaseOf<K>,
+    worker: &mut Worker<K>,
+    place: usize,
+    index: usize,
+    turns: &T,
+)
+    requires belongs { worker.old.phase ≡ phase.now }
+    requires waits { 0 < length worker.old.waiting }
+    ensures phase { worker.new.phase ≡ worker.old.phase }
+    ensures room { worker.new.room ≡ worker.old.room }
+    ensures answers { (x : K.Item) × (reply : K.Reply)
+        × (worker.old.waiting ≡ x ∷ worker.new.waiting)
+        × (worker.new.tray ≡ worker.old.tray ++ record { item = x; reply = reply } ∷ [])
+        × K.answers phase.now worker.old.seat x reply worker.new.seat }
+    ensures at_rest { K.rests worker.new.seat }
+{
+    turns.turn(place, index, phase.peek(worker.next_number()));
+    worker.answer_next(phase);
+}
+
+/// Each worker, for which nothing waits, answers the list at its place, in order: each item is copied into its tray.
+/// All of them work at once, as above.
 pub fn run<R: Threads + Sync, T: Turns, K: Kind>(
     rt: &R,
     phase: &PhaseOf<K>,
@@ -18,16 +79,19 @@ pub fn run<R: Threads + Sync, T: Turns, K: Kind>(
 )
     requires as_many { length workers.old ≡ length work.now }
     requires belong { All (λ worker. worker.phase ≡ phase.now) workers.old }
+    requires idle { All (λ worker. worker.waiting ≡ []) workers.old }
     requires room { All (λ at. length (K.items at.1) ≤ at.0.room) (zip workers.old work.now) }
     requires is_of { All (λ list. K.is_of phase.now.base list) work.now }
     ensures as_many { length workers.new ≡ length workers.old }
     ensures belong { All (λ worker. worker.phase ≡ phase.now) workers.new }
+    ensures idle { All (λ worker. worker.waiting ≡ []) workers.new }
     ensures answered { All (λ at. HasAnswered K.rests at.0 (K.items at.1.0) at.1.1)
         (zip workers.old (zip work.now workers.new)) }
 {
     let answer_its_list = |place: usize, worker: &mut Worker<K>|
         requires listed { place < length work.now }
         requires belongs { worker.now.phase ≡ phase.now }
+        requires idle { worker.now.waiting ≡ [] }
         requires room { (d : _) → length (K.items (slice_index_or work.now place d)) ≤ worker.now.room }
         requires is_of { (d : _) → K.is_of phase.now.base (slice_index_or work.now place d) }
         ensures belongs { worker.exit.now.phase ≡ phase.entry.now }
@@ -46,6 +110,7 @@ fn answer_alone<T: Turns, K: Kind>(
     turns: &T,
 )
     requires belongs { worker.old.phase ≡ phase.now }
+    requires idle { worker.old.waiting ≡ [] }
     requires room { length (K.items list.now) ≤ worker.old.room }
     requires is_of { K.is_of phase.now.base list.now }
     ensures { HasAnswered K.rests worker.old (K.items list.now) worker.new }
@@ -60,7 +125,7 @@ fn answer_alone<T: Turns, K: Kind>(
 }
 
 /// The worker at a place comes to an item of its list: its turn is told, and it answers the item.
-pub(crate) fn answer_item<T: Turns, K: Kind>(
+fn answer_item<T: Turns, K: Kind>(
     phase: &PhaseOf<K>,
     worker: &mut Worker<K>,
     place: usize,
@@ -69,10 +134,12 @@ pub(crate) fn answer_item<T: Turns, K: Kind>(
     turns: &T,
 )
     requires belongs { worker.old.phase ≡ phase.now }
+    requires idle { worker.old.waiting ≡ [] }
     requires room { 0 < worker.old.room }
     requires is_of { K.is_of phase.now.base list.now }
     requires within { index < length (K.items list.now) }
     ensures phase { worker.new.phase ≡ worker.old.phase }
+    ensures idle { worker.new.waiting ≡ [] }
     ensures room { worker.new.room + 1 ≡ worker.old.room }
     ensures answers { (x : K.Item) × (reply : K.Reply)
         × (slice_get (K.items list.now) index ≡ Some x)

@@ -1,11 +1,12 @@
-//! Several phases of one kind, whose workers work in teams: each item of a team's list goes into the phase that its number
-//! names.
+//! Several phases of one kind, whose workers work in teams: a list is shared out to the workers of a team, so that
+//! each item goes into the phase that its number names, and the team handles it in its order.
 
-ghost use Rattle.phase_kind.specs.Team.{AreByPlace, AreInOrder, AreShares, GoesWithin, HasHandled, HasRoom, IsTeam};
-ghost use Rattle.std.specs.Prelude.{◌≡◌, ◌^◌, ◌<◌, All, IfOk, Some, length, map, slice_get, slice_index_or, zip};
+ghost use Rattle.phase_kind.specs.Team.{AreByPlace, AreFilled, AreInOrder, AreNamed, AreShares, AreSharedOut, GoesWithin, HaveFinished, IsTeam};
+ghost use Rattle.std.specs.Prelude.{◌≡◌, ◌^◌, ◌<◌, [], All, IfOk, Some, length, map, slice_get, slice_index_or, zip};
 
-use crate::running::answer_item;
+use crate::running::answer_next;
 use crate::{Kind, PhaseOf, Worker};
+use body_store::Closed;
 use outside_io::{Memory, Turns};
 use std::alloc::Global;
 use std::thread::{Threads, for_each_mut};
@@ -22,67 +23,177 @@ pub trait Spread: Sync {
         ensures { result ≡ to self.now number };
 }
 
-/// Each team, which has a worker of each phase, handles the list at its place, in order: an item is answered in the phase
-/// to which it goes. All teams work at once: each in a thread of its own, but for one, which works in the caller's.
-/// Before each item its team's turn is told. No memory is taken.
-pub fn run_several<R: Threads + Sync, S: Spread, T: Turns, K: Kind>(
+/// A list shared out among stores: the items that go to each, as a list of its own, and the order, which names the
+/// place of each item of the list. An order of 2^32 items and more, or of more than 256 places, counts as lack of
+/// memory.
+pub fn share_out<S: Spread, K: Kind>(
+    alloc: Global,
+    stores: &[Closed],
+    spread: &S,
+    list: &K::List,
+) -> Result<(Vec<K::List>, Vec<u8>), Memory>
+    requires within { GoesWithin (λ x. S.to spread.now (K.number x)) (length stores.now) (K.items list.now) }
+    requires is_of { All (λ store. K.is_of store list.now) stores.now }
+    ensures lists { IfOk result (λ out. AreSharedOut (λ x. S.to spread.now (K.number x)) (length stores.now)
+        (K.items list.now) (map K.items out.0.items)) }
+    ensures is_of { IfOk result (λ out. All (λ at. K.is_of at.0 at.1) (zip stores.now out.0.items)) }
+    ensures order { IfOk result (λ out. out.1.items
+        ≡ map (λ x. S.to spread.now (K.number x)) (K.items list.now)) }
+{
+    let order = order_of::<S, K>(alloc, spread, list)?;
+    let mut lists = lists_for::<K>(alloc, stores, &order)?;
+    dealt_out::<K>(stores, &order, list, &mut lists);
+    Ok((lists, order))
+}
+
+/// The place where each item of a list goes.
+fn order_of<S: Spread, K: Kind>(
+    alloc: Global,
+    spread: &S,
+    list: &K::List,
+) -> Result<Vec<u8>, Memory>
+    ensures { IfOk result (λ order. order.items ≡ map (λ x. S.to spread.now (K.number x)) (K.items list.now)) }
+{
+    let mut order = Vec::with_capacity(alloc, K::len(list))?;
+    for index in 0..K::len(list) {
+        order.push(place_of::<S, K>(spread, list, index)?)?;
+    }
+    Ok(order)
+}
+
+/// The place where the item at a place of a list goes.
+fn place_of<S: Spread, K: Kind>(spread: &S, list: &K::List, index: usize) -> Result<u8, Memory>
+    requires { index < length (K.items list.now) }
+    ensures { IfOk result (λ place. (x : K.Item) × (slice_get (K.items list.now) index ≡ Some x)
+        × (place ≡ S.to spread.now (K.number x))) }
+{
+    let place = spread.place(K::number(list, index));
+    if place > 255 {
+        return Err(Memory);
+    }
+    Ok(place as u8)
+}
+
+/// How often an order names each of so many places.
+fn shares(alloc: Global, places: usize, order: &[u8]) -> Result<Vec<usize>, Memory>
+    requires within { GoesWithin (λ place. place) places order.now }
+    ensures { IfOk result (λ shares. AreShares (λ place. place) places order.now shares.items) }
+{
+    let mut shares = vec![in alloc; 0; places]?;
+    for place in order {
+        shares[*place as usize] += 1;
+    }
+    Ok(shares)
+}
+
+/// An empty list for each store, with room for as many items as the order names it.
+fn lists_for<K: Kind>(
+    alloc: Global,
+    stores: &[Closed],
+    order: &[u8],
+) -> Result<Vec<K::List>, Memory>
+    requires within { GoesWithin (λ place. place) (length stores.now) order.now }
+    ensures is_of { IfOk result (λ lists. All (λ at. K.is_of at.0 at.1) (zip stores.now lists.items)) }
+    ensures filled { IfOk result (λ lists. AreFilled K.items K.room (length stores.now) order.now [] lists.items) }
+{
+    if order.len() >= 1 << 32 {
+        return Err(Memory);
+    }
+    let shares = shares(alloc, stores.len(), order)?;
+    let lists = new_lists::<K>(alloc, stores, &shares)?;
+    Ok(lists)
+}
+
+/// An empty list for each store, with room for its share.
+fn new_lists<K: Kind>(
+    alloc: Global,
+    stores: &[Closed],
+    shares: &[usize],
+) -> Result<Vec<K::List>, Memory>
+    requires as_many { length shares.now ≡ length stores.now }
+    requires few { All (λ share. share < 2 ^ 33) shares.now }
+    ensures as_many { IfOk result (λ lists. length lists.items ≡ length stores.now) }
+    ensures new { IfOk result (λ lists. All (λ at. (K.is_of at.0.0 at.1) × (K.items at.1 ≡ []) × (K.room at.1 ≡ at.0.1))
+        (zip (zip stores.now shares.now) lists.items)) }
+{
+    let mut lists = Vec::with_capacity(alloc, stores.len())?;
+    for (store, share) in stores.iter().zip(shares) {
+        lists.push(K::new_list(alloc, store, *share)?)?;
+    }
+    Ok(lists)
+}
+
+/// Deals a list out to those of stores, in its order.
+fn dealt_out<K: Kind>(stores: &[Closed], order: &[u8], list: &K::List, lists: &mut [K::List])
+    requires as_many { length order.now ≡ length (K.items list.now) }
+    requires within { GoesWithin (λ place. place) (length stores.now) order.now }
+    requires is_of { All (λ store. K.is_of store list.now) stores.now }
+    requires of_each { All (λ at. K.is_of at.0 at.1) (zip stores.now lists.old) }
+    requires empty { AreFilled K.items K.room (length stores.now) order.now [] lists.old }
+    ensures of_each { All (λ at. K.is_of at.0 at.1) (zip stores.now lists.new) }
+    ensures filled { AreFilled K.items K.room (length stores.now) order.now (K.items list.now) lists.new }
+{
+    for index in 0..order.len() {
+        K::push_from(&mut lists[order[index] as usize], list, index);
+    }
+}
+
+/// Each team, which has a worker of each phase, handles the order at its place: each entry names the worker that
+/// answers the first item that waits with it. All teams work at once: each in a thread of its own, but for one, which
+/// works in the caller's. Before each item its team's turn is told. No memory is taken.
+pub fn run_several<R: Threads + Sync, T: Turns, K: Kind>(
     rt: &R,
     phases: &[PhaseOf<K>],
     teams: &mut [Vec<Worker<K>>],
-    spread: &S,
-    work: &[K::List],
+    orders: &[Vec<u8>],
     turns: &T,
 )
-    requires as_many { length teams.old ≡ length work.now }
+    requires as_many { length teams.old ≡ length orders.now }
     requires belong { All (λ team. IsTeam phases.now team.items) teams.old }
-    requires within { All (λ list. GoesWithin (λ x. S.to spread.now (K.number x)) (length phases.now)
-        (K.items list)) work.now }
-    requires room { All (λ at. HasRoom (λ x. S.to spread.now (K.number x)) (K.items at.1) at.0.items)
-        (zip teams.old work.now) }
-    requires is_of { All (λ list. All (λ phase. K.is_of phase.base list) phases.now) work.now }
+    requires named { All (λ at. AreNamed at.1.items at.0.items) (zip teams.old orders.now) }
     ensures as_many { length teams.new ≡ length teams.old }
     ensures belong { All (λ team. IsTeam phases.now team.items) teams.new }
-    ensures handled { All (λ at. HasHandled K.rests (λ x. S.to spread.now (K.number x)) at.0.items
-        (K.items at.1.0) at.1.1.items) (zip teams.old (zip work.now teams.new)) }
+    ensures idle { All (λ team. All (λ worker. worker.waiting ≡ []) team.items) teams.new }
+    ensures finished { All (λ at. HaveFinished K.rests at.0.items at.1.items) (zip teams.old teams.new) }
 {
-    let handle_its_list = |place: usize, team: &mut Vec<Worker<K>>|
-        requires listed { place < length work.now }
+    let handle_its_order = |place: usize, team: &mut Vec<Worker<K>>|
+        requires ordered { place < length orders.now }
         requires belongs { IsTeam phases.now team.now.items }
-        requires within { (d : _) → GoesWithin (λ x. S.to spread.now (K.number x)) (length phases.now)
-            (K.items (slice_index_or work.now place d)) }
-        requires room { (d : _) → HasRoom (λ x. S.to spread.now (K.number x))
-            (K.items (slice_index_or work.now place d)) team.now.items }
-        requires is_of { (d : _) → All (λ phase. K.is_of phase.base (slice_index_or work.now place d))
-            phases.now }
+        requires named { (d : _) → AreNamed (slice_index_or orders.now place d).items team.now.items }
         ensures belongs { IsTeam phases.entry.now team.exit.now.items }
-        ensures handled { (d : _) → HasHandled K.rests (λ x. S.to spread.entry.now (K.number x))
-            team.entry.now.items (K.items (slice_index_or work.entry.now place d)) team.exit.now.items }
-    { answer_list(phases, team, spread, place, &work[place], turns) };
-    for_each_mut(rt, teams, teams.len().max(1), &handle_its_list);
+        ensures finished { HaveFinished K.rests team.entry.now.items team.exit.now.items }
+    { answer_in_order(phases, team, place, &orders[place], turns) };
+    for_each_mut(rt, teams, teams.len().max(1), &handle_its_order);
 }
 
-/// One team handles its list in order.
-fn answer_list<S: Spread, T: Turns, K: Kind>(
+/// One team handles an order.
+fn answer_in_order<T: Turns, K: Kind>(
     phases: &[PhaseOf<K>],
     team: &mut [Worker<K>],
-    spread: &S,
     place: usize,
-    list: &K::List,
+    order: &[u8],
     turns: &T,
 )
     requires team { IsTeam phases.now team.old }
-    requires within { GoesWithin (λ x. S.to spread.now (K.number x)) (length phases.now) (K.items list.now) }
-    requires room { HasRoom (λ x. S.to spread.now (K.number x)) (K.items list.now) team.old }
-    requires is_of { All (λ phase. K.is_of phase.base list.now) phases.now }
+    requires named { AreNamed order.now team.old }
     ensures team { IsTeam phases.now team.new }
-    ensures handled { HasHandled K.rests (λ x. S.to spread.now (K.number x)) team.old (K.items list.now) team.new }
+    ensures finished { HaveFinished K.rests team.old team.new }
 {
     all_rest(team);
-    for index in 0..K::len(list) {
-        let to = goes_to::<S, K>(spread, list, index);
-        prove!(to < team.len());
-        answer_item(&phases[to], &mut team[to], place, list, index, turns);
+    for index in 0..order.len() {
+        let to = entry(order, team.len(), index);
+        answer_next(&phases[to], &mut team[to], place, index, turns);
     }
+}
+
+/// An entry of an order, which names one of so many places.
+fn entry(order: &[u8], places: usize, index: usize) -> usize
+    requires within { GoesWithin (λ place. place) places order.now }
+    requires there { index < length order.now }
+    ensures there { slice_get order.now index ≡ Some result }
+    ensures within { result < places }
+{
+    order[index] as usize
 }
 
 /// Between two items each worker is at rest.
@@ -95,51 +206,22 @@ fn all_rest<K: Kind>(team: &[Worker<K>])
     }
 }
 
-/// The place where the item at a place of a list goes.
-fn goes_to<S: Spread, K: Kind>(spread: &S, list: &K::List, index: usize) -> usize
-    requires { index < length (K.items list.now) }
-    ensures { (x : K.Item) × (slice_get (K.items list.now) index ≡ Some x)
-        × (result ≡ S.to spread.now (K.number x)) }
-{
-    spread.place(K::number(list, index))
-}
-
-/// How many items of a list go to each of so many places: the room that the trays of its team need.
-pub fn shares<S: Spread, K: Kind>(
+/// The replies to the items of a list in the order of the list, where they are kept by the places to which the items
+/// went.
+pub fn in_order<X: Copy + Drop>(
     alloc: Global,
-    places: usize,
-    spread: &S,
-    list: &K::List,
-) -> Result<Vec<u32>, Memory>
-    requires few { length (K.items list.now) < 2 ^ 32 }
-    requires within { GoesWithin (λ x. S.to spread.now (K.number x)) places (K.items list.now) }
-    ensures { IfOk result (λ shares. AreShares (λ x. S.to spread.now (K.number x)) places (K.items list.now)
-        shares.items) }
-{
-    let mut shares = vec![in alloc; 0; places]?;
-    for index in 0..K::len(list) {
-        shares[goes_to::<S, K>(spread, list, index)] += 1;
-    }
-    Ok(shares)
-}
-
-/// The replies to the items of a list in the order of the list, where they are kept by the places to which the items go.
-pub fn in_order<K: Kind, S: Spread, X: Copy + Drop>(
-    alloc: Global,
-    list: &K::List,
-    spread: &S,
+    order: &[u8],
     replies: &[Vec<X>],
 ) -> Result<Vec<X>, Memory>
-    requires within { GoesWithin (λ x. S.to spread.now (K.number x)) (length replies.now) (K.items list.now) }
-    requires by_place { AreByPlace (λ x. S.to spread.now (K.number x)) (K.items list.now)
-        (map (λ row. row.items) replies.now) }
-    ensures { IfOk result (λ told. AreInOrder (λ x. S.to spread.now (K.number x)) (K.items list.now)
-        (map (λ row. row.items) replies.now) told.items) }
+    requires within { GoesWithin (λ place. place) (length replies.now) order.now }
+    requires by_place { AreByPlace (λ place. place) order.now (map (λ row. row.items) replies.now) }
+    ensures { IfOk result (λ told. AreInOrder (λ place. place) order.now (map (λ row. row.items) replies.now)
+        told.items) }
 {
     let mut next = vec![in alloc; 0; replies.len()]?;
-    let mut told = Vec::with_capacity(alloc, K::len(list))?;
-    for index in 0..K::len(list) {
-        let to = goes_to::<S, K>(spread, list, index);
+    let mut told = Vec::with_capacity(alloc, order.len())?;
+    for index in 0..order.len() {
+        let to = order[index] as usize;
         told.push(replies[to][next[to]])?;
         next[to] += 1;
     }

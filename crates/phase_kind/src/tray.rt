@@ -7,13 +7,13 @@ use body_store::Closed;
 use outside_io::Memory;
 use std::alloc::Global;
 
-/// Places behind the last item and the last reply that stay empty, so that neither lies on a cache line of what follows:
-/// 128 bytes at least.
+/// Places behind the last item and the last reply that stay empty, so that neither lies on a cache line of what
+/// follows: 128 bytes at least. A list that was filled before needs none for its items: no thread writes to it.
 const SPARE_ITEMS: usize = 16;
 
 const SPARE_REPLIES: usize = 128;
 
-/// Items that were answered, and at the place of each its reply.
+/// Items, and at the place of each that was answered its reply. Behind these are the items that wait.
 #[derive(Drop)]
 pub struct Tray<L, R> {
     pub items: L,
@@ -33,6 +33,21 @@ pub fn new_tray<K: Kind>(
 {
     Ok(Tray {
         items: K::new_list(alloc, closed, room as usize + SPARE_ITEMS)?,
+        replies: Vec::with_capacity(alloc, room as usize + SPARE_REPLIES)?,
+    })
+}
+
+/// The tray of a kind in which a list waits, and memory for so many replies.
+pub fn tray_with<K: Kind>(
+    alloc: Global,
+    list: K::List,
+    room: u32,
+) -> Result<Tray<K::List, K::Reply>, Memory>
+    ensures items { IfOk result (λ tray. (tray.items ≡ list) × (tray.replies.items ≡ [])) }
+    ensures room { IfOk result (λ tray. room ≤ vec_capacity tray.replies) }
+{
+    Ok(Tray {
+        items: list,
         replies: Vec::with_capacity(alloc, room as usize + SPARE_REPLIES)?,
     })
 }

@@ -1,8 +1,8 @@
 ghost use Rattle.phase_kind.specs.Told.{Told, told_in};
-ghost use Rattle.phase_kind.specs.Worker.{new_worker, seat_of};
+ghost use Rattle.phase_kind.specs.Worker.{new_worker, seat_of, worker_with};
 ghost use Rattle.std.specs.Prelude.{◌≡◌, ◌+◌, ◌<◌, ◌++◌, [], ◌∷◌, IfOk, Some, length, map, slice_get};
 
-use crate::tray::new_tray;
+use crate::tray::{new_tray, tray_with};
 use crate::{Kind, PhaseOf, Tray};
 use body_store::Closed;
 use outside_io::Memory;
@@ -11,8 +11,8 @@ use std::marker::Model;
 use std::snapshot::Snapshot;
 
 /// One that answers items: its seat at the shared words, and its tray, in which each item that it answers is kept with
-/// its reply. One thread at a time works with it, and what that thread writes lies on no cache line of another worker: its
-/// seat begins on a cache line and ends with one, and so does the whole.
+/// its reply, and behind these the items that wait. One thread at a time works with it, and what that thread writes
+/// lies on no cache line of another worker: its seat begins on a cache line and ends with one, and so does the whole.
 #[derive(Drop)]
 pub struct Worker<K: Kind> {
     base: Snapshot<Closed>,
@@ -23,7 +23,7 @@ pub struct Worker<K: Kind> {
 }
 
 impl<K: Kind> Model for Worker<K> {
-    ghost use Rattle.std.specs.Prelude.{◌-◌, length, vec_capacity};
+    ghost use Rattle.std.specs.Prelude.{◌-◌, drop, length, vec_capacity};
     ghost use Rattle.phase_kind.specs.Phase.{Phase};
     ghost use Rattle.phase_kind.specs.Told.{told_in};
     ghost use Rattle.phase_kind.specs.Worker.{IsKept, WorkerView};
@@ -33,8 +33,9 @@ impl<K: Kind> Model for Worker<K> {
     ghost view = { λ w. record {
       phase = record { base = w.base.value; words = (K.standing w.seat).words };
       seat = (K.standing w.seat).view;
-      room = w.places - length w.tray.replies.items;
+      room = w.places - length (K.items w.tray.items);
       tray = told_in (K.items w.tray.items) w.tray.replies.items;
+      waiting = drop (length w.tray.replies.items) (K.items w.tray.items);
     } };
 
     ghost invariant = { λ w. IsKept
@@ -65,8 +66,33 @@ impl<K: Kind> Worker<K> {
         })
     }
 
-    /// Its seat and its tray.
+    /// A worker at a new seat, with a list, all of which waits in its tray, and room for a reply to each of its items.
+    pub(crate) fn with_list(
+        alloc: Global,
+        closed: &Closed,
+        seat: K::Seat,
+        list: K::List,
+    ) -> Result<Worker<K>, Memory>
+        requires new { (K.standing seat).view ≡ K.fresh }
+        requires is_of { K.is_of closed.now list }
+        ensures { IfOk result (λ worker. worker ≡ worker_with K.fresh
+            (record { base = closed.now; words = (K.standing seat).words }) (K.items list)) }
+    {
+        K::trays_tell();
+        let Ok(places) = u32::try_from(K::len(&list)) else {
+            return Err(Memory);
+        };
+        Ok(Worker {
+            base: Snapshot::of(closed),
+            seat,
+            tray: tray_with::<K>(alloc, list, places)?,
+            places,
+        })
+    }
+
+    /// Its seat and its tray. Nothing waits.
     pub(crate) fn into_parts(self) -> (K::Seat, Tray<K::List, K::Reply>)
+        requires idle { self.waiting ≡ [] }
         ensures seat { K.standing result.0 ≡ seat_of self }
         ensures tray { told_in (K.items result.1.items) result.1.replies.items ≡ self.tray }
         ensures is_of { K.is_of self.phase.base result.1.items }
@@ -87,41 +113,88 @@ impl<K: Kind> Worker<K> {
         ensures room { result ≡ self.now.room }
         ensures told { K.tells self.now.phase self.now.seat self.now.tray }
     {
-        self.places - self.tray.replies.len() as u32
+        self.places - K::len(&self.tray.items) as u32
     }
 
-    /// The items that it answered, in their order.
+    /// How many items wait.
+    pub(crate) fn waiting(&self) -> usize
+        ensures waiting { result ≡ length self.now.waiting }
+        ensures told { K.tells self.now.phase self.now.seat self.now.tray }
+    {
+        K::len(&self.tray.items) - self.tray.replies.len()
+    }
+
+    /// The items that it answered, in their order, and behind them those that wait.
     pub fn items(&self) -> &K::List
-        ensures items { K.items result.now ≡ map (λ told. told.item) self.now.tray }
+        ensures items { K.items result.now
+            ≡ map (λ told. told.item) self.now.tray ++ self.now.waiting }
         ensures is_of { K.is_of self.now.phase.base result.now }
     {
         &self.tray.items
     }
 
-    /// The reply to each of them.
+    /// The reply to each of those that it answered.
     pub fn replies(&self) -> &[K::Reply]
         ensures { result.now ≡ map (λ told. told.reply) self.now.tray }
     {
         &self.tray.replies
     }
 
-    /// Answers the item at a place of a list, which joins its tray.
+    /// Answers the item at a place of a list, which joins its tray. Nothing waits.
     pub fn answer(&mut self, phase: &PhaseOf<K>, list: &K::List, place: usize) -> K::Reply
         requires belongs { self.old.phase ≡ phase.now }
+        requires idle { self.old.waiting ≡ [] }
         requires room { 0 < self.old.room }
         requires is_of { K.is_of phase.now.base list.now }
         requires within { place < length (K.items list.now) }
         ensures phase { self.new.phase ≡ self.old.phase }
+        ensures idle { self.new.waiting ≡ [] }
         ensures room { self.new.room + 1 ≡ self.old.room }
         ensures answers { (x : K.Item) × (slice_get (K.items list.now) place ≡ Some x)
             × (self.new.tray ≡ self.old.tray ++ record { item = x; reply = result } ∷ [])
             × K.answers (phase.now) self.old.seat x result self.new.seat }
         ensures at_rest { K.rests self.new.seat }
     {
-        K::trays_tell();
+        self.queue(list, place);
+        self.answer_next(phase)
+    }
+
+    /// The item at a place of a list joins those that wait.
+    fn queue(&mut self, list: &K::List, place: usize)
+        requires room { 0 < self.old.room }
+        requires is_of { K.is_of self.old.phase.base list.now }
+        requires within { place < length (K.items list.now) }
+        ensures phase { self.new.phase ≡ self.old.phase }
+        ensures seat { self.new.seat ≡ self.old.seat }
+        ensures room { self.new.room + 1 ≡ self.old.room }
+        ensures tray { self.new.tray ≡ self.old.tray }
+        ensures waits { (x : K.Item) × (slice_get (K.items list.now) place ≡ Some x)
+            × (self.new.waiting ≡ self.old.waiting ++ x ∷ []) }
+    {
         K::push_from(&mut self.tray.items, list, place);
-        let last = self.tray.replies.len();
-        let reply = phase.reply(&mut self.seat, &self.tray.items, last);
+    }
+
+    /// The number of the first item that waits.
+    pub(crate) fn next_number(&self) -> u64
+        requires { 0 < length self.now.waiting }
+    {
+        K::number(&self.tray.items, self.tray.replies.len())
+    }
+
+    /// Answers the first item that waits.
+    pub(crate) fn answer_next(&mut self, phase: &PhaseOf<K>) -> K::Reply
+        requires belongs { self.old.phase ≡ phase.now }
+        requires waits { 0 < length self.old.waiting }
+        ensures phase { self.new.phase ≡ self.old.phase }
+        ensures room { self.new.room ≡ self.old.room }
+        ensures answers { (x : K.Item) × (self.old.waiting ≡ x ∷ self.new.waiting)
+            × (self.new.tray ≡ self.old.tray ++ record { item = x; reply = result } ∷ [])
+            × K.answers (phase.now) self.old.seat x result self.new.seat }
+        ensures at_rest { K.rests self.new.seat }
+    {
+        K::trays_tell();
+        let next = self.tray.replies.len();
+        let reply = phase.reply(&mut self.seat, &self.tray.items, next);
         self.tray.replies.push_reserved(reply);
         reply
     }

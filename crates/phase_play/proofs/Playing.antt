@@ -19,7 +19,7 @@ use Rattle.phase_insert.specs.declared.reply.Final.{Final}
 use Rattle.phase_kind.proofs.Listed.{trays_are_lists}
 use Rattle.phase_kind.specs.Phase.{Phase}
 use Rattle.phase_kind.specs.Told.{Told}
-use Rattle.phase_kind.specs.Worker.{AreAll, HasAnswered, WorkerView, new_worker}
+use Rattle.phase_kind.specs.Worker.{AreAll, HasFinished, WorkerView, worker_with}
 use Rattle.phase_play.proofs.Rows.{map_twice}
 use Rattle.phase_play.specs.Plays.{PlaysCasting, PlaysFinding, PlaysWithdrawing}
 use Rattle.step_core.specs.WithdrawCore as core
@@ -28,7 +28,6 @@ use Rattle.store_spec.specs.Ballot.{Ballot, ballot_of, numbers_of}
 use Rattle.store_spec.specs.BallotPhase.{BallotOutcome, CastLine}
 use Rattle.store_spec.specs.Election.{Election}
 use Rattle.store_spec.specs.Session.{ballots_without}
-use Rattle.word_rule.proofs.AtPlaces.{planned_room}
 use Rattle.store_spec.specs.WithdrawPhase.{Finding, Withdrawal}
 
 -- ---- casting
@@ -100,32 +99,24 @@ plays_withdrawing base trays replies work after closes are = record {
 
 -- ---- workers
 
--- workers that began with room for their lists, and have answered them
-module _ {V I R L : Type 0} (rests : V → Type 0) (items : L → List I) (fresh : V) (phase : Phase) where
-  abbrev pub began : List L → List (WorkerView V I R)
-  began work = map (new_worker fresh phase) (map (λ list. length (items list)) work)
+-- workers that began with lists, and have answered them
+module _ {V I R : Type 0} (rests : V → Type 0) (fresh : V) (phase : Phase) (lists : List (List I)) (before : List (WorkerView V I R)) (are : before ≡ map (worker_with fresh phase) lists) where
+  as_many : length before ≡ length lists
+  as_many = ap length are ∙ length-map lists (worker_with {V = V} {I = I} {R = R} fresh phase)
 
-  module _ (work : List L) (before : List (WorkerView V I R)) (are : before ≡ began work) where
-    as_many : length before ≡ length work
-    as_many = omega (arith, ap length are, length-map (map (λ list. length (items list)) work) (new_worker {V = V} {I = I} {R = R} fresh phase), length-map work (λ list. length (items list)))
+  pub all_belong : All (λ worker. worker.phase ≡ phase) before
+  all_belong = subst (λ (workers : List (WorkerView V I R)). All (λ worker. worker.phase ≡ phase) workers) (sym are) (All-map (λ (worker : WorkerView V I R). worker.phase ≡ phase) (worker_with fresh phase) lists (λ k d within. refl))
 
-    pub all_belong : All (λ worker. worker.phase ≡ phase) before
-    all_belong = subst (λ (workers : List (WorkerView V I R)). All (λ worker. worker.phase ≡ phase) workers) (sym are) (All-map (λ (worker : WorkerView V I R). worker.phase ≡ phase) (new_worker fresh phase) (map (λ list. length (items list)) work) (λ k d within. refl))
+  -- all of them are there at the close, and their trays have the items of the lists
+  pub all_there : (after whole : List (WorkerView V I R)) → length after ≡ length before → whole ≡ after → phase.words.seats ≡ length lists → All (λ worker. worker.phase ≡ phase) after → All (λ worker. worker.waiting ≡ []) after → AreAll phase whole
+  all_there after whole same is seats belong idle = subst (AreAll phase) (sym is) (record { all = same ∙ as_many ∙ sym seats; belong = belong; idle = idle })
 
-    pub all_may : All (λ at. length (items at.1) ≤ at.0.room) (zip before work)
-    all_may = subst (λ (workers : List (WorkerView V I R)). All (λ at. length (items at.1) ≤ at.0.room) (zip workers work)) (sym are) (planned_room (λ (worker : WorkerView V I R). worker.room) (new_worker fresh phase) (λ list. length (items list)) (λ n. omega arith) work)
-
-    -- all of them are there at the close, and their trays have the items of the lists
-    pub all_there : (after whole : List (WorkerView V I R)) → length after ≡ length before → whole ≡ after → phase.words.seats ≡ length work → All (λ worker. worker.phase ≡ phase) after → AreAll phase whole
-    all_there after whole same is seats belong = subst (AreAll phase) (sym is) (record { all = same ∙ as_many ∙ sym seats; belong = belong })
-
-    pub all_trays : (after whole : List (WorkerView V I R)) → length after ≡ length before → whole ≡ after → All (λ at. HasAnswered rests at.0 (items at.1.0) at.1.1) (zip before (zip work after)) → map (map (λ t. t.item)) (map (λ worker. worker.tray) whole) ≡ map items work
-    all_trays after whole same is each =
-        let plan = map (λ list. length (items list)) work in
-        let answered = subst (λ (workers : List (WorkerView V I R)). All (λ at. HasAnswered rests at.0 (items at.1.0) at.1.1) (zip workers (zip work after))) are each in
-        ap (λ (workers : List (WorkerView V I R)). map (map (λ (t : Told I R). t.item)) (map (λ (worker : WorkerView V I R). worker.tray) workers)) is
-        ∙ map-map (map (λ (t : Told I R). t.item)) (λ (worker : WorkerView V I R). worker.tray) after
-        ∙ trays_are_lists rests items fresh phase plan after work (length-map work (λ list. length (items list))) (same ∙ ap length are) answered
+  pub all_trays : (after whole : List (WorkerView V I R)) → length after ≡ length before → whole ≡ after → All (λ at. HasFinished rests at.0 at.1) (zip before after) → map (map (λ t. t.item)) (map (λ worker. worker.tray) whole) ≡ lists
+  all_trays after whole same is each =
+      let finished = subst (λ (workers : List (WorkerView V I R)). All (λ at. HasFinished rests at.0 at.1) (zip workers after)) are each in
+      ap (λ (workers : List (WorkerView V I R)). map (map (λ (t : Told I R). t.item)) (map (λ (worker : WorkerView V I R). worker.tray) workers)) is
+      ∙ map-map (map (λ (t : Told I R). t.item)) (λ (worker : WorkerView V I R). worker.tray) after
+      ∙ trays_are_lists rests fresh phase lists after (same ∙ as_many) finished
 
 -- ---- finding
 

@@ -3,28 +3,17 @@ ghost use Rattle.phase_insert.specs.Closing.{reply_of};
 ghost use Rattle.phase_play.specs.Plays.{PlaysCasting};
 ghost use Rattle.std.specs.Prelude.{◌≡◌, ◌≤◌, All, IfOk, length, map};
 
-use crate::room_for;
 use ballot_record::BallotList;
 use body_store::Closed;
 use outside_io::{Memory, Turns};
-use phase_insert::{CastPhase, Final, run_cast};
+use phase_insert::{CastPhase, Final};
+use phase_kind::run_waiting;
 use std::alloc::Global;
 use std::thread::Threads;
 
-/// The plan of a casting phase: as much room for each list as it has ballots.
-fn plan_of_ballots(alloc: Global, work: &[BallotList]) -> Result<Vec<u32>, Memory>
-    ensures { IfOk result (λ plan. plan.items ≡ map (λ list. length list.ballots) work.now) }
-{
-    let mut plan = Vec::with_capacity(alloc, work.len())?;
-    for list in work {
-        plan.push(room_for(list.len())?)?;
-    }
-    Ok(plan)
-}
-
 /// Plays a casting phase: the ballots that wait in lists are cast, one tabulator for each list, all at once. It gives the
-/// store after the phase and a reply to each ballot. The lists are given up as soon as all is cast, so that their memory
-/// is there for the store.
+/// store after the phase and a reply to each ballot. Each ballot stands once: its tabulator casts it from the list where it
+/// waits.
 pub fn play_casting<R: Threads + Sync, T: Turns>(
     rt: &R,
     alloc: Global,
@@ -41,14 +30,11 @@ pub fn play_casting<R: Threads + Sync, T: Turns>(
         (map (λ list. list.ballots) work.items)
         (map (λ list. map reply_of list.items) played.1.items) played.0.ballots) }
 {
-    let lists = work.as_slice();
-    let plan = plan_of_ballots(alloc, lists)?;
-    let (phase, mut tabs) = match CastPhase::begin(alloc, closed, &plan) {
+    let (phase, mut tabs) = match CastPhase::begin_with(alloc, closed, work) {
         Ok(begun) => begun,
         Err((_, memory)) => return Err(memory),
     };
-    run_cast(rt, &phase, &mut tabs, lists, turns);
-    drop(work);
+    run_waiting(rt, &phase, &mut tabs, turns);
     match phase.close(alloc, tabs) {
         Ok(ended) => Ok(ended),
         Err((_, memory)) => Err(memory),

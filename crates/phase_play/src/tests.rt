@@ -104,7 +104,7 @@ fn two_withdrawn<R: Threads + Sync + Abort>(
         Vec::from_slice(alloc, &[22, 5])?,
         Vec::from_slice(alloc, &[9, 9])?,
     ]?;
-    let (two, replies) = play_withdrawing(rt, alloc, four, &gone, &NoTurns)?;
+    let (two, replies) = play_withdrawing(rt, alloc, four, gone, &NoTurns)?;
     holds(rt, &two, &[(4, 1), (5, 14)]);
     same(rt, &replies, &[&[Withdrawn, Absent], &[Withdrawn, Gone]]);
     Ok(())

@@ -1,4 +1,4 @@
-use Rattle.std.proofs.Common.{All, Global, List, Vec, ℕ, map, subst, sym}
+use Rattle.std.proofs.Common.{◌^◌, All, Global, List, Vec, ℕ, map, subst, sym}
 use Rattle.std.proofs.lemmas.Simd.{map-map}
 use Rattle.ballot_record.specs.BallotList.{ListedBallots}
 use Rattle.body_store.specs.Contents.{Contents}
@@ -23,7 +23,8 @@ goes bits b = part_of bits b.number
 
 pub play_several-requires-clause-within : goal.play_several-requires-clause-within
 play_several-requires-clause-within g c κs within =
-    subst (λ (n : ℕ). All (λ list. GoesWithin (goes c.args.spread.now) n (ballots list)) c.args.work.now) (sym c.requires.parts) c.all_go_within.ensures
+    subst (λ (n : ℕ). All (λ list. GoesWithin (goes c.args.spread.now) n (ballots list)) c.args.work.items) (sym c.requires.parts)
+    (subst (λ (work : List (ListedBallots)). All (λ list. GoesWithin (goes c.args.spread.now) (2 ^ c.args.spread.now) (ballots list)) work) c.deref.ensures.value c.all_go_within.ensures)
 
 pub play_several-requires-clause-is_of : goal.play_several-requires-clause-is_of
 play_several-requires-clause-is_of g c κs within = c.requires.elections
@@ -33,16 +34,16 @@ play_several-requires-clause-finals g c κs within base trays finals after close
 
 pub returns-clause-elections : goal.returns-clause-elections
 returns-clause-elections g c =
-    elections_stay ClosesAs (goes c.args.spread.now) c.args.stores.items (map ballots c.args.work.now) c.in_ok-after.after.items (map finals c.in_ok-after.replies.items) c.in_ok-after.ensures
+    elections_stay ClosesAs (goes c.args.spread.now) c.args.stores.items (map ballots c.args.work.items) c.in_ok-after.after.items (map finals c.in_ok-after.replies.items) c.in_ok-after.ensures
 
 pub returns-clause-stored : goal.returns-clause-stored
 returns-clause-stored g c =
-    all_stored ClosesAs (goes c.args.spread.now) c.args.stores.items (map ballots c.args.work.now) c.in_ok-after.after.items (map finals c.in_ok-after.replies.items) c.in_ok-after.ensures
+    all_stored ClosesAs (goes c.args.spread.now) c.args.stores.items (map ballots c.args.work.items) c.in_ok-after.after.items (map finals c.in_ok-after.replies.items) c.in_ok-after.ensures
 
 pub returns-clause-plays : goal.returns-clause-plays
 returns-clause-plays g c e own =
     let before = map (λ (store : Contents). store.ballots) c.args.stores.items in
     let after = map (λ (store : Contents). store.ballots) c.in_ok-after.after.items in
-    let work = map ballots c.args.work.now in
+    let work = map ballots c.args.work.items in
     subst (λ (replies : List (List CastReply)). PlaysCastingInParts c.args.spread.now e before work replies after) (map-map (map reply_of) finals c.in_ok-after.replies.items)
     (casts_in_parts c.args.spread.now e c.args.stores.items work c.in_ok-after.after.items (map finals c.in_ok-after.replies.items) own c.in_ok-after.ensures)

@@ -4,14 +4,14 @@ use Rattle.part_play.proofs.Stages.{all_belong, all_closed, teams_long, zip_maps
 use Rattle.part_play.proofs.several.handled.Goals as goal
 use Rattle.phase_kind.specs.Phase.{Phase}
 use Rattle.phase_kind.specs.Table.{IsTurned}
-use Rattle.phase_kind.specs.Team.{GoesWithin, HasHandled, HasRoom, IsTeam}
+use Rattle.phase_kind.specs.Team.{AreNamed, HaveFinished, IsTeam}
 use Rattle.phase_kind.specs.Worker.{WorkerView}
 use Rattle.step_core.proofs.Sets.{All-from_map}
 
 pub run_several-requires-clause-as_many : goal.run_several-requires-clause-as_many
 run_several-requires-clause-as_many g c κs within =
     let W = WorkerView g.row.K-Sight.Denot g.row.K-Item.Denot g.row.K-Reply.Denot in
-    omega (arith, ap length c.deref_mut.ensures.value, c.requires.ready.as_many, length-map c.args.teams.items (λ (team : Vec W Global). team.items), length-map c.args.work.now g.K.Kind.items)
+    omega (arith, ap length c.deref_mut.ensures.value, c.requires.ready.as_many, length-map c.args.teams.items (λ (team : Vec W Global). team.items), length-map c.args.orders.now (λ (order : Vec ℕ Global). order.items))
 
 pub run_several-requires-clause-belong : goal.run_several-requires-clause-belong
 run_several-requires-clause-belong g c κs within =
@@ -21,35 +21,26 @@ run_several-requires-clause-belong g c κs within =
     (subst (λ (phases : List Phase). All (λ (team : Vec W Global). IsTeam phases team.items) c.args.teams.items) (sym c.deref.ensures.value)
     (All-from_map (IsTeam c.args.phases.items) workers c.args.teams.items c.requires.ready.belong))
 
-pub run_several-requires-clause-within : goal.run_several-requires-clause-within
-run_several-requires-clause-within g c κs within =
-    let goes : g.row.K-Item.Denot → ℕ = λ x. g.S.Spread.to c.args.spread.now (g.K.Kind.number x) in
-    subst (λ (phases : List Phase). All (λ list. GoesWithin goes (length phases) (g.K.Kind.items list)) c.args.work.now) (sym c.deref.ensures.value) c.requires.within
-
-pub run_several-requires-clause-room : goal.run_several-requires-clause-room
-run_several-requires-clause-room g c κs within =
-    let goes : g.row.K-Item.Denot → ℕ = λ x. g.S.Spread.to c.args.spread.now (g.K.Kind.number x) in
+pub run_several-requires-clause-named : goal.run_several-requires-clause-named
+run_several-requires-clause-named g c κs within =
     let W = WorkerView g.row.K-Sight.Denot g.row.K-Item.Denot g.row.K-Reply.Denot in
     let workers : Vec W Global → List W = λ team. team.items in
-    let HasPlace : List W × List g.row.K-Item.Denot → Type 0 = λ at. HasRoom goes at.1 at.0 in
-    subst (λ (teams : List (Vec W Global)). All (λ at. HasRoom goes (g.K.Kind.items at.1) at.0.items) (zip teams c.args.work.now)) (sym c.deref_mut.ensures.value)
-    (All-from_map HasPlace (λ at. (workers at.0, g.K.Kind.items at.1)) (zip c.args.teams.items c.args.work.now)
-    (subst (All HasPlace) (zip_maps workers g.K.Kind.items c.args.teams.items c.args.work.now) c.requires.ready.room))
-
-pub run_several-requires-clause-is_of : goal.run_several-requires-clause-is_of
-run_several-requires-clause-is_of g c κs within =
-    subst (λ (phases : List Phase). All (λ list. All (λ phase. g.K.Kind.is_of phase.base list) phases) c.args.work.now) (sym c.deref.ensures.value) c.requires.is_of
+    let order_in : Vec ℕ Global → List ℕ = λ order. order.items in
+    let Named : List W × List ℕ → Type 0 = λ at. AreNamed at.1 at.0 in
+    subst (λ (teams : List (Vec W Global)). All (λ at. AreNamed at.1.items at.0.items) (zip teams c.args.orders.now)) (sym c.deref_mut.ensures.value)
+    (All-from_map Named (λ at. (workers at.0, order_in at.1)) (zip c.args.teams.items c.args.orders.now)
+    (subst (All Named) (zip_maps workers order_in c.args.teams.items c.args.orders.now) c.requires.ready.named))
 
 pub turned-requires : goal.turned-requires
 turned-requires g c =
-    let goes : g.row.K-Item.Denot → ℕ = λ x. g.S.Spread.to c.args.spread.now (g.K.Kind.number x) in
     let W = WorkerView g.row.K-Sight.Denot g.row.K-Item.Denot g.row.K-Reply.Denot in
     let workers : Vec W Global → List W = λ team. team.items in
     let held = c.args.teams in
+    let phases = c.args.phases.items in
     let after = c.run_several.new.teams in
     let whole : take held.len (after ++ drop (length after) held.items) ≡ after = take_at after (drop (length after) held.items) held.len (omega (arith, c.run_several.ensures.as_many, c.deref_mut.ensures.len, held.ok)) in
     subst (All (λ (team : Vec W Global). length team.items ≡ c.len-places.result)) (sym whole)
-    (λ k d below. omega (arith, teams_long goes workers g.K.Kind.items c.deref.result.now after c.run_several.ensures.belong k d below, ap length c.deref.ensures.value, c.len-places.ensures, c.args.phases.ok.0))
+    (λ k d below. omega (arith, teams_long workers c.deref.result.now after c.run_several.ensures.belong k d below, ap length c.deref.ensures.value, c.len-places.ensures, c.args.phases.ok.0))
 
 pub closed-requires-clause-as_many : goal.closed-requires-clause-as_many
 closed-requires-clause-as_many g c κs within =
@@ -58,7 +49,6 @@ closed-requires-clause-as_many g c κs within =
 
 pub closed-requires-clause-all : goal.closed-requires-clause-all
 closed-requires-clause-all g c κs within =
-    let goes : g.row.K-Item.Denot → ℕ = λ x. g.S.Spread.to c.args.spread.now (g.K.Kind.number x) in
     let W = WorkerView g.row.K-Sight.Denot g.row.K-Item.Denot g.row.K-Reply.Denot in
     let workers : Vec W Global → List W = λ team. team.items in
     let held = c.args.teams in
@@ -68,15 +58,14 @@ closed-requires-clause-all g c κs within =
     let belong = subst (λ (p : List Phase). All (λ (team : Vec W Global). IsTeam p team.items) after) c.deref.ensures.value c.run_several.ensures.belong in
     let turned = subst (λ (n : ℕ). IsTurned n (map workers after) (map workers c.in_ok-columns.columns.items)) {x = c.len-places.result} {y = length phases} (c.len-places.ensures ∙ c.args.phases.ok.0)
     (subst (λ (teams : List (Vec W Global)). IsTurned c.len-places.result (map workers teams) (map workers c.in_ok-columns.columns.items)) whole c.in_ok-columns.ensures) in
-    let many : length (map g.K.Kind.items c.args.work.now) ≡ length after = omega (arith, c.requires.ready.as_many, length-map held.items workers, ap length c.deref_mut.ensures.value, c.run_several.ensures.as_many) in
-    all_belong goes workers g.K.Kind.items workers phases after c.in_ok-columns.columns.items belong turned
+    let many : length (map (λ (order : Vec ℕ Global). order.items) c.args.orders.now) ≡ length after = omega (arith, c.requires.ready.as_many, length-map held.items workers, ap length c.deref_mut.ensures.value, c.run_several.ensures.as_many) in
+    all_belong workers workers phases after c.in_ok-columns.columns.items belong c.run_several.ensures.idle turned
     (subst (λ (n : ℕ). All (λ (phase : Phase). phase.words.seats ≡ n) phases) many c.requires.ready.seats)
 
 pub returns : goal.returns
-returns g c =
-    let goes : g.row.K-Item.Denot → ℕ = λ x. g.S.Spread.to c.args.spread.now (g.K.Kind.number x) in
-    let W = WorkerView g.row.K-Sight.Denot g.row.K-Item.Denot g.row.K-Reply.Denot in
+returns g c goes work have =
     let F = g.row.K-Final.Denot in
+    let W = WorkerView g.row.K-Sight.Denot g.row.K-Item.Denot g.row.K-Reply.Denot in
     let workers : Vec W Global → List W = λ team. team.items in
     let held = c.args.teams in
     let phases = c.args.phases.items in
@@ -84,7 +73,7 @@ returns g c =
     let whole : take held.len (after ++ drop (length after) held.items) ≡ after = take_at after (drop (length after) held.items) held.len (omega (arith, c.run_several.ensures.as_many, c.deref_mut.ensures.len, held.ok)) in
     let turned = subst (λ (n : ℕ). IsTurned n (map workers after) (map workers c.in_ok-columns.columns.items)) {x = c.len-places.result} {y = length phases} (c.len-places.ensures ∙ c.args.phases.ok.0)
     (subst (λ (teams : List (Vec W Global)). IsTurned c.len-places.result (map workers teams) (map workers c.in_ok-columns.columns.items)) whole c.in_ok-columns.ensures) in
-    let handled = subst (λ (teams : List (Vec W Global)). All (λ at. HasHandled g.K.Kind.rests goes at.0.items (g.K.Kind.items at.1.0) at.1.1.items) (zip teams (zip c.args.work.now after))) c.deref_mut.ensures.value c.run_several.ensures.handled in
-    all_closed g.K.Kind.closes goes workers g.K.Kind.items g.K.Kind.rests phases held.items after c.args.work.now (map workers c.in_ok-columns.columns.items) c.in_ok-stores.stores.items
+    let finished = subst (λ (teams : List (Vec W Global)). All (λ at. HaveFinished g.K.Kind.rests at.0.items at.1.items) (zip teams after)) c.deref_mut.ensures.value c.run_several.ensures.finished in
+    all_closed g.K.Kind.closes goes workers g.K.Kind.rests phases held.items after (map (λ (order : Vec ℕ Global). order.items) c.args.orders.now) work (map workers c.in_ok-columns.columns.items) c.in_ok-stores.stores.items
     (map (λ (finals : Vec (Vec F Global) Global). map (λ (list : Vec F Global). list.items) finals.items) c.in_ok-stores.told.items)
-    c.requires.ready (omega (arith, c.run_several.ensures.as_many, ap length c.deref_mut.ensures.value)) handled turned c.in_ok-stores.ensures
+    c.requires.ready have (omega (arith, c.run_several.ensures.as_many, ap length c.deref_mut.ensures.value)) finished turned c.in_ok-stores.ensures

@@ -1,4 +1,4 @@
-use Rattle.std.proofs.Common.{◌∙◌, All, Global, List, Vec, ℕ, ap, length, map, subst, sym}
+use Rattle.std.proofs.Common.{◌^◌, ◌∙◌, All, Global, List, Vec, ℕ, ap, length, map, subst, sym}
 use Rattle.std.proofs.lemmas.Simd.{map-map}
 use Rattle.body_store.specs.Contents.{Contents}
 use Rattle.part_play.proofs.Playing.{all_stored, elections_stay, withdraws_in_parts}
@@ -24,7 +24,8 @@ goes bits number = part_of bits number
 
 pub play_several-requires-clause-within : goal.play_several-requires-clause-within
 play_several-requires-clause-within g c κs within =
-    subst (λ (n : ℕ). All (λ list. GoesWithin (goes c.args.spread.now) n (numbers list)) c.args.work.now) (sym c.requires.parts) c.all_go_within.ensures
+    subst (λ (n : ℕ). All (λ list. GoesWithin (goes c.args.spread.now) n (numbers list)) c.args.work.items) (sym c.requires.parts)
+    (subst (λ (work : List (Vec ℕ Global)). All (λ list. GoesWithin (goes c.args.spread.now) (2 ^ c.args.spread.now) (numbers list)) work) c.deref.ensures.value c.all_go_within.ensures)
 
 pub play_several-requires-clause-is_of : goal.play_several-requires-clause-is_of
 play_several-requires-clause-is_of g c κs within k d below i e there = tt
@@ -35,16 +36,16 @@ play_several-requires-clause-finals g c κs within base trays finals after close
 
 pub returns-clause-elections : goal.returns-clause-elections
 returns-clause-elections g c =
-    elections_stay ClosesAs (goes c.args.spread.now) c.args.stores.items (map numbers c.args.work.now) c.in_ok-after.after.items (map answers c.in_ok-after.replies.items) c.in_ok-after.ensures
+    elections_stay ClosesAs (goes c.args.spread.now) c.args.stores.items (map numbers c.args.work.items) c.in_ok-after.after.items (map answers c.in_ok-after.replies.items) c.in_ok-after.ensures
 
 pub returns-clause-stored : goal.returns-clause-stored
 returns-clause-stored g c =
-    all_stored ClosesAs (goes c.args.spread.now) c.args.stores.items (map numbers c.args.work.now) c.in_ok-after.after.items (map answers c.in_ok-after.replies.items) c.in_ok-after.ensures
+    all_stored ClosesAs (goes c.args.spread.now) c.args.stores.items (map numbers c.args.work.items) c.in_ok-after.after.items (map answers c.in_ok-after.replies.items) c.in_ok-after.ensures
 
 pub returns-clause-plays : goal.returns-clause-plays
 returns-clause-plays g c =
     let before = map (λ (store : Contents). store.ballots) c.args.stores.items in
     let after = map (λ (store : Contents). store.ballots) c.in_ok-after.after.items in
-    let work = map numbers c.args.work.now in
+    let work = map numbers c.args.work.items in
     subst (λ (replies : List (List outcome.WithdrawReply)). PlaysWithdrawingInParts c.args.spread.now before work replies after) (map-map (map reply_of) answers c.in_ok-after.replies.items)
     (withdraws_in_parts c.args.spread.now c.args.stores.items work c.in_ok-after.after.items (map answers c.in_ok-after.replies.items) c.in_ok-after.ensures)

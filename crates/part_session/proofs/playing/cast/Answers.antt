@@ -23,7 +23,7 @@ of_parts-requires-clause-parts g c =
     subst (λ n. AreParts n (sets_of played.after.items)) (sym c.bits-bits.ensures.bits)
     (parts_cast c.args.store stores.result.items stores.ensures.sets stores.ensures.stores stores.ensures.parted
     played.after.items played.ensures.elections played.ensures.stored c.new-spread.result
-    (c.new-spread.ensures ∙ c.bits-bits.ensures.bits) (map given c.args.lists.now)
+    (c.new-spread.ensures ∙ c.bits-bits.ensures.bits) (map given c.args.lists.items)
     (map (λ v. map reply_of (told v)) played.finals.items) c.parts_keep_their_own.ensures.casting played.ensures.plays)
 
 pub of_parts-requires-clause-stores : goal.of_parts-requires-clause-stores
@@ -47,7 +47,7 @@ returns-clause-closes g c =
     let stores = c.into_parts-stores in
     let played = c.in_ok-after in
     let words = map (λ v. map (λ x. cast_text (reply_of x)) (told v)) played.finals.items in
-    let work = map given c.args.lists.now in
+    let work = map given c.args.lists.items in
     subst (λ (sets : List (List Ballot)). ClosesCastingInParts store.bits store.election (joined store.sets) work (closing words (joined sets)))
     (sym (ap (λ store. store.sets) c.of_parts.ensures.store))
     (cast_closes store stores.result.items stores.ensures.sets stores.ensures.stores stores.ensures.parted

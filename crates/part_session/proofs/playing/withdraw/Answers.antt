@@ -22,7 +22,7 @@ of_parts-requires-clause-parts g c =
     subst (λ n. AreParts n (sets_of played.after.items)) (sym c.bits-bits.ensures.bits)
     (parts_withdrawn c.args.store stores.result.items stores.ensures.sets stores.ensures.stores stores.ensures.parted
     played.after.items played.ensures.elections played.ensures.stored c.new-spread.result
-    (c.new-spread.ensures ∙ c.bits-bits.ensures.bits) (map given c.args.lists.now)
+    (c.new-spread.ensures ∙ c.bits-bits.ensures.bits) (map given c.args.lists.items)
     (map (λ v. map reply_of (told v)) played.answers.items) c.parts_keep_their_own.ensures.withdrawing played.ensures.plays)
 
 pub of_parts-requires-clause-stores : goal.of_parts-requires-clause-stores
@@ -46,7 +46,7 @@ returns-clause-closes g c =
     let stores = c.into_parts-stores in
     let played = c.in_ok-after in
     let words = map (λ v. map (λ x. withdraw_text (reply_of x)) (told v)) played.answers.items in
-    let work = map given c.args.lists.now in
+    let work = map given c.args.lists.items in
     subst (λ (sets : List (List Ballot)). ClosesWithdrawingInParts store.bits (joined store.sets) work (closing words (joined sets)))
     (sym (ap (λ store. store.sets) c.of_parts.ensures.store))
     (withdrawal_closes store stores.result.items stores.ensures.sets stores.ensures.stores stores.ensures.parted

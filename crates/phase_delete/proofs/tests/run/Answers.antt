@@ -1,4 +1,4 @@
-use Rattle.std.proofs.Common.{◌≡◌, ◌≤◌, ◌∙◌, ◌++◌, All, List, ap, arith, drop, length, map, refl, subst, sym, take}
+use Rattle.std.proofs.Common.{◌≡◌, ◌≤◌, ◌∙◌, ◌++◌, [], All, List, ap, arith, drop, length, map, refl, subst, sym, take}
 use Rattle.std.proofs.lemmas.List.{length-map, take_at}
 use Rattle.std.proofs.lemmas.List.Elements.{All-map}
 use Rattle.std.specs.List.{zip}
@@ -11,6 +11,10 @@ use Rattle.word_rule.proofs.AtPlaces.{planned_room}
 pub run-requires-clause-belong : goal.run-requires-clause-belong
 run-requires-clause-belong g c κs bounds =
     subst (All (λ (tab : WithdrawerView). tab.phase ≡ c.in-Ok.phase)) (sym (c.deref_mut.ensures.value ∙ c.in-Ok.ensures.workers)) (All-map (λ (tab : WithdrawerView). tab.phase ≡ c.in-Ok.phase) (new_worker fresh_view c.in-Ok.phase) c.deref.result.now (λ k d within. refl))
+
+pub run-requires-clause-idle : goal.run-requires-clause-idle
+run-requires-clause-idle g c κs bounds =
+    subst (All (λ (tab : WithdrawerView). tab.waiting ≡ [])) (sym (c.deref_mut.ensures.value ∙ c.in-Ok.ensures.workers)) (All-map (λ (tab : WithdrawerView). tab.waiting ≡ []) (new_worker fresh_view c.in-Ok.phase) c.deref.result.now (λ k d within. refl))
 
 pub run-requires-clause-room : goal.run-requires-clause-room
 run-requires-clause-room g c κs bounds =
@@ -27,4 +31,5 @@ close-requires-clause-all g c κs =
     subst (λ (tabs : List WithdrawerView). AreAll c.in-Ok.phase tabs) (sym whole) (record {
       all = c.run.ensures.as_many ∙ ap length (c.deref_mut.ensures.value ∙ c.in-Ok.ensures.workers) ∙ length-map c.deref.result.now (new_worker fresh_view c.in-Ok.phase) ∙ sym c.in-Ok.ensures.seats;
       belong = c.run.ensures.belong;
+      idle = c.run.ensures.idle;
     })

@@ -6,7 +6,7 @@ use Rattle.phase_gate.specs.Work.{phase_of}
 use Rattle.phase_gate.specs.declared.replies.Replies.TheVariants.{Cast, Withdrawn, Found}
 use Rattle.phase_insert.specs.Closing as casting
 use Rattle.step_core.specs.WithdrawCore as withdrawing
-use Rattle.store_spec.specs.Session.{ClosesFinding, ClosesWithdrawing, Phase, closing, of_one_store}
+use Rattle.store_spec.specs.Session.{ClosesFinding, Phase, closing, of_one_store}
 
 pub returns-in_ok-after-in-Casting-clause-closes : goal.returns-in_ok-after-in-Casting-clause-closes
 returns-in_ok-after-in-Casting-clause-closes g c =
@@ -24,10 +24,8 @@ returns-in_ok-after-in-Withdrawing-clause-closes g c =
     let effect = closing (words_of (Withdrawn played.answers)) played.after.ballots in
     subst (λ (p : Phase). ClosesBy (of_one_store store.election) store.ballots p effect)
     (sym (ap phase_of c.in-Withdrawing.is))
-    (subst (λ (lists : List (Vec ℕ Global)). ClosesWithdrawing store.ballots (map (λ list. list.items) lists) effect)
-    c.deref.ensures.value
-    (closes_withdrawing store.ballots played.after.ballots (map (λ list. list.items) c.deref.result.now)
-    withdrawing.reply_of (λ list. list.items) played.answers.items played.ensures.plays))
+    (closes_withdrawing store.ballots played.after.ballots (map (λ list. list.items) c.in-Withdrawing.lists.items)
+    withdrawing.reply_of (λ list. list.items) played.answers.items played.ensures.plays)
 
 pub returns-in_ok-found-in-Finding-clause-closes : goal.returns-in_ok-found-in-Finding-clause-closes
 returns-in_ok-found-in-Finding-clause-closes g c =
@@ -35,6 +33,6 @@ returns-in_ok-found-in-Finding-clause-closes g c =
     let effect = closing (words_of (Found c.in_ok-found-in-Finding.found)) store.ballots in
     subst (λ (p : Phase). ClosesBy (of_one_store store.election) store.ballots p effect) (sym (ap phase_of c.in-Finding.is))
     (subst (λ (lists : List (Vec ℕ Global)). ClosesFinding store.ballots (map (λ list. list.items) lists) effect)
-    c.deref-in-Finding.ensures.value
-    (closes_finding store.ballots (map (λ list. list.items) c.deref-in-Finding.result.now) (λ list. list.items)
+    c.deref.ensures.value
+    (closes_finding store.ballots (map (λ list. list.items) c.deref.result.now) (λ list. list.items)
     c.in_ok-found-in-Finding.found.items c.in_ok-found-in-Finding.ensures))
