@@ -1,11 +1,13 @@
 #!/usr/bin/env python3
 """Measures how the cost of a program grows, and how much memory it takes, beside a peer.
 
-    growth.py BINARY PEER [--count]
+    growth.py BINARY PEER [--count] [--out NAME.json]
 
-For 8,000 and 32,768 ballots of each kind of work: instructions by callgrind with --count, else processor time (the
-least of five runs), and peak memory. The last column is the growth of BINARY, that of PEER, and one by the other.
+For 1,000, 8,000 and 32,768 ballots of each kind of work, or 1,000, 4,000 and 8,000 where all homes are equal:
+instructions by callgrind with --count, else processor time (the least of five runs), and peak memory. The last columns
+are the growth of BINARY between the last two sizes, that of PEER, and one by the other. NAME.json gets all of it.
 """
+import argparse
 import json
 import os
 import random
@@ -15,7 +17,8 @@ import sys
 import tempfile
 from pathlib import Path
 
-SIZES = (8_000, 32_768)
+SIZES = (1_000, 8_000, 32_768)
+CROWDED = (1_000, 4_000, 8_000)  # where all homes are equal
 
 
 def election(contests, bits, limit=32_768):
@@ -83,13 +86,13 @@ WORKS = [
     Work("one export, 24 contests of 64 choices", on_full(lambda numbers: ["export"]), contests=24),
     Work("audit, 24 contests of 64 choices",
          lambda cast, _: (["audit"], phase("cast", cast, 1) + ["checkpoint"], []), contests=24),
-    Work("casts into 8 parts, 64 tabulators", in_eight, parts=8),
+    Work("8 parts, casts into each", in_eight, parts=8),
 ]
 
 
 def run(room, program, words, script, counted):
     """Runs a program; answers millions of instructions or seconds of processor time, and its peak memory in MiB."""
-    before = ["valgrind", "--tool=callgrind", "--callgrind-out-file=/dev/null"] if counted else []
+    before = ["valgrind", "--tool=callgrind", "--callgrind-out-file=/dev/null", "--fair-sched=yes"] if counted else []
     (room / "script").write_bytes("".join(line + "\n" for line in script).encode())
     files = [str(room / name) for name in ("script", "out", "told")]
     done = subprocess.run([str(room / "runner"), "600", *files, "--", *before, program, str(room / "medium"),
@@ -108,7 +111,7 @@ def cost(room, program, work, count, counted):
     words, before, script = work.make(cast, [str(number) for number, _ in lines])
     (room / "election").write_text(json.dumps(election(work.contests, work.bits)))
     times, peak = [], 0
-    for _ in range(1 if counted else 5):
+    for with_valgrind in (False, True) if counted else (False,) * 5:
         (room / "medium").unlink(missing_ok=True)
         if words != ["build"]:
             run(room, program, ["init"], [], False)
@@ -116,27 +119,52 @@ def cost(room, program, work, count, counted):
                 shutil.copyfile(room / "medium", room / f"part{k}")
             if before:
                 run(room, program, ["session"], before, False)
-        time, memory = run(room, program, words, script, counted)
-        times.append(time)
+        time, memory = run(room, program, words, script, with_valgrind)
+        if with_valgrind == counted:
+            times.append(time)
         peak = max(peak, memory)
     return min(times), peak
 
 
+def measured(room, work, programs, counted):
+    """A work's cost by each program for each number of ballots."""
+    sizes = SIZES if work.bits else CROWDED
+    found = {"work": work.name, "ballots": sizes}
+    for name, program in programs.items():
+        costs = [cost(room, program, work, size, counted) for size in sizes]
+        found[name] = [round(spent, 4) for spent, _ in costs]
+        found[name + "_mib"] = [round(peak, 2) for _, peak in costs]
+    return found
+
+
+def line(found):
+    """Its line in the table that is printed."""
+    grown, peers = (found[name][-1] / found[name][-2] for name in ("program", "peer"))
+    last = found["program"][-1] / found["peer"][-1]
+    figures = [f for name in ("program", "peer") for f in [*found[name], found[name + "_mib"][-1]]]
+    return " | ".join([found["work"]] + [f"{figure:.3g}" for figure in (*figures, last, grown, peers, grown / peers)])
+
+
 def main():
-    program, peer = (os.path.abspath(path) for path in sys.argv[1:3])
-    counted = "--count" in sys.argv
-    unit = "million instructions" if counted else "seconds"
-    heads = ["Work", f"{unit}, 8,000", "32,768", "MiB", "peer, 8,000", "32,768", "MiB", "ratio, 32,768", "growth"]
+    wanted = argparse.ArgumentParser(description=__doc__, formatter_class=argparse.RawDescriptionHelpFormatter)
+    wanted.add_argument("program")
+    wanted.add_argument("peer")
+    wanted.add_argument("--count", action="store_true", help="instructions, by callgrind")
+    wanted.add_argument("--out", help="a JSON file for the costs")
+    given = wanted.parse_args()
+    programs = {"program": os.path.abspath(given.program), "peer": os.path.abspath(given.peer)}
+    unit = "million instructions" if given.count else "seconds"
+    heads = ["Work", f"{unit}, few", "more", "most", "MiB", "peer, few", "more", "most", "MiB", "ratio", "growth"]
     print("| " + " | ".join([*heads, "peer's", "by it"]) + " |\n|" + "---|" * (len(heads) + 2))
+    works = []
     with tempfile.TemporaryDirectory(dir="/dev/shm") as folder:
         source = Path(__file__).resolve().parent / "tools/runner.c"
         subprocess.run(["cc", "-O2", "-static", "-o", f"{folder}/runner", source], check=True)
         for work in WORKS:
-            few, many = (cost(Path(folder), program, work, size, counted) for size in SIZES)
-            peer_few, peer_many = (cost(Path(folder), peer, work, size, counted) for size in SIZES)
-            grown, peers = many[0] / few[0], peer_many[0] / peer_few[0]
-            figures = [few[0], *many, peer_few[0], *peer_many, many[0] / peer_many[0], grown, peers, grown / peers]
-            print("| " + " | ".join([work.name] + [f"{figure:.3g}" for figure in figures]) + " |", flush=True)
+            works.append(measured(Path(folder), work, programs, given.count))
+            print("| " + line(works[-1]) + " |", flush=True)
+    if given.out:
+        Path(given.out).write_text(json.dumps({"unit": unit, "works": works}, indent=1))
 
 
 main()

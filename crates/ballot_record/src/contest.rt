@@ -1,3 +1,5 @@
+//! What a contest of an election is.
+
 ghost use Rattle.std.specs.Prelude.{◌↔◌, IsTrue};
 ghost use Rattle.store_spec.specs.Election.{IsContestUpTo};
 

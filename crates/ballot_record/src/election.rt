@@ -1,3 +1,5 @@
+//! An election: its parts, their limits, and the numbers that its store and its medium are laid out by.
+
 ghost use Rattle.std.specs.Prelude.{◌≡◌, ℕ, ◌+◌, ◌-◌, ◌^◌, ◌<◌, ◌≤◌, ◌++◌, ◌↔◌, length, replicate, All, Some, IsTrue, IsSome, IfSome, slice_get};
 ghost use Rattle.store_spec.specs.Election.{IsContest, IsContestUpTo, IsStyle, HasVersionOne, IsElection, as_version_one, choices_of, choices_on, is_on_style, cell_count, most_cells, most_choices, example};
 ghost use Rattle.ballot_record.specs.Contest.{contest_of, contests_of, no_contest};

@@ -1,3 +1,5 @@
+//! Why a line gives no ballot.
+
 use std::error::Error;
 use std::fmt;
 

@@ -1,3 +1,5 @@
+//! The reading of a ballot's line.
+
 ghost use Rattle.std.specs.Prelude.{◌≡◌, ℕ, ◌^◌, ◌<◌, ◌≤◌, ◌↔◌, option_map, option_copied, replicate, Some, None, Ok, Err, IfOk, OnOk};
 ghost use Rattle.store_spec.specs.BallotLine.{IsRecordLine, Spells, IsLineOf};
 ghost use Rattle.ballot_record.specs.LineReading.{digits_at, four_at, eight_at, past_byte, choices_at, group_at, groups_of, line_of};
@@ -121,7 +123,7 @@ fn take_digits(bytes: &[u8], before: u64, limit: u64) -> Option<(u64, &[u8])>
     }
 }
 
-/// The number from 1 to the limit that stands first, and the bytes after it, where most numbers have one digit.
+/// The number from 1 to the limit that stands first, and the bytes after it, where most numbers have one digit or two.
 #[tactic(auto, unfolding(crate::specs::LineReading::digits_at))]
 fn take_short(bytes: &[u8], limit: u64) -> Option<(u64, &[u8])>
     requires { 9 ≤ limit }
@@ -131,9 +133,16 @@ fn take_short(bytes: &[u8], limit: u64) -> Option<(u64, &[u8])>
         return None;
     };
     let value = u64::from(*first - b'0');
-    match rest {
-        [b'0'..=b'9', ..] => take_digits(rest, value, limit),
-        _ => Some((value, rest)),
+    let [second @ b'0'..=b'9', after @ ..] = rest else {
+        return Some((value, rest));
+    };
+    let both = value * 10 + u64::from(*second - b'0');
+    if both > limit {
+        return None;
+    }
+    match after {
+        [b'0'..=b'9', ..] => take_digits(after, both, limit),
+        _ => Some((both, after)),
     }
 }
 

@@ -1,3 +1,5 @@
+//! The writing of a ballot's line.
+
 ghost use Rattle.std.specs.Prelude.{◌≡◌, [], ◌∷◌, ◌++◌, ◌^◌, ◌<◌, if◌then◌else◌, length, map, take, decimal, OnErr, OnOk};
 ghost use Rattle.std.specs.List.{join_with_byte};
 ghost use Rattle.store_spec.specs.Ballot.{Ballot, IsValid};
@@ -13,11 +15,22 @@ use crate::{Election, MAX_CELL_BYTES, Record};
 use itoa::Buffer;
 use outside_io::Memory;
 
-/// Appends a number in decimal digits.
+/// Appends a number in decimal digits. Most have one digit or two, as choices and styles have.
+#[tactic(auto, using(std::proofs::lemmas::Fmt::decimal_digit, itoa::proofs::Decimal::decimal_two))]
+#[inline(always)]
 fn put_number(number: u64, out: &mut Vec<u8>) -> Result<(), Memory>
     ensures text { OnOk result (out.new.items ≡ out.old.items ++ decimal number) }
     ensures front { OnErr result (IsFrontOf out.old.items out.new.items) }
 {
+    if number < 10 {
+        out.push(b'0' + number as u8)?;
+        return Ok(());
+    }
+    if number < 100 {
+        let both = number as u8;
+        out.extend_from_slice(&[b'0' + both / 10, b'0' + both % 10])?;
+        return Ok(());
+    }
     let mut digits = Buffer::new();
     out.extend_from_slice(digits.format(number).as_bytes())?;
     Ok(())

@@ -1,3 +1,5 @@
+//! One ballot while it is handled.
+
 ghost use Rattle.std.specs.Prelude.{◌≡◌, ℕ, ◌+◌, ◌-◌, ◌^◌, ◌<◌, ◌≤◌, ◌↔◌, length, replicate, IsTrue, slice_index};
 ghost use Rattle.store_spec.specs.Election.{choices_on};
 ghost use Rattle.store_spec.specs.Ballot.{IsValid, HasMarks};

@@ -1,3 +1,5 @@
+//! The words of a run, and the command that they form.
+
 ghost use Rattle.std.specs.List.{list_any};
 ghost use Rattle.std.specs.Prelude.{◌≡◌, ◌↔◌, [], IsTrue, ◌≤◌, IfErr, IfNone, IfOk, IfSome, bytes_eq, codes, length, map, string_bytes, true, ℕ, List};
 ghost use Rattle.ballot_store_cli.specs.Command.{Forms, FormNone, MayFollow, row};

@@ -1,3 +1,5 @@
+//! The reading of the election's text.
+
 ghost use Rattle.std.specs.Prelude.{◌≡◌, ◌++◌, IfOk, IfErr, OnOk, vec_len};
 ghost use Rattle.outside_io.specs.Told.{AsTold};
 ghost use Rattle.ballot_store_cli.specs.ElectionText.{IsElectionRead, IsWhole, RefusesElection};

@@ -1,3 +1,5 @@
+//! A whole run, from its words to its status.
+
 ghost use Rattle.std.specs.Prelude.{◌≡◌, ◌-◌, ◌≤◌, All, is_some, length, map, string_bytes};
 ghost use Rattle.ballot_store_cli.specs.Command.{Forms, row};
 ghost use Rattle.ballot_store_cli.specs.Outcome.{Ends};

@@ -12,6 +12,3 @@ pub use gate::{close_gate, gates, open_both_gates, open_gate};
 pub use page::{read_page, settle, write_bank, write_page};
 pub use place::{Bank, bank_place, gate_place};
 pub use same::same_bytes;
-
-#[cfg(test)]
-mod tests;

@@ -1,3 +1,4 @@
+mod Blocks
 mod CellPlaces
 pub mod Keeping
 mod Planning

@@ -242,17 +242,23 @@ left_more old cells plan n h sought emptied = record {
 }
 
 pub left_on : (old cells : List ℕ) (plan : Plan) (n m : ℕ) → IsLeftUpTo old cells plan n
-    → ((k : ℕ) → n ≤ k → k < m → get_or old k 0 ≡ get_or cells k 0) → IsLeftUpTo old cells plan m
-left_on old cells plan n m h same = record {
+    → ((k : ℕ) → n ≤ k → k < m → (get_or old k 0 ≡ 0) ⊎ (get_or old k 0 ≡ get_or cells k 0)) → IsLeftUpTo old cells plan m
+left_on old cells plan n m h none = record {
   sought = λ cell lt some changed.
       ⊎_elim
       (λ (before : cell < n). h.sought cell before some changed)
-      (λ (after : n ≤ cell). absurd (changed (same cell after lt)))
+      (λ (after : n ≤ cell). ⊎_elim
+      (λ empty. absurd (some empty))
+      (λ same. absurd (changed same))
+      (none cell after lt))
       (cases_lt cell n);
-  emptied = λ cell lt changed none.
+  emptied = λ cell lt changed empty_now.
       ⊎_elim
-      (λ (before : cell < n). h.emptied cell before changed none)
-      (λ (after : n ≤ cell). absurd (changed (same cell after lt)))
+      (λ (before : cell < n). h.emptied cell before changed empty_now)
+      (λ (after : n ≤ cell). ⊎_elim
+      (λ empty. absurd (changed (empty ∙ sym empty_now)))
+      (λ same. absurd (changed same))
+      (none cell after lt))
       (cases_lt cell n);
 }
 

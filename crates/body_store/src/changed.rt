@@ -1,6 +1,6 @@
-//! Which cells changed.
+//! Which cells changed, and which were left.
 
-ghost use Rattle.std.specs.Prelude.{◌≡◌, ◌≢◌, ℕ, ◌+◌, ◌<◌, ◌≤◌, length, slice_index};
+ghost use Rattle.std.specs.Prelude.{◌≡◌, ◌≢◌, ◌⊎◌, ℕ, ◌+◌, ◌<◌, ◌≤◌, false, true, All, length, slice_index};
 
 /// How many cells are compared at once with those of before.
 const BLOCK: usize = 64;
@@ -38,4 +38,72 @@ fn same_onward(old_cells: &[u64], cells: &[u64], cell: usize) -> usize
         return BLOCK;
     }
     1
+}
+
+/// The first cell from one on that was left by the number that stood in it, or past the last.
+pub fn next_left(old_cells: &[u64], cells: &[u64], from: usize) -> usize
+    requires as_many { length old_cells.now ≡ length cells.now }
+    requires within { from ≤ length cells.now }
+    ensures onward { from ≤ result }
+    ensures within { result ≤ length cells.now }
+    ensures none { (k : ℕ) → from ≤ k → k < result
+        → (slice_index old_cells.now k ≡ 0)
+        ⊎ (slice_index old_cells.now k ≡ slice_index cells.now k) }
+    ensures some { result < length cells.now → slice_index old_cells.now result ≢ 0 }
+    ensures left { result < length cells.now
+        → slice_index old_cells.now result ≢ slice_index cells.now result }
+{
+    let mut cell = from;
+    while cell < cells.len() && !is_left(old_cells, cells, cell) {
+        cell += none_left_onward(old_cells, cells, cell);
+    }
+    cell
+}
+
+/// A number stood in a cell that stands there no more.
+fn is_left(old_cells: &[u64], cells: &[u64], cell: usize) -> bool
+    requires as_many { length old_cells.now ≡ length cells.now }
+    requires within { cell < length cells.now }
+    ensures some { result ≡ true → slice_index old_cells.now cell ≢ 0 }
+    ensures left { result ≡ true
+        → slice_index old_cells.now cell ≢ slice_index cells.now cell }
+    ensures none { result ≡ false
+        → (slice_index old_cells.now cell ≡ 0)
+        ⊎ (slice_index old_cells.now cell ≡ slice_index cells.now cell) }
+{
+    old_cells[cell] != 0 && old_cells[cell] != cells[cell]
+}
+
+/// How many cells are known to be left by no number from one on that is: a block, or this one.
+fn none_left_onward(old_cells: &[u64], cells: &[u64], cell: usize) -> usize
+    requires as_many { length old_cells.now ≡ length cells.now }
+    requires within { cell < length cells.now }
+    requires none { (slice_index old_cells.now cell ≡ 0)
+        ⊎ (slice_index old_cells.now cell ≡ slice_index cells.now cell) }
+    ensures some { 0 < result }
+    ensures within { cell + result ≤ length cells.now }
+    ensures none { (k : ℕ) → cell ≤ k → k < cell + result
+        → (slice_index old_cells.now k ≡ 0)
+        ⊎ (slice_index old_cells.now k ≡ slice_index cells.now k) }
+{
+    let end = cell + BLOCK;
+    if cell % BLOCK == 0 && end <= cells.len() && are_empty(&old_cells[cell..end]) {
+        return BLOCK;
+    }
+    if old_cells[cell] == cells[cell] {
+        return same_onward(old_cells, cells, cell);
+    }
+    1
+}
+
+/// No number stands in these cells.
+fn are_empty(cells: &[u64]) -> bool
+    ensures { result ≡ true → All (λ number. number ≡ 0) cells.now }
+{
+    for number in cells {
+        if *number != 0 {
+            return false;
+        }
+    }
+    true
 }

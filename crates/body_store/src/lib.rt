@@ -8,8 +8,6 @@ mod lookup;
 mod moves;
 mod nothing;
 mod relay;
-#[cfg(test)]
-mod tests;
 mod zeros;
 
 ghost use Rattle.body_store.specs.ByNumber.{by_number};

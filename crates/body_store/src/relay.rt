@@ -9,7 +9,7 @@ ghost use Rattle.store_spec.specs.Home.{home_of};
 ghost use Rattle.store_spec.specs.Image.{ballot_bytes};
 ghost use Rattle.store_spec.specs.Layout.{IsOrdered};
 
-use crate::changed::next_changed;
+use crate::changed::next_left;
 use crate::moves::Plan;
 use ballot_record::{BallotList, Election, HEADER_BYTES};
 use outside_io::Memory;
@@ -108,7 +108,7 @@ fn take_in(
     Ok(())
 }
 
-/// Copies the ballots that stand in cells that changed, and notes which of these cells are to be empty.
+/// Copies the ballots of cells that they left, and notes which of these cells are to be empty.
 #[tactic(auto, using(ballot_record::proofs::CellFormat::header_width))]
 fn take_out(
     plan: &mut Plan,
@@ -134,22 +134,20 @@ fn take_out(
     ensures left { OnOk result (IsLeftUpTo old_cells.now cells.now plan.new (length cells.now)) }
     ensures still { OnOk result (StayNoted cells.now plan.old plan.new) }
 {
-    let mut cell = next_changed(old_cells, cells, 0);
+    let mut cell = next_left(old_cells, cells, 0);
     while cell < cells.len() {
-        if old_cells[cell] != 0 {
-            let at = HEADER_BYTES + cell * size;
-            plan.add(
-                order,
-                cells,
-                front.len(),
-                old_cells[cell],
-                &image[at..at + size],
-            )?;
-        }
+        let at = HEADER_BYTES + cell * size;
+        plan.add(
+            order,
+            cells,
+            front.len(),
+            old_cells[cell],
+            &image[at..at + size],
+        )?;
         if cells[cell] == 0 {
             plan.empty(cells, front.len(), cell)?;
         }
-        cell = next_changed(old_cells, cells, cell + 1);
+        cell = next_left(old_cells, cells, cell + 1);
     }
     Ok(())
 }

@@ -1,3 +1,5 @@
+//! The record that a disk in memory keeps of its calls.
+
 /// How much a disk in memory may come to hold. All of it is taken when the disk is made.
 #[derive(Clone, Copy, Debug, PartialEq, Eq)]
 pub struct Room {

@@ -20,6 +20,3 @@ pub use lock::FileLock;
 pub use recorded::{FusedDisk, MemoryDisk, RecordedDisk};
 pub use stop::Torn;
 pub use sure::SureDisk;
-
-#[cfg(test)]
-mod tests;

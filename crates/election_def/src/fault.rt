@@ -1,3 +1,5 @@
+//! Why a text describes no election.
+
 use outside_io::Memory;
 use std::alloc::{AllocError, AllocFailed};
 use std::error::Error;

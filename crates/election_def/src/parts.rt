@@ -1,3 +1,5 @@
+//! The parts of an election, read from JSON values.
+
 ghost use Rattle.std.specs.Prelude.{◌≡◌, ◌↔◌, ℕ, ◌<◌, ◌≤◌, ◌^◌, map, string_bytes, bytes_eq, Some, IsTrue, IsSome, IsNone, IfSome};
 ghost use Rattle.std.specs.List.{list_any, list_all};
 ghost use Rattle.std.specs.Map.{keys_of};

@@ -1,3 +1,5 @@
+//! The reading of an election from its JSON text.
+
 ghost use Rattle.std.specs.Prelude.{◌≡◌, ◌<◌, ◌≤◌, ℕ, List, length, Err, IfOk, OnOk};
 ghost use Rattle.serde_json.specs.View.{view};
 ghost use Rattle.store_spec.specs.Election as definition;

@@ -1,3 +1,5 @@
+//! Turns at which two workers wait for each other.
+
 use outside_io::Turns;
 use std::hint::spin_loop;
 use std::sync::atomic::{AtomicU64, Ordering};

@@ -1,3 +1,5 @@
+//! Turns that keep what the workers were handed.
+
 use outside_io::Turns;
 use std::sync::atomic::{AtomicU64, Ordering};
 

@@ -1,3 +1,5 @@
+//! The names of the options, and the numbers that may stand behind each.
+
 ghost use Rattle.std.specs.Prelude.{◌≡◌, MatchOption};
 ghost use Rattle.large_options.specs.Given.{HasNoValue, HasValue, IsGiven, IsNotGiven, id_of, limit_of};
 

@@ -1,3 +1,5 @@
+//! The options of a large run, read from words.
+
 ghost use Rattle.std.specs.Prelude.{◌↔◌, IfOk, IsTrue, map, string_bytes};
 ghost use Rattle.large_options.specs.Given.{AllDiffer};
 ghost use Rattle.large_options.specs.Options.{AreOptions, IsOptions};

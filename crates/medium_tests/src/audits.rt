@@ -1,5 +1,6 @@
 //! The calls of an audit of the medium of the ballots 1, 9 and 14.
 
+use crate::calls::assert_all_calls;
 use crate::recoveries::{medium, three_ballots};
 use audit_medium::{Audit, audit};
 use ballot_record::Election;
@@ -31,10 +32,7 @@ fn calls_made(rt: HostRuntime) -> Result<(), Fail> {
     let mut disk = MemoryDisk::new(alloc, bytes, Vec::new(alloc), ROOM)?;
     let found = audit(alloc, &mut disk, &Election::example());
     assert_eq!(rt; found, Ok(Audit::Canonical { held: 3 }));
-    assert_eq!(rt; disk.calls(), CALLS.len() as u64);
-    for (index, call) in CALLS.iter().enumerate() {
-        assert_eq!(rt; disk.call_made(index as u64), Some(*call), "{index}");
-    }
+    assert_all_calls(&rt, &disk, &CALLS);
     Ok(())
 }
 

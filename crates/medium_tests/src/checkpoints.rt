@@ -3,6 +3,7 @@
 
 ghost use Rattle.std.specs.Prelude.{◌≡◌, ◌<◌, length, IfOk};
 
+use crate::calls::{assert_all_calls, assert_calls};
 use ballot_record::{Contest, Election};
 use body_store::Closed;
 use checkpoint::{InitFault, checkpoint, init};
@@ -59,16 +60,6 @@ fn medium_of(bank: &[u8; 304]) -> [u8; 610] {
     medium
 }
 
-fn assert_calls(rt: &impl Abort, disk: &MemoryDisk, from: u64, calls: &[DiskCall]) {
-    for (index, call) in calls.iter().enumerate() {
-        assert_eq!(rt;
-            disk.call_made(from.wrapping_add(index as u64)),
-            Some(*call),
-            "{index}"
-        );
-    }
-}
-
 const INIT_CALLS: [DiskCall; 7] = [
     DiskCall::Sync,
     DiskCall::Size,
@@ -89,8 +80,7 @@ fn init_on_no_bytes(rt: HostRuntime) -> Result<(), Fail> {
     let mut disk = MemoryDisk::new(alloc, Vec::new(alloc), Vec::new(alloc), ROOM)?;
     assert_eq!(rt; init(alloc, &mut disk, &election), Ok(()));
     assert!(rt; disk.bytes() == medium_of(&empty_bank()).as_slice());
-    assert_eq!(rt; disk.calls(), 7);
-    assert_calls(&rt, &disk, 0, &INIT_CALLS);
+    assert_all_calls(&rt, &disk, &INIT_CALLS);
     assert_eq!(rt; init(alloc, &mut disk, &election), Err(InitFault::Exists));
     Ok(())
 }

@@ -5,6 +5,10 @@
 #[cfg(test)]
 mod audits;
 #[cfg(test)]
+mod banks;
+#[cfg(test)]
+mod calls;
+#[cfg(test)]
 mod checkpoints;
 #[cfg(test)]
 mod images;
@@ -12,3 +16,5 @@ mod images;
 mod recoveries;
 #[cfg(test)]
 mod sessions;
+#[cfg(test)]
+mod stores;

@@ -1,3 +1,5 @@
+//! A count that never falls.
+
 ghost use Rattle.std.specs.Prelude.{◌≤◌};
 ghost use Rattle.store_spec.specs.Fault.{last_count};
 

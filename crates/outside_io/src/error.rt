@@ -1,3 +1,5 @@
+//! The two errors of all that lies outside: no memory, and a call that failed.
+
 use std::alloc::{AllocError, AllocFailed};
 use std::error::Error;
 use std::fmt;

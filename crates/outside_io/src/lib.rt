@@ -21,6 +21,3 @@ pub use source::{Source, read_piece};
 pub use standard::{FileSource, StdinSource, StdoutSink};
 pub use sure::{SureSink, SureSource};
 pub use turns::{NoTurns, Turns};
-
-#[cfg(test)]
-mod tests;

@@ -1,3 +1,5 @@
+//! The lines of a source.
+
 ghost use Rattle.std.specs.Prelude.{◌≡◌, ◌≢◌, ◌+◌, ◌≤◌, ◌<◌, [], ◌++◌, length, take, slice_range, true, false, Some, Err, IfOk, IfSome, OnErr};
 ghost use Rattle.store_spec.specs.Fault.{CountsFault, CountsFaultIf};
 ghost use Rattle.outside_io.specs.Stream.{GivesFront};

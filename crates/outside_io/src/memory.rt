@@ -1,3 +1,5 @@
+//! A source and a sink in memory, of which chosen calls fail.
+
 ghost use Rattle.std.specs.Prelude.{◌≡◌, ℕ, ◌+◌, ◌<◌, ◌≤◌, ◌↔◌, List, [], length, take, min, vec_len, vec_capacity, Some, IsTrue, IsErr, IfOk, IfSome, OnErr, OnOk, Contains};
 ghost use Rattle.store_spec.specs.Fault.{next_count, CountsFault};
 ghost use Rattle.outside_io.specs.Stream.{Gives, TakesAll, TakesSome};

@@ -1,3 +1,5 @@
+//! What a sink of bytes is.
+
 ghost use Rattle.std.specs.Prelude.{ℕ, ◌≤◌, List, Option, OnOk, OnErr};
 ghost use Rattle.store_spec.specs.Fault.{last_count, CountsFault};
 ghost use Rattle.outside_io.specs.Stream.{TakesAll, TakesSome};

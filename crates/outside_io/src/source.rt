@@ -1,3 +1,5 @@
+//! What a source of bytes is.
+
 ghost use Rattle.std.specs.Prelude.{◌≡◌, ℕ, ◌+◌, ◌<◌, ◌≤◌, List, [], length, take, drop, slice_range, Option, IfOk, IfSome, OnErr};
 ghost use Rattle.store_spec.specs.Fault.{last_count, CountsFault};
 ghost use Rattle.outside_io.specs.Stream.{Gives};

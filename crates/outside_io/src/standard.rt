@@ -1,3 +1,5 @@
+//! Sources and sinks of the system: its standard streams, and files.
+
 ghost use Rattle.std.specs.Prelude.{◌≡◌, ◌≤◌, ℕ, length, None, IsSome, IfOk, OnOk};
 ghost use Rattle.outside_io.specs.Count.{count_of};
 

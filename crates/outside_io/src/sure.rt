@@ -1,3 +1,5 @@
+//! A source and a sink that never fail.
+
 ghost use Rattle.std.specs.Prelude.{◌≡◌, ℕ, ◌+◌, ◌≤◌, List, length, vec_len, None, Some, IsOk};
 
 use crate::{Failed, Sink, Source};

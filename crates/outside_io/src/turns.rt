@@ -1,3 +1,5 @@
+//! The turns of workers, which tests may watch.
+
 /// What a worker of a phase calls before it handles an item. Nothing is promised of what it is handed: tests use it to
 /// see the workers at work.
 pub trait Turns: Sync {

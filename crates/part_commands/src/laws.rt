@@ -31,20 +31,24 @@ pub fn no_share_is_lost<S: Source, K: Sink, D: Disk>()
         → HoldsOne (models_of (disk_model D.seen D.calls D.may_leave D.faults)
         (disk_model D.seen D.calls D.may_leave D.faults) part)
         e (share (bits_of (length more)) part begun.set) (one, more))
-        → LosesNoShare (disk_model D.seen D.calls D.may_leave D.faults) e begun.set report one after more now parts }
+        → LosesNoShare (disk_model D.seen D.calls D.may_leave D.faults) e begun.set report
+        one after more now parts }
 {}
 
 /// A stop in a checkpoint leaves parts of the old set and parts of the new one. Media of which each holds its part's
 /// share of one of two sets are opened, where no call fails, or memory is wanting: a session begins with the set of
 /// which each part has the share that its medium held. It may be one that was never acknowledged.
 pub fn parts_of_two_sets_open<S: Source, K: Sink, D: Disk>()
-    ensures opens { (e : Election) (old other : List Ballot) (content : Content) (status : Status) (report : Reported)
-        (before after : World S K D) → IsElection e
-        → RunsOnTwo (disk_model D.seen D.calls D.may_leave D.faults) e old other content status report before after
-        → BeginsOfTwo (disk_model D.seen D.calls D.may_leave D.faults) e old other content status report before after
+    ensures opens { (e : Election) (old other : List Ballot) (content : Content) (status : Status)
+        (report : Reported) (before after : World S K D) → IsElection e
+        → RunsOnTwo (disk_model D.seen D.calls D.may_leave D.faults) e old other content status report
+        before after
+        → BeginsOfTwo (disk_model D.seen D.calls D.may_leave D.faults) e old other content status report
+        before after
         ⊎ (status ≡ statuses.Memory) }
-    ensures ends { (e : Election) (old other : List Ballot) (content : Content) (status : Status) (report : Reported)
-        (before after : World S K D) → IsElection e
-        → RunsOnTwo (disk_model D.seen D.calls D.may_leave D.faults) e old other content status report before after
+    ensures ends { (e : Election) (old other : List Ballot) (content : Content) (status : Status)
+        (report : Reported) (before after : World S K D) → IsElection e
+        → RunsOnTwo (disk_model D.seen D.calls D.may_leave D.faults) e old other content status report
+        before after
         → length content.script ≤ script_limit → (status ≡ statuses.Ok) ⊎ (status ≡ statuses.Memory) }
 {}

@@ -2,7 +2,7 @@
 
 ghost use Rattle.std.specs.Prelude.{◌≡◌, IfOk};
 
-use crate::halves::casts;
+use crate::phases::casts;
 use Final::{Accepted, Duplicate};
 use ballot_record::{BallotList, Contest, Election, MAX_MARK_SETS, Record};
 use body_store::Closed;

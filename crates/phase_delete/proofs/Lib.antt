@@ -1,4 +1,3 @@
-pub mod Blanks
 pub mod Held
 pub mod Left
 pub mod Opened

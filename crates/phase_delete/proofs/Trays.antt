@@ -12,12 +12,12 @@ use Rattle.phase_delete.specs.Tray.{Withdrawal}
 use Rattle.phase_kind.proofs.Trays.{told_of}
 use Rattle.step_core.proofs.WithdrawingAnswers.{numbers-append, numbers-contains}
 use Rattle.step_core.specs.WithdrawCore.{reply_of}
-use Rattle.step_core.specs.Withdrawing.{is_gone, numbers_that}
+use Rattle.step_core.specs.WithdrawingInvariant.{is_gone, numbers_that}
 use Rattle.step_core.specs.declared.withdrawer.WithdrawReply.{WithdrawReply}
 use Rattle.step_core.specs.declared.withdrawer.WithdrawReply.TheVariants.{Withdrawn, Gone, Absent}
 use Rattle.store_spec.specs.Ballot.{numbers_of}
 use Rattle.store_spec.specs.WithdrawPhase as outcome
-use Rattle.store_spec.specs.WithdrawPhase.{IsRight, MayPrecede, is_withdrawn}
+use Rattle.store_spec.specs.WithdrawPhase.{IsRightWithdrawal, MayBeWithdrawnBefore, is_withdrawn}
 use Rattle.store_spec.specs.WithdrawStep.{WithdrawView}
 use Rattle.store_spec.specs.WithdrawStep.WithdrawState.{Rest}
 
@@ -70,36 +70,36 @@ withdrawn_here Gone is = absurd cc
 withdrawn_here Absent is = absurd cc
 
 -- what is withdrawn now was not found gone before
-precedes : (old : WithdrawView) (tray : List Withdrawal) (number : ℕ) (reply : WithdrawReply) → gone_of tray ≡ old.gone → (reply ≡ Withdrawn → IsNewTo old number) → (a : outcome.Withdrawal) → Contains (map line tray) a → MayPrecede a (line (told number reply))
+precedes : (old : WithdrawView) (tray : List Withdrawal) (number : ℕ) (reply : WithdrawReply) → gone_of tray ≡ old.gone → (reply ≡ Withdrawn → IsNewTo old number) → (a : outcome.Withdrawal) → Contains (map line tray) a → MayBeWithdrawnBefore a (line (told number reply))
 precedes old tray number reply lists new a there same gone withdrawn =
     let among = All-contains (λ (b : outcome.Withdrawal). is_gone b.reply ≡ true → Contains (gone_of tray) b.number) (map line tray) a (numbers-contains is_gone (map line tray)) there (ap is_gone gone) in
     (new (withdrawn_here reply withdrawn)).not_gone (subst (λ (l : List ℕ). Contains l number) lists (subst (Contains (gone_of tray)) same among))
 
 -- ---- one number more
 
-pub told_more : (phase : Phase) (old now : WithdrawView) (tray : List Withdrawal) (number : ℕ) (reply : WithdrawReply) → IsTold phase old tray → IsRight (numbers_of phase.base.ballots) number (reply_of reply) → Gains old number reply now → (reply ≡ Withdrawn → IsNewTo old number) → IsTold phase now (tray ++ told number reply ∷ [])
+pub told_more : (phase : Phase) (old now : WithdrawView) (tray : List Withdrawal) (number : ℕ) (reply : WithdrawReply) → IsTold phase old tray → IsRightWithdrawal (numbers_of phase.base.ballots) number (reply_of reply) → Gains old number reply now → (reply ≡ Withdrawn → IsNewTo old number) → IsTold phase now (tray ++ told number reply ∷ [])
 told_more phase old now tray number reply h right gains new =
     let w = told number reply in
     let before : AreLists old tray = record { at_rest = h.at_rest; begun = h.begun; gone = h.gone } in
     let lists = lists_more old now tray number reply before gains in
-    let Right : outcome.Withdrawal → Type 0 = λ a. IsRight (numbers_of phase.base.ballots) a.number a.reply in
+    let Right : outcome.Withdrawal → Type 0 = λ a. IsRightWithdrawal (numbers_of phase.base.ballots) a.number a.reply in
     record {
       at_rest = lists.at_rest;
       begun = lists.begun;
       gone = lists.gone;
       right = subst (All Right) (sym (map_push line tray w)) (All-push Right (map line tray) (line w) h.right right);
-      in_order = subst (AllPairs MayPrecede) (sym (map_push line tray w))
-          (all_pairs_push MayPrecede (map line tray) (line w) h.in_order (λ k d within. precedes old tray number reply h.gone new (get_or (map line tray) k d) (Contains-get_or (map line tray) k d within)));
+      in_order = subst (AllPairs MayBeWithdrawnBefore) (sym (map_push line tray w))
+          (all_pairs_push MayBeWithdrawnBefore (map line tray) (line w) h.in_order (λ k d within. precedes old tray number reply h.gone new (get_or (map line tray) k d) (Contains-get_or (map line tray) k d within)));
     }
 
 -- ---- what a reply says, exactly
 
-pub absent_exactly : (held : List ℕ) (number : ℕ) (reply : WithdrawReply) → IsRight held number (reply_of reply) → (reply ≡ Absent) ↔ (¬ Contains held number)
+pub absent_exactly : (held : List ℕ) (number : ℕ) (reply : WithdrawReply) → IsRightWithdrawal held number (reply_of reply) → (reply ≡ Absent) ↔ (¬ Contains held number)
 absent_exactly held number Withdrawn there = (λ e. absurd cc, λ none. absurd (none there))
 absent_exactly held number Gone there = (λ e. absurd cc, λ none. absurd (none there))
 absent_exactly held number Absent none = (λ e. none, λ out. refl)
 
-pub right_of_held : (held : List ℕ) (number : ℕ) (reply : WithdrawReply) → IsRemoval reply → Contains held number → IsRight held number (reply_of reply)
+pub right_of_held : (held : List ℕ) (number : ℕ) (reply : WithdrawReply) → IsRemoval reply → Contains held number → IsRightWithdrawal held number (reply_of reply)
 right_of_held held number Withdrawn removal there = there
 right_of_held held number Gone removal there = there
 right_of_held held number Absent removal there = absurd removal

@@ -16,7 +16,7 @@ use Rattle.phase_delete.specs.Tray.{Withdrawal}
 use Rattle.step_core.proofs.Listings.{times_some}
 use Rattle.step_core.proofs.Sets.{All-flat_map, All-from_flat_map, All-from_map}
 use Rattle.step_core.proofs.WithdrawingAnswers.{numbers-contains}
-use Rattle.step_core.specs.Withdrawing.{is_gone}
+use Rattle.step_core.specs.WithdrawingInvariant.{is_gone}
 use Rattle.step_core.specs.declared.withdrawer.WithdrawReply.{WithdrawReply}
 use Rattle.store_spec.specs.Ballot.{Ballot, numbers_of}
 use Rattle.store_spec.specs.Election.{Election, cell_count}
@@ -25,7 +25,7 @@ use Rattle.store_spec.specs.Image.{cells_of}
 use Rattle.store_spec.specs.Layout.{layout_of}
 use Rattle.store_spec.specs.WithdrawInvariant.{times}
 use Rattle.store_spec.specs.WithdrawPhase as outcome
-use Rattle.store_spec.specs.WithdrawPhase.{IsRight, MayPrecede, is_withdrawn, listed, withdrawn_in, without}
+use Rattle.store_spec.specs.WithdrawPhase.{IsRightWithdrawal, MayBeWithdrawnBefore, is_withdrawn, listed, withdrawn_in, without}
 use Rattle.store_spec.specs.WithdrawStep.{WithdrawView}
 use Rattle.word_rule.proofs.Members.{from_kept}
 use Rattle.word_rule.proofs.Stores.{laid_out_without}
@@ -78,7 +78,7 @@ module _ (phase : Phase) (view : WithdrawView) (tray : List Withdrawal) (begun :
   abbrev WasBegun : outcome.Withdrawal → Type 0
   WasBegun a = Contains (numbers_of phase.base.ballots) a.number → Contains begun a.number
 
-  by_reply : (a : outcome.Withdrawal) → Contains (map line tray) a → (r : outcome.WithdrawReply) → a.reply ≡ r → IsRight (numbers_of phase.base.ballots) a.number r → WasBegun a
+  by_reply : (a : outcome.Withdrawal) → Contains (map line tray) a → (r : outcome.WithdrawReply) → a.reply ≡ r → IsRightWithdrawal (numbers_of phase.base.ballots) a.number r → WasBegun a
   by_reply a there outcome.WithdrawReply.Withdrawn is right held =
       let among = All-contains (λ (b : outcome.Withdrawal). is_withdrawn b.reply ≡ true → Contains (withdrawn_of tray) b.number) (map line tray) a (numbers-contains is_withdrawn (map line tray)) there (ap is_withdrawn is) in
       All-contains (Contains begun) view.begun a.number own (subst (λ (l : List ℕ). Contains l a.number) told.begun among)
@@ -167,7 +167,7 @@ module _ (base : Contents) (words : SharedWords) (tabs : List WithdrawerView) (a
     pub closes_as : (gone : List ℕ) (after : List Ballot) (replies : List (List WithdrawReply)) → gone ≡ all_withdrawn (trays_of tabs) → after ≡ ballots_without base.ballots gone → replies ≡ map replies_in (trays_of tabs) → ClosesAs base (trays_of tabs) replies after
     closes_as gone after replies are left of_trays =
         let rest : after ≡ ballots_without base.ballots (all_numbers trays) = left ∙ ap (ballots_without base.ballots) are ∙ same_left in
-        let Right : outcome.Withdrawal → Type 0 = λ a. IsRight held a.number a.reply in
+        let Right : outcome.Withdrawal → Type 0 = λ a. IsRightWithdrawal held a.number a.reply in
         record {
           of_trays = of_trays;
           rest = rest;
@@ -178,6 +178,6 @@ module _ (base : Contents) (words : SharedWords) (tabs : List WithdrawerView) (a
                 let same : withdrawn_in (lines_of trays) ≡ begun = withdrawn_is trays ∙ begun_is tabs told in
                 let some = times_some begun x (listed_begun x there named) in
                 omega (arith, ap (λ l. times l x) same, agree.once x);
-            in_order = All-map (AllPairs MayPrecede) (map line) trays (All-map (λ (tray : List Withdrawal). AllPairs MayPrecede (map line tray)) (λ (tab : WithdrawerView). tab.tray) tabs (λ k d within. (told_by k d within).in_order));
+            in_order = All-map (AllPairs MayBeWithdrawnBefore) (map line) trays (All-map (λ (tray : List Withdrawal). AllPairs MayBeWithdrawnBefore (map line tray)) (λ (tab : WithdrawerView). tab.tray) tabs (λ k d within. (told_by k d within).in_order));
           };
         }

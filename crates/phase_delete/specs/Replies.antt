@@ -8,7 +8,7 @@ use Rattle.step_core.specs.WithdrawCore.{reply_of}
 use Rattle.step_core.specs.declared.withdrawer.WithdrawReply.{WithdrawReply}
 use Rattle.step_core.specs.declared.withdrawer.WithdrawReply.TheVariants.{Withdrawn, Absent}
 use Rattle.store_spec.specs.Ballot.{numbers_of}
-use Rattle.store_spec.specs.WithdrawPhase.{IsRight}
+use Rattle.store_spec.specs.WithdrawPhase.{IsRightWithdrawal}
 use Rattle.store_spec.specs.WithdrawStep.{WithdrawView}
 
 -- a withdrawing phase has no claim words
@@ -18,7 +18,7 @@ claims_none store claims = claims ≡ 0
 -- The reply is right: a number that was not held at the opening is answered without a step. The seat gained the number and
 -- made the steps for it, and where it was withdrawn, it was new to the seat.
 pub record IsReply (phase : Phase) (old : WithdrawView) (number : ℕ) (reply : WithdrawReply) (now : WithdrawView) : Type 0 where
-  pub right : IsRight (numbers_of phase.base.ballots) number (reply_of reply)
+  pub right : IsRightWithdrawal (numbers_of phase.base.ballots) number (reply_of reply)
   pub absent : reply ≡ Absent ↔ (¬ Contains (numbers_of phase.base.ballots) number)
   pub zero : number ≡ 0 → reply ≡ Absent
   pub gains : Gains old number reply now

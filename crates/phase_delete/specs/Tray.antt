@@ -3,11 +3,11 @@ use Rattle.std.specs.Prelude.{◌≡◌, ℕ, List, map, All, AllPairs}
 use Rattle.phase_kind.specs.Phase.{Phase}
 use Rattle.phase_kind.specs.Told.{Told}
 use Rattle.step_core.specs.WithdrawCore.{reply_of}
-use Rattle.step_core.specs.Withdrawing.{is_gone, numbers_that}
+use Rattle.step_core.specs.WithdrawingInvariant.{is_gone, numbers_that}
 use Rattle.step_core.specs.declared.withdrawer.WithdrawReply.{WithdrawReply}
 use Rattle.store_spec.specs.Ballot.{numbers_of}
 use Rattle.store_spec.specs.WithdrawPhase as outcome
-use Rattle.store_spec.specs.WithdrawPhase.{IsRight, MayPrecede, is_withdrawn}
+use Rattle.store_spec.specs.WithdrawPhase.{IsRightWithdrawal, MayBeWithdrawnBefore, is_withdrawn}
 use Rattle.store_spec.specs.WithdrawStep.{WithdrawView}
 use Rattle.store_spec.specs.WithdrawStep.WithdrawState.{Rest}
 
@@ -31,5 +31,5 @@ pub record IsTold (phase : Phase) (view : WithdrawView) (tray : List Withdrawal)
   pub at_rest : view.state ≡ Rest
   pub begun : withdrawn_of tray ≡ view.begun
   pub gone : gone_of tray ≡ view.gone
-  pub right : All (λ a. IsRight (numbers_of phase.base.ballots) a.number a.reply) (map line tray)
-  pub in_order : AllPairs MayPrecede (map line tray)
+  pub right : All (λ a. IsRightWithdrawal (numbers_of phase.base.ballots) a.number a.reply) (map line tray)
+  pub in_order : AllPairs MayBeWithdrawnBefore (map line tray)

@@ -26,7 +26,7 @@ impl Kind for Withdrawing {
     ghost use Rattle.phase_kind.specs.Phase.{AreOf};
     ghost use Rattle.phase_kind.specs.Told.{told_in};
     ghost use Rattle.phase_kind.specs.Worker.{AreLeft};
-    ghost use Rattle.store_spec.specs.WithdrawStep.{fresh_view};
+    ghost use Rattle.store_spec.specs.WithdrawStep.{fresh_withdraw_view};
     ghost use Rattle.word_rule.specs.WithdrawSeats.{IsAtRest};
     ghost use Rattle.phase_delete.specs.Closing.{ClosesAs};
     ghost use Rattle.phase_delete.specs.Replies.{IsReply, claims_none};
@@ -50,7 +50,7 @@ impl Kind for Withdrawing {
 
     ghost standing = { λ seat. seat };
 
-    ghost fresh = { fresh_view };
+    ghost fresh = { fresh_withdraw_view };
 
     ghost rests = { IsAtRest };
 

@@ -5,8 +5,6 @@
 mod kind;
 pub mod laws;
 mod removing;
-#[cfg(test)]
-mod tests;
 
 pub use kind::{WithdrawPhase, Withdrawer, Withdrawing};
 pub use phase_kind::run as run_withdraw;

@@ -2,8 +2,6 @@
 #![tactic(auto)]
 
 mod running;
-#[cfg(test)]
-mod tests;
 
 ghost use Rattle.ballot_record.specs.Record.{ballot};
 ghost use Rattle.std.specs.Prelude.{◌≡◌, option_map};

@@ -1,3 +1,5 @@
+//! The replies of a closed phase of any kind.
+
 use phase_play::Final;
 use step_core::WithdrawReply;
 

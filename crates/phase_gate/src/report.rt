@@ -1,3 +1,5 @@
+//! What a run reports of its checkpoints, to whoever called it.
+
 ghost use Rattle.any_store.specs.Beside.{row_width};
 ghost use Rattle.phase_gate.specs.Around.{rows_of};
 ghost use Rattle.phase_gate.specs.Beside.{AddsRow, IsOneMore};

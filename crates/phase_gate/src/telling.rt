@@ -1,3 +1,5 @@
+//! Whether a session tells its replies or their summary.
+
 /// What a session tells of its replies.
 #[derive(Clone, Copy, Debug, PartialEq, Eq)]
 pub enum Telling {

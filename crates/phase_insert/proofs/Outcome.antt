@@ -23,7 +23,7 @@ use Rattle.phase_insert.specs.declared.reply.Final.{Final}
 use Rattle.phase_insert.specs.declared.reply.Final.TheVariants as finals
 use Rattle.store_spec.specs.Ballot.{Ballot, IsBallotSet, IsWithinLimit, ballot_of, numbers_of}
 use Rattle.store_spec.specs.BallotPhase as reply
-use Rattle.store_spec.specs.BallotPhase.{BallotOutcome, CastLine, HasNumber, IsRight}
+use Rattle.store_spec.specs.BallotPhase.{BallotOutcome, CastLine, HasNumber, IsRightReply}
 use Rattle.store_spec.specs.CastStep.{CastView}
 use Rattle.store_spec.specs.Election.{Election}
 use Rattle.word_rule.proofs.Members.{all_members, contains-filter, contains-flat_map, contains-map, from_map}
@@ -99,21 +99,21 @@ all_lines_accept (tray ∷ trays) (list ∷ lists) same each =
     ∙ ap (λ l. ballots_that is_accepted tray ++ l) (all_lines_accept trays lists rest (All-tail (All IsFinalOf) (zip tray list) (beside trays lists) each))
 
 -- the order of a tray is one of its lines
-precedes : (c later : Cast) (f g : Final) → IsFinal c.reply f → IsFinal later.reply g → MayPrecede c later → reply.MayPrecede (line (c, f)) (line (later, g))
+precedes : (c later : Cast) (f g : Final) → IsFinal c.reply f → IsFinal later.reply g → MayPrecede c later → reply.MayBeCastBefore (line (c, f)) (line (later, g))
 precedes c later f g first second may accepts =
     let both = may (accepted_before later.reply g second accepts) in
     (both.0, λ full. both.1 (full_before c.reply f first full))
 
-lines_in_order : (tray : List Cast) (list : List Final) → All IsFinalOf (zip tray list) → AllPairs MayPrecede tray → AllPairs reply.MayPrecede (map line (zip tray list))
+lines_in_order : (tray : List Cast) (list : List Final) → All IsFinalOf (zip tray list) → AllPairs MayPrecede tray → AllPairs reply.MayBeCastBefore (map line (zip tray list))
 lines_in_order [] list each order = λ i j d less within. absurd (omega arith)
 lines_in_order (c ∷ tray) [] each order = λ i j d less within. absurd (omega arith)
 lines_in_order (c ∷ tray) (f ∷ list) each order =
     let rest = All-tail IsFinalOf (c, f) (zip tray list) each in
-    AllPairs-cons reply.MayPrecede (line (c, f)) (map line (zip tray list))
-    (all_members (reply.MayPrecede (line (c, f))) (map line (zip tray list)) (λ l there.
+    AllPairs-cons reply.MayBeCastBefore (line (c, f)) (map line (zip tray list))
+    (all_members (reply.MayBeCastBefore (line (c, f))) (map line (zip tray list)) (λ l there.
     let told = from_map line (zip tray list) l there in
     let later = from_zip tray list told.0 told.1 in
-    subst (reply.MayPrecede (line (c, f))) told.2
+    subst (reply.MayBeCastBefore (line (c, f))) told.2
     (precedes c (told.0).0 f (told.0).1 (All-head IsFinalOf (c, f) (zip tray list) each) (All-contains IsFinalOf (zip tray list) told.0 rest told.1) (first_before c tray order (told.0).0 later.0))))
     (lines_in_order tray list rest (λ i j d less within. order (suc i) (suc j) d (omega arith) (omega arith)))
   where
@@ -123,7 +123,7 @@ lines_in_order (c ∷ tray) (f ∷ list) each order =
 -- ---- what each reply says of the set
 
 -- a number that was taken has a ballot in the set, and the two are the same, or not
-decided : (e : Election) (base after : List Ballot) (b : Ballot) (f : Final) → Contains (numbers_of after) b.number → Decides after b f → IsRight e base after b (reply_of f)
+decided : (e : Election) (base after : List Ballot) (b : Ballot) (f : Final) → Contains (numbers_of after) b.number → Decides after b f → IsRightReply e base after b (reply_of f)
 decided e base after b finals.Accepted there is = absurd is
 decided e base after b finals.Duplicate there is = (found_in after b.number b is).0
 decided e base after b finals.Conflict there is = ⊎_elim
@@ -199,7 +199,7 @@ module _ (base : Contents) (words : SharedWords) (tabs : List TabulatorView) (al
     size = length_permutation (base.ballots ++ accepted) after gains ∙ length-append base.ballots accepted ∙ ap (λ n. length base.ballots + n) (as_many_accepted tabs told)
 
     -- each final reply is right
-    right : (tab : TabulatorView) → Contains tabs tab → (c : Cast) → Contains tab.tray c → (f : Final) → IsAnswered after (c, f) → IsRight base.election base.ballots after c.item (reply_of f)
+    right : (tab : TabulatorView) → Contains tabs tab → (c : Cast) → Contains tab.tray c → (f : Final) → IsAnswered after (c, f) → IsRightReply base.election base.ballots after c.item (reply_of f)
     right tab of c there f is = by_reply c.reply refl compared is
       where
         tells : IsTold (record { base = base; words = words }) tab.seat tab.tray
@@ -208,10 +208,10 @@ module _ (base : Contents) (words : SharedWords) (tabs : List TabulatorView) (al
         compared : Compares base.ballots c.item c.reply
         compared = All-contains (λ (x : Cast). Compares base.ballots x.item x.reply) tab.tray c tells.compared there
 
-        as_told : (r : reply.CastReply) → reply_of f ≡ r → IsRight base.election base.ballots after c.item r → IsRight base.election base.ballots after c.item (reply_of f)
-        as_told r told h = subst (IsRight base.election base.ballots after c.item) (sym told) h
+        as_told : (r : reply.CastReply) → reply_of f ≡ r → IsRightReply base.election base.ballots after c.item r → IsRightReply base.election base.ballots after c.item (reply_of f)
+        as_told r told h = subst (IsRightReply base.election base.ballots after c.item) (sym told) h
 
-        by_reply : (r : CastReply) → c.reply ≡ r → Compares base.ballots c.item r → IsAnswer after c.item r f → IsRight base.election base.ballots after c.item (reply_of f)
+        by_reply : (r : CastReply) → c.reply ≡ r → Compares base.ballots c.item r → IsAnswer after c.item r f → IsRightReply base.election base.ballots after c.item (reply_of f)
         by_reply casts.Accepted same none is =
             as_told reply.CastReply.Accepted (ap reply_of is)
             (none, to_after c.item (Contains-append_right base.ballots accepted c.item (is_among tabs tab of c there (ap is_accepted same))))
@@ -238,7 +238,7 @@ module _ (base : Contents) (words : SharedWords) (tabs : List TabulatorView) (al
         let pairs = beside trays lists in
         let finals : All (All IsFinalOf) pairs =
         All-weaker (All (IsAnswered after)) (All IsFinalOf) (λ list each. All-weaker (IsAnswered after) IsFinalOf (λ told is. is_final after told.0.item told.0.reply told.1 is) list each) pairs answered.each in
-        let Right : CastLine → Type 0 = λ l. IsRight base.election base.ballots after l.ballot l.reply in
+        let Right : CastLine → Type 0 = λ l. IsRightReply base.election base.ballots after l.ballot l.reply in
         record {
           as_many = answered.as_many;
           final = finals;
@@ -252,11 +252,11 @@ module _ (base : Contents) (words : SharedWords) (tabs : List TabulatorView) (al
                 All-map Right line list (all_members (λ told. Right (line told)) list (λ told within.
                 right of_tab.0 of_tab.1 told.0 (subst (λ (l : List Cast). Contains l told.0) (sym of_tab.2) (from_zip row.tray row.list told (subst (λ (l : List (Cast × Final)). Contains l told) row.is within)).0) told.1
                 (All-contains (IsAnswered after) list told (All-contains (All (IsAnswered after)) pairs list answered.each there) within)))));
-            in_order = All-map (AllPairs reply.MayPrecede) (map line) pairs (all_members (λ list. AllPairs reply.MayPrecede (map line list)) pairs (λ list there.
+            in_order = All-map (AllPairs reply.MayBeCastBefore) (map line) pairs (all_members (λ list. AllPairs reply.MayBeCastBefore (map line list)) pairs (λ list there.
                 let row = from_row trays lists list there in
                 let of_tab = from_map (λ (t : TabulatorView). t.tray) tabs row.tray row.of in
                 let each = All-contains (All IsFinalOf) pairs list finals there in
-                subst (λ (l : List (Cast × Final)). AllPairs reply.MayPrecede (map line l)) (sym row.is)
+                subst (λ (l : List (Cast × Final)). AllPairs reply.MayBeCastBefore (map line l)) (sym row.is)
                 (lines_in_order row.tray row.list (subst (All IsFinalOf) row.is each)
                 (subst (AllPairs MayPrecede) of_tab.2 (told_by base words tabs all told of_tab.0 of_tab.1).in_order))));
           };

@@ -1,12 +1,13 @@
 -- A tray with one ballot more, and the lists of its seat.
-use Rattle.std.proofs.Common.{◌≡◌, ◌≢◌, ℕ, ⊎_elim, Bool, true, List, [], ◌∷◌, ◌++◌, get_or, map, refl, sym, ap, ◌∙◌, subst}
+use Rattle.std.proofs.Common.{◌≡◌, ◌≢◌, ℕ, ⊎_elim, Bool, true, List, [], ◌∷◌, ◌++◌, arith, get_or, length, map, refl, sym, ap, ◌∙◌, subst}
 use Rattle.std.proofs.lemmas.List.{append-nil, map-append}
-use Rattle.std.proofs.lemmas.List.Elements.{All-push, Contains-get_or, filter-append}
+use Rattle.std.proofs.lemmas.List.Elements.{All-head, All-push, All-tail, Contains-get_or, filter-append}
 use Rattle.std.proofs.lemmas.List.Quantifiers.{all_pairs_push}
-use Rattle.std.specs.List.{Contains, filter}
+use Rattle.std.specs.List.{All, Contains, filter}
 use Rattle.phase_insert.proofs.Casts.{cast_of}
 use Rattle.phase_insert.proofs.Compared.{another_number, has_own_number}
 use Rattle.phase_kind.specs.Phase.{Phase}
+use Rattle.phase_kind.specs.Told.{told_in}
 use Rattle.phase_insert.specs.Gains.{Gains, IsNewTo}
 use Rattle.phase_insert.specs.Tray.{Cast, Compares, IsTold, MayPrecede, is_accepted, is_full, is_taken, ballots_that, numbers_that}
 use Rattle.phase_insert.specs.declared.reply.CastReply.{CastReply}
@@ -41,6 +42,16 @@ one_other cast other = by_reply cast.reply other
     by_reply Conflict other = refl
     by_reply Taken other = refl
     by_reply Full other = refl
+
+-- where all were accepted, these are all ballots
+pub all_kept : (ballots : List Ballot) (replies : List CastReply) → length ballots ≡ length replies → All (λ reply. reply ≡ Accepted) replies
+    → ballots_that is_accepted (told_in ballots replies) ≡ ballots
+all_kept [] [] same all = refl
+all_kept [] (reply ∷ replies) same all = absurd (omega (arith, same))
+all_kept (b ∷ ballots) [] same all = absurd (omega (arith, same))
+all_kept (b ∷ ballots) (reply ∷ replies) same all =
+    ap (λ reply. ballots_that is_accepted (cast_of b reply ∷ told_in ballots replies)) (All-head (λ reply. reply ≡ Accepted) reply replies all)
+    ∙ ap (λ l. b ∷ l) (all_kept ballots replies (omega (arith, same)) (All-tail (λ reply. reply ≡ Accepted) reply replies all))
 
 -- a ballot adds its number, or nothing
 module _ (p : CastReply → Bool) (tray : List Cast) (c : Cast) (list now : List ℕ) where

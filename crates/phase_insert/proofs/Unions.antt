@@ -9,7 +9,7 @@ use Rattle.ballot_record.proofs.BallotNumbers.{ballot_with, contains_number, len
 use Rattle.ballot_record.proofs.BallotSets.{listing_from_set, same_members}
 use Rattle.phase_insert.specs.Union.{GoTogether, all_ballots}
 use Rattle.store_spec.specs.Ballot.{Ballot, numbers_of}
-use Rattle.store_spec.specs.BallotPhase.{BallotOutcome, CastLine, CastReply, HasNumber, IsRight, accepted_in, is_accepted}
+use Rattle.store_spec.specs.BallotPhase.{BallotOutcome, CastLine, CastReply, HasNumber, IsRightReply, accepted_in, is_accepted}
 use Rattle.store_spec.specs.BallotPhase.CastReply.{Accepted, Duplicate, Conflict, Full}
 use Rattle.store_spec.specs.Election.{Election}
 use Rattle.word_rule.proofs.Members.{all_members, contains-flat_map, first_or_later, from_filter, from_flat_map, from_map, contains-map}
@@ -52,7 +52,7 @@ module _ (e : Election) (base after : List Ballot) (lists : List (List CastLine)
         omega (arith, few, length-numbers_of after)
 
     -- each line has its ballot in the set
-    line_there : (b : Ballot) (reply : CastReply) → Contains (all_ballots base lists) b → IsRight e base after b reply → Contains after b
+    line_there : (b : Ballot) (reply : CastReply) → Contains (all_ballots base lists) b → IsRightReply e base after b reply → Contains after b
     line_there b Accepted there right = right.1
     line_there b Duplicate there right = right
     line_there b Conflict there right =
@@ -66,9 +66,9 @@ module _ (e : Election) (base after : List Ballot) (lists : List (List CastLine)
         (λ listed.
         let list = from_flat_map (map (λ (l : CastLine). l.ballot)) lists b listed in
         let line = from_map (λ (l : CastLine). l.ballot) list.0 b list.2 in
-        let Right : CastLine → Type 0 = λ l. IsRight e base after l.ballot l.reply in
+        let Right : CastLine → Type 0 = λ l. IsRightReply e base after l.ballot l.reply in
         let right = All-contains Right list.0 line.0 (All-contains (All Right) lists list.0 out.replies list.1) line.1 in
-        line_there b (line.0).reply c (subst (λ (x : Ballot). IsRight e base after x (line.0).reply) line.2 right))
+        line_there b (line.0).reply c (subst (λ (x : Ballot). IsRightReply e base after x (line.0).reply) line.2 right))
         (Contains-append_cases base (ballots_in lists) b c)
 
     pub union : (b : Ballot) → Contains after b ↔ Contains (all_ballots base lists) b

@@ -14,8 +14,8 @@ use Rattle.phase_insert.specs.CastPhase.{AreCastWordsOf}
 use Rattle.phase_kind.specs.Phase.{Phase}
 use Rattle.phase_insert.specs.Ends.{TabulatorView, TellsOf, all_accepted}
 use Rattle.phase_kind.specs.Worker.{AreAll, seat_of}
-use Rattle.phase_insert.specs.Tray.{Cast, CastTray, IsTold, ballots_that, is_accepted, numbers_that}
-use Rattle.step_core.proofs.Sets.{All-from_map, distinct_once, is_one, none_counted, once_distinct, stands_counted}
+use Rattle.phase_insert.specs.Tray.{Cast, IsTold, ballots_that, is_accepted, numbers_that}
+use Rattle.step_core.proofs.Sets.{distinct_once, is_one, none_counted, once_distinct, stands_counted}
 use Rattle.store_spec.specs.Ballot.{Ballot, IsListing, IsValid, IsWithinLimit, numbers_of}
 use Rattle.store_spec.specs.CastInvariant.{EachOnce, count_of}
 use Rattle.store_spec.specs.CastStep.{CastView}

@@ -3,18 +3,18 @@ use Rattle.std.specs.Prelude.{◌≡◌, ◌≢◌, ◌⊎◌, ℕ, [], Contains
 use Rattle.phase_insert.specs.declared.reply.CastReply.{CastReply}
 use Rattle.phase_insert.specs.declared.reply.CastReply.TheVariants.{Accepted, Duplicate, Conflict, Taken, Full}
 use Rattle.store_spec.specs.CastStep as note
-use Rattle.store_spec.specs.CastStep.{CastView, Table, view_after}
+use Rattle.store_spec.specs.CastStep.{CastView, Table, cast_view_after}
 use Rattle.store_spec.specs.CastStep.CastState.{Rest}
 use Rattle.word_rule.specs.CastSeats.{CastsByRows}
 
 -- The number is in the list that the reply names, and the seat is at rest. Where the base answers, or there are no claim
 -- words, nothing changes.
 abbrev pub Gains : ℕ → CastView → ℕ → CastReply → CastView → Type 0
-Gains claims old number Accepted now = now ≡ view_after old number Rest note.CastNote.Claimed
+Gains claims old number Accepted now = now ≡ cast_view_after old number Rest note.CastNote.Claimed
 Gains claims old number Duplicate now = now ≡ old
 Gains claims old number Conflict now = now ≡ old
-Gains claims old number Taken now = now ≡ view_after old number Rest note.CastNote.Taken
-Gains claims old number Full now = ((claims ≡ 0) × (now ≡ old)) ⊎ (now ≡ view_after old number Rest note.CastNote.Full)
+Gains claims old number Taken now = now ≡ cast_view_after old number Rest note.CastNote.Taken
+Gains claims old number Full now = ((claims ≡ 0) × (now ≡ old)) ⊎ (now ≡ cast_view_after old number Rest note.CastNote.Full)
 
 -- The seat made the steps of the number, each a row of the table. Where the base answers, or there are no claim words, it
 -- made none.

@@ -1,9 +1,11 @@
 //! What becomes of the trays of a phase: the ballots that were accepted, and the final replies.
 
+ghost use Rattle.body_store.specs.Contents.{IsStored};
 ghost use Rattle.phase_insert.specs.Ends.{AreAllFinals, AreFinals, Decides, IsAnswer, all_accepted};
 ghost use Rattle.phase_insert.specs.Tray.{Cast, IsPaired, ballots_that, casts_of, is_accepted};
-ghost use Rattle.std.specs.Prelude.{◌≡◌, ◌^◌, ◌<◌, ◌≤◌, ◌++◌, [], ◌∷◌, All, IfOk, Some, length, map, slice_get, vec_capacity};
-ghost use Rattle.store_spec.specs.Ballot.{Ballot};
+ghost use Rattle.std.specs.Prelude.{◌≡◌, ◌^◌, ◌<◌, ◌≤◌, ◌++◌, [], ◌∷◌, false, true, All, IfOk, IsPermutation, OnErr, OnOk, Some, length, map, slice_get, vec_capacity};
+ghost use Rattle.store_spec.specs.Ballot.{Ballot, IsListing, IsWithinLimit};
+ghost use Rattle.store_spec.specs.Image.{cells_of};
 
 use crate::kind::CastTray;
 use crate::{CastReply, Final};
@@ -12,12 +14,59 @@ use body_store::Closed;
 use outside_io::Memory;
 use std::alloc::Global;
 
-/// The ballots that were accepted, tray by tray.
-pub fn accepted(
+/// Adds to a store the ballots of trays that were accepted. Those of a tray that is alone and had no other join it from
+/// there; else they are copied into one list. `cells` is the layout of all. After `Memory` the store is as it was.
+pub fn merge_accepted(
     alloc: Global,
-    election: &Election,
+    closed: &mut Closed,
     trays: &[CastTray],
-) -> Result<BallotList, Memory>
+    cells: Vec<u64>,
+) -> Result<(), Memory>
+    requires elections { All (λ tray. tray.items.election ≡ closed.old.election) trays.now }
+    requires paired { All IsPaired trays.now }
+    requires listing { IsListing closed.old.election
+        (closed.old.ballots ++ all_accepted (map casts_of trays.now)) }
+    requires within_limit { IsWithinLimit closed.old.election
+        (closed.old.ballots ++ all_accepted (map casts_of trays.now)) }
+    requires layout { cells.items ≡ cells_of closed.old.election
+        (closed.old.ballots ++ all_accepted (map casts_of trays.now)) }
+    ensures election { closed.new.election ≡ closed.old.election }
+    ensures union { OnOk result (IsPermutation
+        (closed.old.ballots ++ all_accepted (map casts_of trays.now)) closed.new.ballots) }
+    ensures unchanged { OnErr result (closed.new ≡ closed.old) }
+    ensures stored { IsStored closed.new }
+{
+    if trays.len() == 1 && are_all_accepted(&trays[0].replies) {
+        return closed.merge(alloc, &trays[0].items, cells);
+    }
+    let accepted = accepted(alloc, closed.election(), trays)?;
+    closed.merge(alloc, &accepted, cells)
+}
+
+/// All ballots with these replies were accepted.
+fn are_all_accepted(replies: &[CastReply]) -> bool
+    ensures { result ≡ true → All (λ reply. reply ≡ CastReply.Accepted) replies.now }
+{
+    for reply in replies {
+        if was_not_accepted(*reply) {
+            return false;
+        }
+    }
+    true
+}
+
+/// A ballot with this reply was not accepted.
+fn was_not_accepted(reply: CastReply) -> bool
+    ensures { result ≡ false → reply ≡ CastReply.Accepted }
+{
+    match reply {
+        CastReply::Accepted => false,
+        _ => true,
+    }
+}
+
+/// The ballots that were accepted, tray by tray.
+fn accepted(alloc: Global, election: &Election, trays: &[CastTray]) -> Result<BallotList, Memory>
     requires elections { All (λ tray. tray.items.election ≡ election.now) trays.now }
     requires paired { All IsPaired trays.now }
     ensures election { IfOk result (λ accepted. accepted.election ≡ election.now) }

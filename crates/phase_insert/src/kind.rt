@@ -1,7 +1,7 @@
 //! Casting as a kind of phase: its workers are tabulators, which cast ballots.
 
 use crate::claiming::claim;
-use crate::closing::{accepted, all_finals, room_for_finals};
+use crate::closing::{all_finals, merge_accepted, room_for_finals};
 use crate::{CastReply, Final};
 use ballot_record::BallotList;
 use body_store::Closed;
@@ -47,7 +47,7 @@ impl Kind for Casting {
     ghost use Rattle.phase_insert.specs.Tray.{IsPaired, IsTold, casts_of};
     ghost use Rattle.phase_kind.specs.Phase.{AreOf};
     ghost use Rattle.phase_kind.specs.Worker.{AreLeft};
-    ghost use Rattle.store_spec.specs.CastStep.{fresh_view};
+    ghost use Rattle.store_spec.specs.CastStep.{fresh_cast_view};
     ghost use Rattle.word_rule.specs.CastSeats.{IsAtRest};
     ghost use Rattle.phase_insert.specs.CastPhase.{claims_left};
     ghost use Rattle.phase_insert.specs.Closing.{ClosesAs};
@@ -71,7 +71,7 @@ impl Kind for Casting {
 
     ghost standing = { λ seat. seat };
 
-    ghost fresh = { fresh_view };
+    ghost fresh = { fresh_cast_view };
 
     ghost rests = { IsAtRest };
 
@@ -161,10 +161,9 @@ impl Kind for Casting {
             (map (λ list. list.items) finals.items) closed.new.ballots) }
         ensures unchanged { OnErr result (closed.new ≡ closed.old) }
     {
-        let accepted = accepted(alloc, closed.election(), &trays)?;
         let cells = words.close(alloc, seats)?;
         let mut finals = room_for_finals(alloc, &trays)?;
-        closed.merge(alloc, &accepted, cells)?;
+        merge_accepted(alloc, closed, &trays, cells)?;
         all_finals(closed, &trays, &mut finals);
         Ok(finals)
     }

@@ -7,8 +7,6 @@ mod closing;
 mod kind;
 pub mod laws;
 mod reply;
-#[cfg(test)]
-mod tests;
 
 pub use kind::{CastPhase, Casting, Tabulator};
 pub use phase_kind::run as run_cast;

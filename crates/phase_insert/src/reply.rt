@@ -1,3 +1,5 @@
+//! The replies to a ballot, when it is cast and when its phase closes.
+
 ghost use Rattle.phase_insert.specs.Closing.{reply_of};
 ghost use Rattle.store_spec.specs.Session.{cast_text};
 

@@ -1,3 +1,5 @@
+//! What casting and withdrawing phases have in common, as a trait.
+
 ghost use Rattle.std.specs.Prelude.{◌≡◌, ◌+◌, ◌^◌, ◌<◌, ◌≤◌, ◌++◌, [], ◌∷◌, All, IfOk, List, OnErr, OnOk, Some, length, map, slice_get};
 ghost use Rattle.body_store.specs.Contents.{Contents, IsStored};
 ghost use Rattle.phase_kind.specs.Phase.{AreOf, IsPhase, Phase};

@@ -1,3 +1,5 @@
+//! A phase of either kind: how it begins and how it closes.
+
 ghost use Rattle.body_store.specs.Contents.{IsStored};
 ghost use Rattle.phase_kind.specs.Phase.{AreOf};
 ghost use Rattle.phase_kind.specs.Worker.{AreAll, new_worker, worker_with};

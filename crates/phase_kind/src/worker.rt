@@ -1,3 +1,5 @@
+//! A worker of a phase: the tabulator or the withdrawer of one list.
+
 ghost use Rattle.phase_kind.specs.Told.{Told, told_in};
 ghost use Rattle.phase_kind.specs.Worker.{new_worker, seat_of, worker_with};
 ghost use Rattle.std.specs.Prelude.{◌≡◌, ◌+◌, ◌<◌, ◌++◌, [], ◌∷◌, IfOk, Some, length, map, slice_get};

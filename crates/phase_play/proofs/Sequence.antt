@@ -16,7 +16,7 @@ use Rattle.body_store.proofs.BallotSets.{MayHold, limit-IsPermutation, may_hold_
 use Rattle.phase_insert.proofs.Outcome.{number_there}
 use Rattle.phase_play.specs.Plays.{PlaysCasting}
 use Rattle.store_spec.specs.Ballot.{Ballot, IsBallotSet, IsValid, IsWithinLimit, ballot_of, numbers_of}
-use Rattle.store_spec.specs.BallotPhase.{BallotOutcome, CastLine, CastReply, HasNumber, IsRight, MayPrecede, accepted_in, is_accepted}
+use Rattle.store_spec.specs.BallotPhase.{BallotOutcome, CastLine, CastReply, HasNumber, IsRightReply, MayBeCastBefore, accepted_in, is_accepted}
 use Rattle.store_spec.specs.BallotPhase.CastReply.{Accepted, Duplicate, Conflict, Full}
 use Rattle.store_spec.specs.Election.{Election}
 
@@ -56,7 +56,7 @@ still_numbered e set later v grows c =
 
 -- the reply is right in each later set
 abbrev RightFrom : Election → List Ballot → List Ballot → CastLine → Type 0
-RightFrom e base set l = (later : List Ballot) → Grows e set later → IsRight e base later l.ballot l.reply
+RightFrom e base set l = (later : List Ballot) → Grows e set later → IsRightReply e base later l.ballot l.reply
 
 -- there was no room, or the number is one of the set
 abbrev IsMet : Election → List Ballot → CastLine → Type 0
@@ -75,7 +75,7 @@ record Answers (e : Election) (base start : List Ballot) (items : List Ballot) :
   held : MayHold e end
   right : All (RightFrom e base end) lines
   met : All (IsMet e end) lines
-  in_order : AllPairs MayPrecede lines
+  in_order : AllPairs MayBeCastBefore lines
 
 accepted_push : (lines : List CastLine) (l : CastLine) → accepted_of (lines ++ l ∷ []) ≡ accepted_of lines ++ map (λ x. x.ballot) (cond (is_accepted l.reply) (l ∷ []) [])
 accepted_push lines l =
@@ -100,7 +100,7 @@ not_accepted e base start items b r a refused right met =
       held = a.held;
       right = All-push (RightFrom e base a.end) a.lines l a.right right;
       met = All-push (IsMet e a.end) a.lines l a.met met;
-      in_order = all_pairs_push MayPrecede a.lines l a.in_order (λ k d within is. absurd (let other : is_accepted r ≡ true = ap is_accepted is in cc));
+      in_order = all_pairs_push MayBeCastBefore a.lines l a.in_order (λ k d within is. absurd (let other : is_accepted r ≡ true = ap is_accepted is in cc));
     }
 
 met_later : (e : Election) (set later : List Ballot) (l : CastLine) → Grows e set later → length set < e.limit → IsMet e set l → IsMet e later l
@@ -138,7 +138,7 @@ joins e base start items b a valid from new room =
           ));
       met = All-push (IsMet e set) a.lines l (All-weaker (IsMet e a.end) (IsMet e set) (λ x. met_later e a.end set x grows room) a.lines a.met)
           (inr ((λ same. absurd cc), contains_number set b b.number first_in refl));
-      in_order = all_pairs_push MayPrecede a.lines l a.in_order (λ k d within is.
+      in_order = all_pairs_push MayBeCastBefore a.lines l a.in_order (λ k d within is.
           let earlier = get_or a.lines k d in
           ⊎_elim
           (λ (full : (earlier.reply ≡ Full) × (length a.end ≡ e.limit)). absurd (omega (arith, full.1)))
@@ -217,7 +217,7 @@ record AnswersAll (e : Election) (base start : List Ballot) (lists : List (List 
   grows : Grows e start end
   held : MayHold e end
   right : All (All (RightFrom e base end)) lines
-  in_order : All (AllPairs MayPrecede) lines
+  in_order : All (AllPairs MayBeCastBefore) lines
 
 all_of : (e : Election) (base start : List Ballot) (lists : List (List Ballot)) → Grows e base start → MayHold e start → All (All (IsValid e)) lists → AnswersAll e base start lists
 all_of e base start [] from held valid = record {
@@ -228,7 +228,7 @@ all_of e base start [] from held valid = record {
   grows = stays e start;
   held = held;
   right = All-nil (All (RightFrom e base start));
-  in_order = All-nil (AllPairs MayPrecede);
+  in_order = All-nil (AllPairs MayBeCastBefore);
 }
 all_of e base start (list ∷ lists) from held valid =
     let a = whole e base start list from held (All-head (All (IsValid e)) list lists valid) in
@@ -243,7 +243,7 @@ all_of e base start (list ∷ lists) from held valid =
       right = All-cons (All (RightFrom e base rest.end)) a.lines rest.lines
           (All-weaker (RightFrom e base a.end) (RightFrom e base rest.end) (λ l h later on. h later (grows_on e a.end rest.end later rest.grows on)) a.lines a.right)
           rest.right;
-      in_order = All-cons (AllPairs MayPrecede) a.lines rest.lines a.in_order rest.in_order;
+      in_order = All-cons (AllPairs MayBeCastBefore) a.lines rest.lines a.in_order rest.in_order;
     }
 
 -- ---- the outcome
@@ -251,7 +251,7 @@ all_of e base start (list ∷ lists) from held valid =
 number_moved : (xs ys : List Ballot) (number : ℕ) → IsPermutation xs ys → HasNumber xs number → HasNumber ys number
 number_moved xs ys number p h = let c = Contains-permutation xs ys h.1 p (h.0, h.2, h.3) in (c.0, h.1, c.1, c.2, h.4)
 
-right_moved : (e : Election) (base xs ys : List Ballot) (b : Ballot) (r : CastReply) → IsPermutation xs ys → IsRight e base xs b r → IsRight e base ys b r
+right_moved : (e : Election) (base xs ys : List Ballot) (b : Ballot) (r : CastReply) → IsPermutation xs ys → IsRightReply e base xs b r → IsRightReply e base ys b r
 right_moved e base xs ys b Accepted p h = (h.0, Contains-permutation xs ys b p h.1)
 right_moved e base xs ys b Duplicate p h = Contains-permutation xs ys b p h
 right_moved e base xs ys b Conflict p h = let c = Contains-permutation xs ys h.1 p (h.0, h.2, h.3) in (c.0, h.1, c.1, c.2, h.4)
@@ -275,8 +275,8 @@ an_outcome e base work set few valid =
           gains = subst (λ (bs : List Ballot). IsPermutation bs after) a.gains p;
           set = set_of_listing e a.end a.held.listing;
           within_limit = limit-IsPermutation e a.end after p a.held.within_limit;
-          replies = All-weaker (All (RightFrom e base a.end)) (All (λ l. IsRight e base after l.ballot l.reply))
-              (λ list each. All-weaker (RightFrom e base a.end) (λ l. IsRight e base after l.ballot l.reply)
+          replies = All-weaker (All (RightFrom e base a.end)) (All (λ l. IsRightReply e base after l.ballot l.reply))
+              (λ list each. All-weaker (RightFrom e base a.end) (λ l. IsRightReply e base after l.ballot l.reply)
               (λ l h. right_moved e base a.end after l.ballot l.reply p (h a.end (stays e a.end))) list each)
               a.lines a.right;
           in_order = a.in_order;

@@ -12,7 +12,7 @@ use Rattle.store_spec.specs.Ballot.{Ballot, IsBallotSet, IsValid, numbers_of}
 use Rattle.store_spec.specs.CastInvariant.{count_of}
 use Rattle.store_spec.specs.Election.{Election}
 use Rattle.store_spec.specs.Session.{ballots_without}
-use Rattle.store_spec.specs.WithdrawPhase.{IsRight, MayPrecede, Withdrawal, WithdrawReply, is_withdrawn, listed, withdrawn_in}
+use Rattle.store_spec.specs.WithdrawPhase.{IsRightWithdrawal, MayBeWithdrawnBefore, Withdrawal, WithdrawReply, is_withdrawn, listed, withdrawn_in}
 use Rattle.store_spec.specs.WithdrawPhase.WithdrawReply.{Withdrawn, Gone, Absent}
 
 -- numbers of valid ballots are not 0
@@ -27,7 +27,7 @@ abbrev IsGone : List ℕ → List ℕ → Withdrawal → Type 0
 IsGone held gone a = Contains held a.number → Contains gone a.number
 
 abbrev IsTrueOf : List ℕ → Withdrawal → Type 0
-IsTrueOf held a = IsRight held a.number a.reply
+IsTrueOf held a = IsRightWithdrawal held a.number a.reply
 
 -- a list is answered where some numbers are gone, and then more of them are
 record Answers (held start items : List ℕ) : Type 0 where
@@ -38,7 +38,7 @@ record Answers (held start items : List ℕ) : Type 0 where
   distinct : AllPairs (λ a b. a ≢ b) gone
   right : All (IsTrueOf held) lines
   met : All (IsGone held gone) lines
-  in_order : AllPairs MayPrecede lines
+  in_order : AllPairs MayBeWithdrawnBefore lines
 
 withdrawn_push : (lines : List Withdrawal) (a : Withdrawal) → withdrawn_of (lines ++ a ∷ []) ≡ withdrawn_of lines ++ map (λ x. x.number) (cond (is_withdrawn a.reply) (a ∷ []) [])
 withdrawn_push lines a =
@@ -49,7 +49,7 @@ abbrev line : ℕ → WithdrawReply → Withdrawal
 line x r = record { number = x; reply = r }
 
 -- a number that is not withdrawn leaves those that are gone as they are
-not_withdrawn : (held start items : List ℕ) (x : ℕ) (r : WithdrawReply) (a : Answers held start items) → is_withdrawn r ≡ false → IsRight held x r → IsGone held a.gone (line x r) → Answers held start (items ++ x ∷ [])
+not_withdrawn : (held start items : List ℕ) (x : ℕ) (r : WithdrawReply) (a : Answers held start items) → is_withdrawn r ≡ false → IsRightWithdrawal held x r → IsGone held a.gone (line x r) → Answers held start (items ++ x ∷ [])
 not_withdrawn held start items x r a other right met =
     let l = line x r in
     let same : withdrawn_of (a.lines ++ l ∷ []) ≡ withdrawn_of a.lines =
@@ -62,7 +62,7 @@ not_withdrawn held start items x r a other right met =
       distinct = a.distinct;
       right = All-push (IsTrueOf held) a.lines l a.right right;
       met = All-push (IsGone held a.gone) a.lines l a.met met;
-      in_order = all_pairs_push MayPrecede a.lines l a.in_order (λ k d within number gone is. absurd (let yes : is_withdrawn r ≡ true = ap is_withdrawn is in cc));
+      in_order = all_pairs_push MayBeWithdrawnBefore a.lines l a.in_order (λ k d within number gone is. absurd (let yes : is_withdrawn r ≡ true = ap is_withdrawn is in cc));
     }
 
 -- a held number that is not gone is withdrawn
@@ -78,9 +78,9 @@ is_taken held start items x a there new =
       distinct = all_pairs_push (λ y z. y ≢ z) a.gone x a.distinct (λ k d within same. new (subst (λ y. Contains a.gone y) same (Contains-get_or a.gone k d within)));
       right = All-push (IsTrueOf held) a.lines l a.right there;
       met = All-push (IsGone held gone) a.lines l (All-weaker (IsGone held a.gone) (IsGone held gone) (λ y h is. Contains-append_left a.gone (x ∷ []) y.number (h is)) a.lines a.met) (λ is. Contains-push a.gone x);
-      in_order = all_pairs_push MayPrecede a.lines l a.in_order (λ k d within number found is.
+      in_order = all_pairs_push MayBeWithdrawnBefore a.lines l a.in_order (λ k d within number found is.
           let earlier = get_or a.lines k d in
-          let held_too : Contains held earlier.number = subst (λ r. IsRight held earlier.number r) found (a.right k d within) in
+          let held_too : Contains held earlier.number = subst (λ r. IsRightWithdrawal held earlier.number r) found (a.right k d within) in
           new (subst (λ y. Contains a.gone y) number (a.met k d within held_too)));
     }
 
@@ -116,7 +116,7 @@ record AnswersAll (held start : List ℕ) (lists : List (List ℕ)) : Type 0 whe
   distinct : AllPairs (λ a b. a ≢ b) gone
   right : All (All (IsTrueOf held)) lines
   met : All (All (IsGone held gone)) lines
-  in_order : All (AllPairs MayPrecede) lines
+  in_order : All (AllPairs MayBeWithdrawnBefore) lines
 
 all_of : (held start : List ℕ) (lists : List (List ℕ)) → AllPairs (λ a b. a ≢ b) start → AnswersAll held start lists
 all_of held start [] apart = record {
@@ -128,7 +128,7 @@ all_of held start [] apart = record {
   distinct = apart;
   right = All-nil (All (IsTrueOf held));
   met = All-nil (All (IsGone held start));
-  in_order = All-nil (AllPairs MayPrecede);
+  in_order = All-nil (AllPairs MayBeWithdrawnBefore);
 }
 all_of held start (list ∷ lists) apart =
     let a = rest_of held start [] list (record {
@@ -151,7 +151,7 @@ all_of held start (list ∷ lists) apart =
       distinct = rest.distinct;
       right = All-cons (All (IsTrueOf held)) a.lines rest.lines a.right rest.right;
       met = All-cons (All (IsGone held rest.gone)) a.lines rest.lines (All-weaker (IsGone held a.gone) (IsGone held rest.gone) (λ y h is. rest.grows y.number (h is)) a.lines a.met) rest.met;
-      in_order = All-cons (AllPairs MayPrecede) a.lines rest.lines a.in_order rest.in_order;
+      in_order = All-cons (AllPairs MayBeWithdrawnBefore) a.lines rest.lines a.in_order rest.in_order;
     }
 
 -- ---- the outcome

@@ -1,3 +1,5 @@
+//! A whole casting phase, from its lists to its replies.
+
 ghost use Rattle.body_store.specs.Contents.{IsStored};
 ghost use Rattle.phase_insert.specs.Closing.{reply_of};
 ghost use Rattle.phase_play.specs.Plays.{PlaysCasting};

@@ -1,3 +1,5 @@
+//! A whole finding phase, from its lists to its replies.
+
 ghost use Rattle.phase_play.specs.Plays.{PlaysFinding};
 ghost use Rattle.std.specs.Prelude.{◌≡◌, ◌≤◌, IfOk, length, map};
 

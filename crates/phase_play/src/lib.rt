@@ -5,8 +5,6 @@
 mod casting;
 mod finding;
 pub mod laws;
-#[cfg(test)]
-mod tests;
 mod withdrawing;
 
 pub use casting::play_casting;

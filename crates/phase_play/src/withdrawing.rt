@@ -1,3 +1,5 @@
+//! A whole withdrawing phase, from its lists to its replies.
+
 ghost use Rattle.body_store.specs.Contents.{IsStored};
 ghost use Rattle.phase_play.specs.Plays.{PlaysWithdrawing};
 ghost use Rattle.std.specs.Prelude.{◌≡◌, ◌≤◌, IfOk, length, map};

@@ -1,3 +1,5 @@
+//! The lines of the replies.
+
 ghost use Rattle.std.specs.Prelude.{◌≡◌, ◌+◌, ◌≤◌, ◌++◌, IfOk, drop, length, map, string_bytes, take};
 ghost use Rattle.std.specs.Str.{IsUtf8};
 ghost use Rattle.store_spec.specs.Session.{all_reply_lines, reply_line, reply_lines};

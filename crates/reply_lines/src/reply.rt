@@ -1,3 +1,5 @@
+//! The word of each reply.
+
 ghost use Rattle.std.specs.Prelude.{◌≡◌, ◌≤◌, List, length, ℕ};
 ghost use Rattle.reply_lines.specs.Words.{met_text};
 ghost use Rattle.step_core.specs.CastCore.{met_of};

@@ -1,3 +1,5 @@
+//! The statuses in which a run ends.
+
 ghost use Rattle.std.specs.Prelude.{◌≡◌};
 
 use ballot_record::{HEADER_BYTES, LineWhy};

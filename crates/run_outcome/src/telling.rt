@@ -1,3 +1,5 @@
+//! The writing of what a command tells, with its status where that fails.
+
 ghost use Rattle.std.specs.Prelude.{◌≡◌, IfErr, OnErr, OnOk};
 ghost use Rattle.outside_io.specs.Stream.{TakesAll, TakesSome};
 ghost use Rattle.run_outcome.specs.declared.status.Status.TheVariants as statuses;

@@ -12,13 +12,14 @@ use Rattle.std.specs.Prelude.{slice_get}
 use Rattle.schedule_replay.proofs.Measures.{number_falls}
 use Rattle.schedule_replay.specs.Machine.{IsShort, IsShortCasting, IsShortTab, cast_work, measure_base, number_of}
 use Rattle.step_core.proofs.Sets.{All-flat_map, All-from_map, at_place}
-use Rattle.step_core.specs.Casting.{Casting, FallsAt, IsCasting, Steps, Tabulator, after_step, answered, answers_at_once, first_answered, opened, opened_tab, settled, tab_measure, table_in, told, view_of}
+use Rattle.step_core.specs.Casting.{Casting, Steps, Tabulator, after_step, answered, answers_at_once, first_answered, opened, opened_tab, settled, table_in, told}
+use Rattle.step_core.specs.CastingInvariant.{FallsAt, IsCasting, tab_measure, view_of}
 use Rattle.store_spec.specs.CastInvariant.{CastInvariant, accepted_of, hands_of, in_hand}
 use Rattle.store_spec.specs.CastStep.{CastNote, CastState, CastView, Table, cast_measure}
 use Rattle.store_spec.specs.CastStep as notes
 use Rattle.store_spec.specs.CastStep.CastState.{Rest, Probing, Carrying, Ready}
 use Rattle.store_spec.specs.Layout.{ascending}
-use Rattle.store_spec.specs.Phase.{Answer, Met, is_accepted, numbers_that}
+use Rattle.store_spec.specs.Phase.{Answer, Met, is_met_accepted, numbers_that}
 use Rattle.store_spec.specs.Phase.Met.{Held, Accepted, Taken, Full}
 
 -- ---- what is kept
@@ -121,8 +122,8 @@ all_short numbers none k d within = long_short (get_or numbers k d) (omega (arit
 accepted_short : (tabs : List Tabulator) → All IsShortTab tabs → All IsShort (accepted_of (map view_of tabs))
 accepted_short tabs h =
     All-flat_map IsShort (λ (view : CastView). view.accepted) (map view_of tabs)
-    (All-map (λ (view : CastView). All IsShort view.accepted) view_of tabs (All-weaker IsShortTab (λ tab. All IsShort (numbers_that is_accepted tab.answers))
-    (λ tab short. All-map IsShort (λ (a : Answer). a.number) (filter (λ (a : Answer). is_accepted a.met) tab.answers) (All-filter (λ (a : Answer). is_accepted a.met) IsShortAnswer tab.answers short.answered)) tabs h))
+    (All-map (λ (view : CastView). All IsShort view.accepted) view_of tabs (All-weaker IsShortTab (λ tab. All IsShort (numbers_that is_met_accepted tab.answers))
+    (λ tab short. All-map IsShort (λ (a : Answer). a.number) (filter (λ (a : Answer). is_met_accepted a.met) tab.answers) (All-filter (λ (a : Answer). is_met_accepted a.met) IsShortAnswer tab.answers short.answered)) tabs h))
 
 -- a number in hand is of the base, or was accepted
 hands_short : (t : Table) (base words : List ℕ) (views : List CastView) → CastInvariant t base words views → All IsShort base → All IsShort (accepted_of views) → All IsShort (hands_of views)

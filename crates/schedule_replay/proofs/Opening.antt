@@ -14,8 +14,10 @@ use Rattle.schedule_replay.specs.Runs.{IsScheduled}
 use Rattle.schedule_replay.specs.Script.{IsReady, lists_of}
 use Rattle.schedule_replay.specs.declared.script.Script.{Script}
 use Rattle.step_core.specs.Casting as casting
+use Rattle.step_core.specs.CastingInvariant as casting_kept
 use Rattle.step_core.specs.Casting.{Casting}
 use Rattle.step_core.specs.Withdrawing as withdrawing
+use Rattle.step_core.specs.WithdrawingInvariant as withdrawing_kept
 use Rattle.step_core.specs.Withdrawing.{Withdrawing}
 use Rattle.store_spec.specs.Election.{Election}
 
@@ -54,15 +56,15 @@ module _ {C : Type 0} (open_as : ℕ → ℕ → ℕ → List ℕ → List (List
       ∙ ap (λ n. open_as e.bits e.salt n start (lists_of script)) l
       ∙ ap (λ ns. open_as e.bits e.salt e.limit ns (lists_of script)) base
 
-pub cast_opens : (e : Election) (script : Script) (core : Casting) → IsReady e script → e.limit ≤ 32768 → core ≡ casting.opened e.bits e.salt e.limit script.base.items (lists_of script) → casting.IsCasting core → IsShortCasting core
+pub cast_opens : (e : Election) (script : Script) (core : Casting) → IsReady e script → e.limit ≤ 32768 → core ≡ casting.opened e.bits e.salt e.limit script.base.items (lists_of script) → casting_kept.IsCasting core → IsShortCasting core
 cast_opens e script core ready few is holds =
     subst IsShortCasting (sym is) (cast_short.opened_short e.bits e.salt e.limit script.base.items (lists_of script) few (each_short script.base.items ready.base)
-    (lists_short (λ list. list.items) script.lists.items ready.listed) (subst casting.IsCasting is holds))
+    (lists_short (λ list. list.items) script.lists.items ready.listed) (subst casting_kept.IsCasting is holds))
 
-pub withdraw_opens : (e : Election) (script : Script) (core : Withdrawing) → IsReady e script → e.limit ≤ 32768 → core ≡ withdrawing.opened e.bits e.salt e.limit script.base.items (lists_of script) → withdrawing.IsWithdrawing core → IsShortWithdrawing core
+pub withdraw_opens : (e : Election) (script : Script) (core : Withdrawing) → IsReady e script → e.limit ≤ 32768 → core ≡ withdrawing.opened e.bits e.salt e.limit script.base.items (lists_of script) → withdrawing_kept.IsWithdrawing core → IsShortWithdrawing core
 withdraw_opens e script core ready few is holds =
     subst IsShortWithdrawing (sym is) (withdraw_short.opened_short e.bits e.salt e.limit script.base.items (lists_of script) few (each_short script.base.items ready.base)
-    (subst withdrawing.IsWithdrawing is holds))
+    (subst withdrawing_kept.IsWithdrawing is holds))
 
 pub cast_replays : {A F : Type 0} (e : Election) (script : Script) (core : Casting) (schedule : List ℕ) (r : Result A F) (bytes : A → List ℕ) → schedule ≡ script.schedule.items → core ≡ casting.opened e.bits e.salt e.limit script.base.items (lists_of script) → IfOk r (λ text. TellsCasting core schedule (bytes text)) → IfOk r (λ text. ReplaysCast e script.base.items (lists_of script) script.schedule.items (bytes text))
 cast_replays e script core schedule (Ok text) bytes turns is told =

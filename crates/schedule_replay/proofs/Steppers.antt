@@ -9,8 +9,10 @@ use Rattle.schedule_replay.proofs.WithdrawShort as withdraw_short
 use Rattle.schedule_replay.specs.Machine.{Follows, IsShortCasting, IsShortWithdrawing}
 use Rattle.schedule_replay.specs.Machine.Follows.{ended, goes, rests}
 use Rattle.step_core.specs.Casting as casting
+use Rattle.step_core.specs.CastingInvariant as casting_kept
 use Rattle.step_core.specs.Casting.{Casting}
 use Rattle.step_core.specs.Withdrawing as withdrawing
+use Rattle.step_core.specs.WithdrawingInvariant as withdrawing_kept
 use Rattle.step_core.specs.Withdrawing.{Withdrawing}
 use Rattle.step_core.specs.declared.act.Stepped.{Stepped}
 use Rattle.step_core.specs.declared.act.Stepped.TheVariants as stepped
@@ -41,7 +43,7 @@ module _ (c : Casting) (tab : ℕ) (now : Casting) where
       let s = row refl in
       ap (λ (d : Casting). length d.tabs) s.is ∙ length-set c.tabs tab (casting.after_step c.base (casting.table_in c).claims s.tab s.new s.note)
 
-  pub cast_sound : (told : Stepped) → (told ≡ stepped.AtRest → now ≡ c) → (told ≡ stepped.Step → casting.Steps c tab now) → IsShortCasting c → casting.IsCasting now → IsShortCasting now
+  pub cast_sound : (told : Stepped) → (told ≡ stepped.AtRest → now ≡ c) → (told ≡ stepped.Step → casting.Steps c tab now) → IsShortCasting c → casting_kept.IsCasting now → IsShortCasting now
   cast_sound stepped.AtRest still row h holds = subst IsShortCasting (sym (still refl)) h
   cast_sound stepped.Step still row h holds = cast_short.step_short c tab now h (row refl) holds
 
@@ -66,7 +68,7 @@ module _ (w : Withdrawing) (tab : ℕ) (now : Withdrawing) where
       let s = row refl in
       ap (λ (d : Withdrawing). length d.tabs) s.is ∙ length-set w.tabs tab (withdrawing.after_step w.held s.tab s.new s.note)
 
-  pub withdraw_sound : (told : Stepped) → (told ≡ stepped.AtRest → now ≡ w) → (told ≡ stepped.Step → withdrawing.Steps w tab now) → IsShortWithdrawing w → withdrawing.IsWithdrawing now → IsShortWithdrawing now
+  pub withdraw_sound : (told : Stepped) → (told ≡ stepped.AtRest → now ≡ w) → (told ≡ stepped.Step → withdrawing.Steps w tab now) → IsShortWithdrawing w → withdrawing_kept.IsWithdrawing now → IsShortWithdrawing now
   withdraw_sound stepped.AtRest still row h holds = subst IsShortWithdrawing (sym (still refl)) h
   withdraw_sound stepped.Step still row h holds = withdraw_short.step_short w tab now h (row refl) holds
 

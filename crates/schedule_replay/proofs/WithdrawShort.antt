@@ -10,7 +10,8 @@ use Rattle.schedule_replay.proofs.Measures.{number_falls}
 use Rattle.schedule_replay.specs.Machine.{IsShort, IsShortWithdrawing, measure_base, number_of, withdraw_work}
 use Rattle.step_core.proofs.Sets.{All-from_map, at_place}
 use Rattle.step_core.proofs.WithdrawingBase.{base_layout, of_base_held}
-use Rattle.step_core.specs.Withdrawing.{FallsAt, IsWithdrawing, Steps, Withdrawer, Withdrawing, base_in, count_in, home_in, opened, tab_measure, view_of}
+use Rattle.step_core.specs.Withdrawing.{Steps, Withdrawer, Withdrawing, base_in, count_in, home_in, opened}
+use Rattle.step_core.specs.WithdrawingInvariant.{FallsAt, IsWithdrawing, tab_measure, view_of}
 use Rattle.store_spec.specs.WithdrawInvariant.{IsOf, IsSound, cell_words}
 use Rattle.store_spec.specs.WithdrawStep.{WithdrawState, WithdrawView, withdraw_measure}
 use Rattle.store_spec.specs.WithdrawStep.WithdrawState.{Rest, Chosen, Owing, Up, Down}

@@ -3,8 +3,10 @@ use Rattle.std.specs.Prelude.{ℕ, ◌+◌, ◌*◌, ◌^◌, ◌<◌, ◌≤◌
 use Rattle.std.specs.Option.{option_map_or}
 use Rattle.std.specs.List.Sorted.{IsNonDecreasing}
 use Rattle.step_core.specs.Casting as casting
+use Rattle.step_core.specs.CastingInvariant as casting_kept
 use Rattle.step_core.specs.Casting.{Casting}
 use Rattle.step_core.specs.Withdrawing as withdrawing
+use Rattle.step_core.specs.WithdrawingInvariant as withdrawing_kept
 use Rattle.step_core.specs.Withdrawing.{Withdrawing}
 
 -- A schedule is followed: at each of its places one makes a step, or has nothing left to do and all stays.
@@ -35,10 +37,10 @@ abbrev pub measure_base : ℕ
 measure_base = 2 ^ 65
 
 abbrev pub cast_work : Casting → ℕ → ℕ
-cast_work c id = option_map_or (λ tab. number_of measure_base (casting.tab_measure (casting.table_in c) tab)) (slice_get c.tabs id) 0
+cast_work c id = option_map_or (λ tab. number_of measure_base (casting_kept.tab_measure (casting.table_in c) tab)) (slice_get c.tabs id) 0
 
 abbrev pub withdraw_work : Withdrawing → ℕ → ℕ
-withdraw_work w id = option_map_or (λ tab. number_of measure_base (withdrawing.tab_measure (withdrawing.count_in w) tab)) (slice_get w.tabs id) 0
+withdraw_work w id = option_map_or (λ tab. number_of measure_base (withdrawing_kept.tab_measure (withdrawing.count_in w) tab)) (slice_get w.tabs id) 0
 
 -- ---- what holds between two steps
 
@@ -50,12 +52,12 @@ pub record IsShortTab (tab : casting.Tabulator) : Type 0 where
   pub left : All IsShort tab.left
 
 pub record IsShortCasting (c : Casting) : Type 0 where
-  pub holds : casting.IsCasting c
+  pub holds : casting_kept.IsCasting c
   pub limit : c.limit ≤ 32768
   pub base : All IsShort c.base
   pub tabs : All IsShortTab c.tabs
 
 pub record IsShortWithdrawing (w : Withdrawing) : Type 0 where
-  pub holds : withdrawing.IsWithdrawing w
+  pub holds : withdrawing_kept.IsWithdrawing w
   pub limit : w.limit ≤ 32768
   pub held : All IsShort w.held

@@ -51,7 +51,8 @@ withdraw_words w = map (λ tab. map withdraw_text (map (λ a. a.reply) tab.answe
 -- ---- the steps
 
 -- From `begin` a schedule leads to `after`. From there on they step in ascending order, each as often as it takes, until
--- `end`, where nobody has anything left to do and the phase has its outcome.
+-- `end`, where nobody has anything left to do. That the phase then has its outcome, `ended`, follows from the rest by
+-- the laws of `step_core`; it stands here for the reader.
 pub record Plays {C : Type 0} (Runs : C → List ℕ → C → Type 0) (IsDone HasEnded : C → Type 0) (begin : C) (schedule : List ℕ) (after end : C) : Type 0 where
   pub scheduled : Runs begin schedule after
   pub rounds : List ℕ

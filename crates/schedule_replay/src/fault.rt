@@ -1,3 +1,5 @@
+//! Why a replay, or a line of it, is refused.
+
 use ballot_record::LineWhy;
 use outside_io::{Failed, Memory};
 use std::alloc::{AllocError, AllocFailed};

@@ -1,3 +1,5 @@
+//! The reading of a replay's line.
+
 ghost use Rattle.std.specs.Prelude.{◌≡◌, ◌≢◌, ◌↔◌, ◌++◌, ◌<◌, [], List, ℕ, IsTrue, IfOk, MatchBool, MatchOption, length, option_map};
 ghost use Rattle.schedule_replay.specs.ReplayLine.{AreNumbers, HasForm, TakesNumber, word_text};
 ghost use Rattle.schedule_replay.specs.Script.{Reads};

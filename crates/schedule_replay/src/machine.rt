@@ -1,3 +1,5 @@
+//! What the cores of casting and withdrawing have in common for a replay, as a trait.
+
 ghost use Rattle.std.specs.Prelude.{◌≡◌, ◌≢◌, ◌++◌, ◌-◌, ◌<◌, ◌≤◌, ℕ, List, IfOk, length, string_bytes, slice_get, Some};
 ghost use Rattle.schedule_replay.specs.Replayed.{cast_words, withdraw_words};
 ghost use Rattle.store_spec.specs.Session.{reply_lines};

@@ -1,3 +1,5 @@
+//! The reading of a whole replay script.
+
 ghost use Rattle.std.specs.Prelude.{◌≡◌, ◌≢◌, Err, IfErr, IfOk};
 ghost use Rattle.outside_io.specs.Told.{AsTold};
 ghost use Rattle.schedule_replay.specs.Ends.{NoInput};

@@ -1,3 +1,5 @@
+//! The steps of a replay, as scheduled and to their end.
+
 ghost use Rattle.std.specs.Prelude.{◌≡◌, ◌≢◌, ◌++◌, ◌<◌, ℕ, IfOk, string_bytes};
 ghost use Rattle.schedule_replay.specs.Machine.{Follows, InTurn, StepsOn};
 ghost use Rattle.schedule_replay.specs.Replayed.{places_of};

@@ -1,3 +1,5 @@
+//! A replay, from its script to its text.
+
 ghost use Rattle.std.specs.Prelude.{◌≡◌, ◌≤◌, IfOk, string_bytes, vec_len};
 ghost use Rattle.schedule_replay.specs.Ends.{ReplayEnds};
 ghost use Rattle.outside_io.specs.Outside.{input, output, outside};

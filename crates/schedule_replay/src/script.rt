@@ -1,3 +1,5 @@
+//! A replay script so far, and which lines may come next.
+
 ghost use Rattle.std.specs.Prelude.{◌≡◌, ◌≢◌, ◌↔◌, ◌++◌, ◌<◌, ◌≤◌, [], List, All, AllPairs, IfOk, IsTrue, length, vec_len};
 ghost use Rattle.std.specs.List.Sorted.{IsStrictlyIncreasing};
 ghost use Rattle.store_spec.specs.Election as definition;

@@ -1,3 +1,5 @@
+//! The lines of the generated script, one by one.
+
 ghost use Rattle.std.specs.Prelude.{◌≡◌, ◌+◌, ◌-◌, ◌^◌, ◌<◌, ◌≤◌, ◌∷◌, ◌++◌, [], length, drop, map, slice_get, unwrap_or, is_some, IfOk, IfSome, OnOk, OnErr};
 ghost use Rattle.std.specs.List.{join_with_byte, range_with_len};
 ghost use Rattle.std.specs.Option.{option_to_list};

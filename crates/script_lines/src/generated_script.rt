@@ -1,3 +1,5 @@
+//! The generated script as a source of bytes.
+
 ghost use Rattle.std.specs.Prelude.{◌≡◌, ℕ, ◌-◌, ◌^◌, ◌<◌, ◌≤◌, List, [], ◌++◌, false, length, take, min, vec_len, IfOk, IsOk, IsTrue, Some};
 ghost use Rattle.outside_io.specs.Stream.{Gives};
 ghost use Rattle.script_lines.specs.Generated.{generated_text};

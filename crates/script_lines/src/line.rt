@@ -1,3 +1,5 @@
+//! What the lines of a session's script say.
+
 use ballot_record::Record;
 
 /// What a line of a script says. Tabulators count from 1.

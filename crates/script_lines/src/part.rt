@@ -1,3 +1,5 @@
+//! Which line of the generated script does what.
+
 ghost use Rattle.std.specs.Prelude.{◌≡◌, ◌-◌, ◌≤◌, slice_get};
 ghost use Rattle.script_lines.specs.Parts.{casting_parts, closing_parts, withdrawing_parts};
 

@@ -1,3 +1,5 @@
+//! The reading of a session's line.
+
 ghost use Rattle.std.specs.Prelude.{ℕ, ◌++◌, ◌∷◌, IfNone, IfSome, MatchOption};
 ghost use Rattle.store_spec.specs.BallotLine.{IsRecordLine, space};
 ghost use Rattle.store_spec.specs.ScriptLine.{IsMalformed, IsTab, Says, item_text, work_text};

@@ -1,3 +1,5 @@
+//! The words that lines of a session begin with.
+
 ghost use Rattle.std.specs.Prelude.{◌≡◌, ◌≤◌, ◌++◌, ◌∷◌, IfSome, MatchOption};
 ghost use Rattle.std.specs.Fmt.{decimal};
 ghost use Rattle.store_spec.specs.BallotLine.{space};

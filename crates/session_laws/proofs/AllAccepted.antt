@@ -8,7 +8,7 @@ use Rattle.std.proofs.lemmas.List.Kept.{AllPairs-cons}
 use Rattle.std.proofs.lemmas.List.Sorted.{Contains-permutation}
 use Rattle.ballot_record.proofs.BallotSets.{listing_of_set}
 use Rattle.store_spec.specs.Ballot.{Ballot, IsBallotSet, IsWithinLimit}
-use Rattle.store_spec.specs.BallotPhase.{BallotOutcome, CastLine, CastReply, HasNumber, IsRight, MayPrecede, accepted_in, is_accepted}
+use Rattle.store_spec.specs.BallotPhase.{BallotOutcome, CastLine, CastReply, HasNumber, IsRightReply, MayBeCastBefore, accepted_in, is_accepted}
 use Rattle.store_spec.specs.BallotPhase.CastReply.{Accepted}
 use Rattle.store_spec.specs.Election.{Election}
 use Rattle.session_laws.proofs.Lists.{pairs_back, pairs_front}
@@ -53,7 +53,7 @@ new_number xs ys b apart at has =
 
 -- a line's reply is right
 abbrev pub Right : Election → List Ballot → List Ballot → CastLine → Type 0
-Right e set after l = IsRight e set after l.ballot l.reply
+Right e set after l = IsRightReply e set after l.ballot l.reply
 
 -- what holds of each ballot of the lists holds so of each list
 in_lists : (P : Ballot → Type 0) (lists : List (List Ballot)) → ((b : Ballot) → Contains (all_lists lists) b → P b) → All (All (λ (l : CastLine). P l.ballot × (l.reply ≡ Accepted))) (map (map accepted) lists)
@@ -65,18 +65,18 @@ in_lists P (ballots ∷ lists) each =
     (in_lists P lists (λ b at. each b (Contains-append_right ballots (all_lists lists) b at)))
 
 -- replies that all accept may stand in any order, in one list
-list_in_order : (ballots : List Ballot) → Apart ballots → AllPairs MayPrecede (map accepted ballots)
+list_in_order : (ballots : List Ballot) → Apart ballots → AllPairs MayBeCastBefore (map accepted ballots)
 list_in_order [] apart = λ i j d less within. absurd (omega arith)
 list_in_order (b ∷ ballots) apart =
-    AllPairs-cons MayPrecede (accepted b) (map accepted ballots)
-    (All-map (MayPrecede (accepted b)) accepted ballots (λ k d within same. (apart 0 (suc k) d (omega arith) (omega arith), λ full. cc)))
+    AllPairs-cons MayBeCastBefore (accepted b) (map accepted ballots)
+    (All-map (MayBeCastBefore (accepted b)) accepted ballots (λ k d within same. (apart 0 (suc k) d (omega arith) (omega arith), λ full. cc)))
     (list_in_order ballots (pairs_back DifferInNumber (b ∷ []) ballots apart))
 
 -- and in all lists
-lists_in_order : (lists : List (List Ballot)) → Apart (all_lists lists) → All (AllPairs MayPrecede) (map (map accepted) lists)
-lists_in_order [] apart = All-nil (AllPairs MayPrecede)
+lists_in_order : (lists : List (List Ballot)) → Apart (all_lists lists) → All (AllPairs MayBeCastBefore) (map (map accepted) lists)
+lists_in_order [] apart = All-nil (AllPairs MayBeCastBefore)
 lists_in_order (ballots ∷ lists) apart =
-    All-cons (AllPairs MayPrecede) (map accepted ballots) (map (map accepted) lists)
+    All-cons (AllPairs MayBeCastBefore) (map accepted ballots) (map (map accepted) lists)
     (list_in_order ballots (pairs_front DifferInNumber ballots (all_lists lists) apart)) (lists_in_order lists (pairs_back DifferInNumber ballots (all_lists lists) apart))
 
 -- so all may be accepted
@@ -91,7 +91,7 @@ all_accepted e set lists after is few same =
       within_limit = few;
       replies = All-weaker (All (λ (l : CastLine). IsNew l.ballot × (l.reply ≡ Accepted))) (All (Right e set after))
           (λ lines. All-weaker (λ (l : CastLine). IsNew l.ballot × (l.reply ≡ Accepted)) (Right e set after)
-          (λ l new. subst (λ (reply : CastReply). IsRight e set after l.ballot reply) (sym new.1) new.0) lines) (map (map accepted) lists)
+          (λ l new. subst (λ (reply : CastReply). IsRightReply e set after l.ballot reply) (sym new.1) new.0) lines) (map (map accepted) lists)
           (in_lists IsNew lists (λ b at. (new_number set (all_lists lists) b apart at, Contains-permutation (set ++ all_lists lists) after b same (Contains-append_right set (all_lists lists) b at))));
       in_order = lists_in_order lists (pairs_back DifferInNumber set (all_lists lists) apart);
     }

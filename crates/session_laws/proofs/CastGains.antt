@@ -10,7 +10,7 @@ use Rattle.std.proofs.lemmas.List.Sorted.{Contains-permutation, IsPermutation-sy
 use Rattle.ballot_record.proofs.BallotNumbers.{ballot_with, contains_number}
 use Rattle.ballot_record.proofs.Lookups.{found_once}
 use Rattle.store_spec.specs.Ballot.{Ballot, IsBallotSet, IsListing, numbers_of}
-use Rattle.store_spec.specs.BallotPhase.{BallotOutcome, CastLine, CastReply, HasNumber, IsRight, accepted_in, is_accepted}
+use Rattle.store_spec.specs.BallotPhase.{BallotOutcome, CastLine, CastReply, HasNumber, IsRightReply, accepted_in, is_accepted}
 use Rattle.store_spec.specs.BallotPhase.CastReply.{Accepted, Conflict, Duplicate, Full}
 use Rattle.store_spec.specs.Election.{Election}
 use Rattle.session_laws.specs.LargeRun.{GainsNew, new_to}
@@ -85,7 +85,7 @@ module _ (e : Election) (set ballots : List Ballot) (lists : List (List CastLine
       subst (Contains (new_to set ballots)) one.2
       (lacked_new set ballots one.0.ballot (ballot_of_line one.0 here) (lacks one.0.reply one.0.ballot (passes accepts (joined lists) one.0 one.1) (reply_right one.0 here)))
     where
-      lacks : (reply : CastReply) (b : Ballot) → is_accepted reply ≡ true → IsRight e set after b reply → ¬ HasNumber set b.number
+      lacks : (reply : CastReply) (b : Ballot) → is_accepted reply ≡ true → IsRightReply e set after b reply → ¬ HasNumber set b.number
       lacks Accepted b accepting right = right.0
       lacks Duplicate b accepting right = absurd cc
       lacks Conflict b accepting right = absurd cc
@@ -121,9 +121,9 @@ module _ (e : Election) (set ballots : List Ballot) (lists : List (List CastLine
   new_held : length after ≢ e.limit → Among (new_to set ballots) after
   new_held room b new =
       let line = line_of_ballot b (passed_in _ ballots b new) in
-      held line.0.reply (subst (λ (b : Ballot). IsRight e set after b line.0.reply) line.2 (reply_right line.0 line.1))
+      held line.0.reply (subst (λ (b : Ballot). IsRightReply e set after b line.0.reply) line.2 (reply_right line.0 line.1))
     where
-      held : (reply : CastReply) → IsRight e set after b reply → Contains after b
+      held : (reply : CastReply) → IsRightReply e set after b reply → Contains after b
       held Accepted right = right.1
       held Duplicate right = right
       held Conflict (k, other, within, at, (same, differ)) = absurd (differ (no_conflict b other new (k, within, at) same))

@@ -9,7 +9,7 @@ use Rattle.std.specs.List.Sorted.{IsPermutation}
 use Rattle.ballot_record.proofs.CellCases.{same_or_not}
 use Rattle.ballot_record.proofs.Lookups.{found_in, missing_from, option_cases}
 use Rattle.store_spec.specs.Ballot.{Ballot, ballot_of}
-use Rattle.store_spec.specs.BallotPhase.{CastReply, HasNumber, IsRight}
+use Rattle.store_spec.specs.BallotPhase.{CastReply, HasNumber, IsRightReply}
 use Rattle.store_spec.specs.BallotPhase.CastReply.{Accepted, Conflict, Duplicate, Full}
 use Rattle.store_spec.specs.Election.{Election}
 
@@ -60,16 +60,16 @@ same_ballot_or_not a b number =
 -- ---- what is right so far
 
 -- where the set grows within the limit, a reply stays right
-pub stays_right : (e : Election) (base now more : List Ballot) (b : Ballot) (reply : CastReply) → length (now ++ more) ≤ e.limit → IsRight e base now b reply → IsRight e base (now ++ more) b reply
+pub stays_right : (e : Election) (base now more : List Ballot) (b : Ballot) (reply : CastReply) → length (now ++ more) ≤ e.limit → IsRightReply e base now b reply → IsRightReply e base (now ++ more) b reply
 stays_right e base now more b Accepted few right = (right.0, Contains-append_left now more b right.1)
 stays_right e base now more b Duplicate few right = Contains-append_left now more b right
 stays_right e base now more b Conflict few right = any_among _ now (now ++ more) (λ b. Contains-append_left now more b) right
 stays_right e base now more b Full few right =
     let nothing : more ≡ [] = nil_from_length more (omega (arith, length-append now more, right.1)) in
-    subst (λ (set : List Ballot). IsRight e base set b Full) (sym (ap (λ more. now ++ more) nothing ∙ append-nil now)) right
+    subst (λ (set : List Ballot). IsRightReply e base set b Full) (sym (ap (λ more. now ++ more) nothing ∙ append-nil now)) right
 
 -- so it does where the set is put in another order
-pub right_in_order : (e : Election) (base now after : List Ballot) (b : Ballot) (reply : CastReply) → IsPermutation now after → IsRight e base now b reply → IsRight e base after b reply
+pub right_in_order : (e : Election) (base now after : List Ballot) (b : Ballot) (reply : CastReply) → IsPermutation now after → IsRightReply e base now b reply → IsRightReply e base after b reply
 right_in_order e base now after b Accepted same right = (right.0, Contains-permutation now after b same right.1)
 right_in_order e base now after b Duplicate same right = Contains-permutation now after b same right
 right_in_order e base now after b Conflict same right = any_among _ now after (λ b. Contains-permutation now after b same) right

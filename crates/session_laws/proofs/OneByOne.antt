@@ -8,7 +8,7 @@ use Rattle.std.proofs.lemmas.List.Quantifiers.{all_pairs_push}
 use Rattle.std.proofs.lemmas.List.Sorted.{length_permutation}
 use Rattle.ballot_record.proofs.BallotSets.{in_order, in_order-IsPermutation, listing_from_set, set_of_listing}
 use Rattle.store_spec.specs.Ballot.{Ballot, IsBallotSet, IsListing, IsValid, IsWithinLimit}
-use Rattle.store_spec.specs.BallotPhase.{BallotOutcome, CastLine, CastReply, HasNumber, IsRight, MayPrecede, accepted_in, is_accepted}
+use Rattle.store_spec.specs.BallotPhase.{BallotOutcome, CastLine, CastReply, HasNumber, IsRightReply, MayBeCastBefore, accepted_in, is_accepted}
 use Rattle.store_spec.specs.BallotPhase.CastReply.{Accepted, Conflict, Duplicate, Full}
 use Rattle.store_spec.specs.Election.{Election}
 use Rattle.session_laws.proofs.Growing.{any_among, contained_any, number_or_not, right_in_order, same_ballot_or_not, stays_right}
@@ -67,11 +67,11 @@ grown e now b Conflict held valid why = subst (MayHold e) (sym (append-nil now))
 grown e now b Full held valid why = subst (MayHold e) (sym (append-nil now)) held
 
 -- the reply is right then
-right_now : (e : Election) (base now : List Ballot) (b : Ballot) (reply : CastReply) → ((x : Ballot) → Contains base x → Contains now x) → IsWhy e now b reply → IsRight e base (now ++ added b reply) b reply
+right_now : (e : Election) (base now : List Ballot) (b : Ballot) (reply : CastReply) → ((x : Ballot) → Contains base x → Contains now x) → IsWhy e now b reply → IsRightReply e base (now ++ added b reply) b reply
 right_now e base now b Accepted among why = ((λ has. why.0 (any_among (λ x. x.number ≡ b.number) base now among has)), Contains-push now b)
 right_now e base now b Duplicate among why = Contains-append_left now [] b why
 right_now e base now b Conflict among why = subst (Any (λ x. (x.number ≡ b.number) × (x ≢ b))) (sym (append-nil now)) why
-right_now e base now b Full among why = subst (λ (set : List Ballot). IsRight e base set b Full) (sym (append-nil now)) why
+right_now e base now b Full among why = subst (λ (set : List Ballot). IsRightReply e base set b Full) (sym (append-nil now)) why
 
 -- what is accepted later is new, and there is room for it
 abbrev IsLater : Election → List Ballot → CastLine → Type 0
@@ -82,7 +82,7 @@ pub has_number : (now : List Ballot) (b : Ballot) (number : ℕ) → b.number �
 has_number now b number same at = contained_any (λ x. x.number ≡ number) now b at same
 
 -- so the reply may stand before later ones
-may_precede : (e : Election) (now : List Ballot) (b : Ballot) (reply : CastReply) (later : CastLine) → IsWhy e now b reply → IsLater e (now ++ added b reply) later → MayPrecede (record { ballot = b; reply = reply }) later
+may_precede : (e : Election) (now : List Ballot) (b : Ballot) (reply : CastReply) (later : CastLine) → IsWhy e now b reply → IsLater e (now ++ added b reply) later → MayBeCastBefore (record { ballot = b; reply = reply }) later
 may_precede e now b Accepted later why is accepted = ((λ same. (is accepted).0 (has_number (now ++ b ∷ []) b later.ballot.number same (Contains-push now b))), λ same. cc)
 may_precede e now b Duplicate later why is accepted = ((λ same. (is accepted).0 (has_number (now ++ []) b later.ballot.number same (Contains-append_left now [] b why))), λ same. cc)
 may_precede e now b Conflict later why is accepted =
@@ -110,9 +110,9 @@ record ListAnswered (e : Election) (base now ballots : List Ballot) : Type 0 whe
   lines : List CastLine
   of_ballots : map (λ l. l.ballot) lines ≡ ballots
   held : MayHold e (now ++ accepted_of lines)
-  replies : All (λ l. IsRight e base (now ++ accepted_of lines) l.ballot l.reply) lines
+  replies : All (λ l. IsRightReply e base (now ++ accepted_of lines) l.ballot l.reply) lines
   later : All (IsLater e now) lines
-  in_order : AllPairs MayPrecede lines
+  in_order : AllPairs MayBeCastBefore lines
 
 -- the set after one line and more
 pub accepted_of-cons : (now : List Ballot) (b : Ballot) (reply : CastReply) (lines : List CastLine) → (now ++ added b reply) ++ accepted_of lines ≡ now ++ accepted_of (record { ballot = b; reply = reply } ∷ lines)
@@ -127,7 +127,7 @@ list_answered e base now [] among held valid = record {
   lines = [];
   of_ballots = refl;
   held = subst (MayHold e) (sym (append-nil now)) held;
-  replies = All-nil (λ (l : CastLine). IsRight e base (now ++ []) l.ballot l.reply);
+  replies = All-nil (λ (l : CastLine). IsRightReply e base (now ++ []) l.ballot l.reply);
   later = All-nil (IsLater e now);
   in_order = λ i j d less within. absurd (omega arith);
 }
@@ -141,11 +141,11 @@ list_answered e base now (b ∷ ballots) among held valid =
       lines = l ∷ more.lines;
       of_ballots = ap (λ ballots. b ∷ ballots) more.of_ballots;
       held = subst (MayHold e) whole more.held;
-      replies = subst (λ (set : List Ballot). All (λ (l : CastLine). IsRight e base set l.ballot l.reply) (l ∷ more.lines)) whole
-          (All-cons (λ (l : CastLine). IsRight e base (next ++ accepted_of more.lines) l.ballot l.reply) l more.lines
+      replies = subst (λ (set : List Ballot). All (λ (l : CastLine). IsRightReply e base set l.ballot l.reply) (l ∷ more.lines)) whole
+          (All-cons (λ (l : CastLine). IsRightReply e base (next ++ accepted_of more.lines) l.ballot l.reply) l more.lines
           (stays_right e base next (accepted_of more.lines) b first.0 more.held.few (right_now e base now b first.0 among first.1)) more.replies);
       later = All-cons (IsLater e now) l more.lines (first_is_later e now b first.0 first.1) (All-weaker (IsLater e next) (IsLater e now) (λ later. earlier e now (added b first.0) later) more.lines more.later);
-      in_order = AllPairs-cons MayPrecede l more.lines (All-weaker (IsLater e next) (MayPrecede l) (λ later. may_precede e now b first.0 later first.1) more.lines more.later) more.in_order;
+      in_order = AllPairs-cons MayBeCastBefore l more.lines (All-weaker (IsLater e next) (MayBeCastBefore l) (λ later. may_precede e now b first.0 later first.1) more.lines more.later) more.in_order;
     }
 
 -- ---- all lists
@@ -155,8 +155,8 @@ record AllAnswered (e : Election) (base now : List Ballot) (lists : List (List B
   lines : List (List CastLine)
   of_lists : map (map (λ l. l.ballot)) lines ≡ lists
   held : MayHold e (now ++ accepted_in lines)
-  replies : All (All (λ l. IsRight e base (now ++ accepted_in lines) l.ballot l.reply)) lines
-  in_order : All (AllPairs MayPrecede) lines
+  replies : All (All (λ l. IsRightReply e base (now ++ accepted_in lines) l.ballot l.reply)) lines
+  in_order : All (AllPairs MayBeCastBefore) lines
 
 -- all lists are answered, one after another
 all_answered : (e : Election) (base now : List Ballot) (lists : List (List Ballot)) → ((x : Ballot) → Contains base x → Contains now x) → MayHold e now → All (All (IsValid e)) lists → AllAnswered e base now lists
@@ -164,8 +164,8 @@ all_answered e base now [] among held valid = record {
   lines = [];
   of_lists = refl;
   held = subst (MayHold e) (sym (append-nil now)) held;
-  replies = All-nil (All (λ (l : CastLine). IsRight e base (now ++ []) l.ballot l.reply));
-  in_order = All-nil (AllPairs MayPrecede);
+  replies = All-nil (All (λ (l : CastLine). IsRightReply e base (now ++ []) l.ballot l.reply));
+  in_order = All-nil (AllPairs MayBeCastBefore);
 }
 all_answered e base now (ballots ∷ lists) among held valid =
     let first = list_answered e base now ballots among held (All-head (All (IsValid e)) ballots lists valid) in
@@ -177,12 +177,12 @@ all_answered e base now (ballots ∷ lists) among held valid =
       lines = first.lines ∷ more.lines;
       of_lists = ap (λ ballots. ballots ∷ map (map (λ l. l.ballot)) more.lines) first.of_ballots ∙ ap (λ lists. ballots ∷ lists) more.of_lists;
       held = subst (MayHold e) whole more.held;
-      replies = subst (λ (set : List Ballot). All (All (λ (l : CastLine). IsRight e base set l.ballot l.reply)) (first.lines ∷ more.lines)) whole
-          (All-cons (All (λ (l : CastLine). IsRight e base (next ++ accepted_in more.lines) l.ballot l.reply)) first.lines more.lines
-          (All-weaker (λ (l : CastLine). IsRight e base next l.ballot l.reply) (λ (l : CastLine). IsRight e base (next ++ accepted_in more.lines) l.ballot l.reply)
+      replies = subst (λ (set : List Ballot). All (All (λ (l : CastLine). IsRightReply e base set l.ballot l.reply)) (first.lines ∷ more.lines)) whole
+          (All-cons (All (λ (l : CastLine). IsRightReply e base (next ++ accepted_in more.lines) l.ballot l.reply)) first.lines more.lines
+          (All-weaker (λ (l : CastLine). IsRightReply e base next l.ballot l.reply) (λ (l : CastLine). IsRightReply e base (next ++ accepted_in more.lines) l.ballot l.reply)
           (λ l right. stays_right e base next (accepted_in more.lines) l.ballot l.reply more.held.few right) first.lines first.replies)
           more.replies);
-      in_order = All-cons (AllPairs MayPrecede) first.lines more.lines first.in_order more.in_order;
+      in_order = All-cons (AllPairs MayBeCastBefore) first.lines more.lines first.in_order more.in_order;
     }
 
 -- ---- the outcome
@@ -208,8 +208,8 @@ has_outcome e set lists is few valid =
         gains = same;
         set = set_of_listing e now all.held.listing;
         within_limit = omega (arith, length_permutation now (in_order now) same, all.held.few);
-        replies = All-weaker (All (λ (l : CastLine). IsRight e set now l.ballot l.reply)) (All (λ (l : CastLine). IsRight e set (in_order now) l.ballot l.reply))
-            (λ lines right. All-weaker (λ (l : CastLine). IsRight e set now l.ballot l.reply) (λ (l : CastLine). IsRight e set (in_order now) l.ballot l.reply)
+        replies = All-weaker (All (λ (l : CastLine). IsRightReply e set now l.ballot l.reply)) (All (λ (l : CastLine). IsRightReply e set (in_order now) l.ballot l.reply))
+            (λ lines right. All-weaker (λ (l : CastLine). IsRightReply e set now l.ballot l.reply) (λ (l : CastLine). IsRightReply e set (in_order now) l.ballot l.reply)
             (λ l right. right_in_order e set now (in_order now) l.ballot l.reply same right) lines right) all.lines all.replies;
         in_order = all.in_order;
       };

@@ -7,7 +7,7 @@ use Rattle.std.proofs.lemmas.List.Elements.{All-contains, All-head, Contains-app
 use Rattle.std.proofs.lemmas.List.Sorted.{Contains-permutation, IsPermutation-sym, IsPermutation-trans, length_permutation}
 use Rattle.ballot_record.proofs.BallotSets.{listing_of_set, same_in_order}
 use Rattle.store_spec.specs.Ballot.{Ballot, IsBallotSet}
-use Rattle.store_spec.specs.BallotPhase.{BallotOutcome, CastLine, CastReply, IsRight, MayPrecede, is_accepted}
+use Rattle.store_spec.specs.BallotPhase.{BallotOutcome, CastLine, CastReply, IsRightReply, MayBeCastBefore, is_accepted}
 use Rattle.store_spec.specs.BallotPhase.CastReply.{Accepted, Conflict, Duplicate, Full}
 use Rattle.store_spec.specs.Election.{Election}
 use Rattle.store_spec.specs.Session.{ClosesCasting, Effect, cast_text, closing}
@@ -27,8 +27,8 @@ record Stands (e : Election) (base now : List Ballot) (b : Ballot) (reply : Cast
   gains : IsPermutation (now ++ accepted_of (record { ballot = b; reply = reply } ∷ rest)) after
   apart : Apart (now ++ accepted_of (record { ballot = b; reply = reply } ∷ rest))
   few : length after ≤ e.limit
-  right : IsRight e base after b reply
-  later : All (MayPrecede (record { ballot = b; reply = reply })) rest
+  right : IsRightReply e base after b reply
+  later : All (MayBeCastBefore (record { ballot = b; reply = reply })) rest
 
 -- what is accepted is the first line's ballot, or is accepted behind it
 accepted_one : (reply : CastReply) (ballot : Ballot) (lines : List CastLine) (b : Ballot) → Contains (accepted_of (record { ballot = ballot; reply = reply } ∷ lines)) b → ((reply ≡ Accepted) × (ballot ≡ b)) ⊎ Contains (accepted_of lines) b
@@ -57,7 +57,7 @@ in_after e base now b reply rest after refused stands x at same =
       | inl before ↦ before
       | inr behind ↦
           let line = accepted_line rest x behind in
-          let precedes = All-contains (MayPrecede (record { ballot = b; reply = reply })) rest line.0 stands.later line.1 line.2 in
+          let precedes = All-contains (MayBeCastBefore (record { ballot = b; reply = reply })) rest line.0 stands.later line.1 line.2 in
           absurd (precedes.0 (sym same ∙ sym (ap (λ (b : Ballot). b.number) line.3)))
     ]
 
@@ -74,7 +74,7 @@ why e base now b Conflict rest after stands =
 why e base now b Full rest after stands =
     let none : accepted_of rest ≡ [] = nothing_in (accepted_of rest) (λ x at.
     let line = accepted_line rest x at in
-    (All-contains (MayPrecede (record { ballot = b; reply = Full })) rest line.0 stands.later line.1 line.2).1 refl) in (
+    (All-contains (MayBeCastBefore (record { ballot = b; reply = Full })) rest line.0 stands.later line.1 line.2).1 refl) in (
       (λ has. stands.right.0 (any_among (λ x. x.number ≡ b.number) now after (λ x at. Contains-permutation (now ++ accepted_of rest) after x stands.gains (Contains-append_left now (accepted_of rest) x at)) has)),
       omega (arith, stands.right.1, length_permutation (now ++ accepted_of rest) after stands.gains, length-append now (accepted_of rest), ap length none),
     )
@@ -112,7 +112,7 @@ record ListOutcome (e : Election) (base : List Ballot) (lines : List CastLine) (
   set : IsBallotSet e after
   few : length after ≤ e.limit
   replies : All (Right e base after) lines
-  in_order : AllPairs MayPrecede lines
+  in_order : AllPairs MayBeCastBefore lines
 
 -- the outcome of lists that are one list
 of_list : (e : Election) (base : List Ballot) (lines : List CastLine) (after : List Ballot) → BallotOutcome e base (lines ∷ []) after → ListOutcome e base lines after
@@ -121,7 +121,7 @@ of_list e base lines after outcome = record {
   set = outcome.set;
   few = outcome.within_limit;
   replies = All-head (All (Right e base after)) lines [] outcome.replies;
-  in_order = All-head (AllPairs MayPrecede) lines [] outcome.in_order;
+  in_order = All-head (AllPairs MayBeCastBefore) lines [] outcome.in_order;
 }
 
 -- what is accepted of lines and more
@@ -141,7 +141,7 @@ stands e base done l rest after outcome =
       apart = (listing_of_set e (now ++ accepted_of (l ∷ rest)) after gains outcome.set).distinct;
       few = outcome.few;
       right = All-contains (Right e base after) (done ++ l ∷ rest) l outcome.replies (Contains-append_right done (l ∷ rest) l (0, omega arith, refl));
-      later = pairs_first MayPrecede l rest (pairs_back MayPrecede done (l ∷ rest) outcome.in_order);
+      later = pairs_first MayBeCastBefore l rest (pairs_back MayBeCastBefore done (l ∷ rest) outcome.in_order);
     }
 
 -- so the lines of two outcomes are the same

@@ -7,7 +7,7 @@ use Rattle.std.proofs.lemmas.List.Elements.{All-contains, All-head, Contains-app
 use Rattle.std.proofs.lemmas.List.Sums.{sum_by-append}
 use Rattle.store_spec.specs.Ballot.{Ballot, numbers_of}
 use Rattle.store_spec.specs.Session.{ClosesWithdrawing, Effect, ballots_without, closing, withdraw_text}
-use Rattle.store_spec.specs.WithdrawPhase.{IsRight, MayPrecede, WithdrawOutcome, WithdrawReply, Withdrawal, is_withdrawn, listed}
+use Rattle.store_spec.specs.WithdrawPhase.{IsRightWithdrawal, MayBeWithdrawnBefore, WithdrawOutcome, WithdrawReply, Withdrawal, is_withdrawn, listed}
 use Rattle.store_spec.specs.WithdrawPhase.WithdrawReply.{Absent, Gone, Withdrawn}
 use Rattle.session_laws.proofs.Lists.{Contains-map, pairs_back, pairs_first}
 use Rattle.session_laws.proofs.Members.{Contains-has, has, has-Contains, has-first, has-none, has-other}
@@ -42,9 +42,9 @@ some_withdrawn x (a ∷ lines) some =
 
 -- an answer, behind some lines and before others
 record Stands (held : List ℕ) (number : ℕ) (reply : WithdrawReply) (done rest : List Withdrawal) : Type 0 where
-  right : IsRight held number reply
+  right : IsRightWithdrawal held number reply
   once : Contains held number → times number (withdrawn_of done) + times number (withdrawn_of (record { number = number; reply = reply } ∷ rest)) ≡ 1
-  later : All (MayPrecede (record { number = number; reply = reply })) rest
+  later : All (MayBeWithdrawnBefore (record { number = number; reply = reply })) rest
 
 -- how often a held number was withdrawn, by whether it came before
 so_far : Bool → ℕ
@@ -67,7 +67,7 @@ told held before number Withdrawn done rest true false is there counted stands =
 told held before number Gone done rest true false is there counted stands =
     let held_here = Contains-has held number is in
     let later = some_withdrawn number rest (omega (arith, counted held_here, stands.once held_here)) in
-    absurd (All-contains (MayPrecede (record { number = number; reply = Gone })) rest later.0 stands.later later.1 (sym later.2) refl later.3)
+    absurd (All-contains (MayBeWithdrawnBefore (record { number = number; reply = Gone })) rest later.0 stands.later later.1 (sym later.2) refl later.3)
 
 -- ---- a list
 
@@ -75,7 +75,7 @@ told held before number Gone done rest true false is there counted stands =
 record ListOutcome (held : List ℕ) (lines : List Withdrawal) : Type 0 where
   right : All (Right held) lines
   once : (x : ℕ) → Contains held x → Contains (map (λ a. a.number) lines) x → times x (withdrawn_of lines) ≡ 1
-  in_order : AllPairs MayPrecede lines
+  in_order : AllPairs MayBeWithdrawnBefore lines
 
 -- the outcome of lists that are one list
 of_list : (held : List ℕ) (lines : List Withdrawal) (after : List ℕ) → WithdrawOutcome held (lines ∷ []) after → ListOutcome held lines
@@ -84,7 +84,7 @@ of_list held lines after outcome = record {
   once = λ x is here.
       ap (times x) (sym (append-nil (withdrawn_of lines)))
       ∙ outcome.once x is (subst (λ (numbers : List ℕ). Contains numbers x) (sym (append-nil (map (λ (a : Withdrawal). a.number) lines))) here);
-  in_order = All-head (AllPairs MayPrecede) lines [] outcome.in_order;
+  in_order = All-head (AllPairs MayBeWithdrawnBefore) lines [] outcome.in_order;
 }
 
 -- the number of a line is one of the numbers
@@ -101,7 +101,7 @@ stands held done a rest outcome =
       once = λ is.
           sym (ap (times a.number) (withdrawn_of-append done (a ∷ rest)) ∙ sum_by-append _ (withdrawn_of done) (withdrawn_of (a ∷ rest)))
           ∙ outcome.once a.number is (number_within all a here);
-      later = pairs_first MayPrecede a rest (pairs_back MayPrecede done (a ∷ rest) outcome.in_order);
+      later = pairs_first MayBeWithdrawnBefore a rest (pairs_back MayBeWithdrawnBefore done (a ∷ rest) outcome.in_order);
     }
 
 -- how often a number was withdrawn, with one answer more

@@ -8,7 +8,7 @@ use Rattle.std.proofs.lemmas.List.Elements.{All-append, All-cons, All-contains, 
 use Rattle.std.proofs.lemmas.List.Sorted.{Contains-permutation, IsPermutation-append_right, IsPermutation-filter_both, IsPermutation-map, IsPermutation-sym, IsPermutation-trans, length_permutation}
 use Rattle.ballot_record.proofs.BallotSets.{listing-IsPermutation, same_in_order}
 use Rattle.store_spec.specs.Ballot.{Ballot}
-use Rattle.store_spec.specs.BallotPhase.{BallotOutcome, CastLine, CastReply, HasNumber, IsRight, accepted_in, is_accepted}
+use Rattle.store_spec.specs.BallotPhase.{BallotOutcome, CastLine, CastReply, HasNumber, IsRightReply, accepted_in, is_accepted}
 use Rattle.store_spec.specs.BallotPhase.CastReply.{Accepted, Conflict, Duplicate, Full}
 use Rattle.store_spec.specs.Election.{Election}
 use Rattle.session_laws.specs.NewBallots.{AreNew, ballots_in}
@@ -68,7 +68,7 @@ parted set lists =
     (IsPermutation-append_right set (ballots_in lists) (accepted_in lists ++ map (λ l. l.ballot) (refused lists)) here)
 
 -- a reply that is right, and does not accept, needs the number in the set, or a full one
-refusal_wrong : (e : Election) (set now after : List Ballot) (b : Ballot) (reply : CastReply) → IsPermutation now after → ¬ HasNumber now b.number → length now < e.limit → IsRight e set after b reply → not (is_accepted reply) ≡ true → ⊥
+refusal_wrong : (e : Election) (set now after : List Ballot) (b : Ballot) (reply : CastReply) → IsPermutation now after → ¬ HasNumber now b.number → length now < e.limit → IsRightReply e set after b reply → not (is_accepted reply) ≡ true → ⊥
 refusal_wrong e set now after b Accepted same new room right refusing = absurd cc
 refusal_wrong e set now after b Duplicate same new room right refusing = new (contained_any (λ x. x.number ≡ b.number) now b (Contains-permutation after now b (IsPermutation-sym now after same) right) refl)
 refusal_wrong e set now after b Conflict same new room right refusing =

@@ -7,7 +7,7 @@ use Rattle.std.proofs.lemmas.List.Elements.{All-cons, All-nil, All-weaker}
 use Rattle.std.proofs.lemmas.List.Folds.{list_any-append}
 use Rattle.std.proofs.lemmas.List.Kept.{AllPairs-cons}
 use Rattle.std.proofs.lemmas.List.Sums.{sum_by-append, sum_by-cons}
-use Rattle.store_spec.specs.WithdrawPhase.{IsRight, MayPrecede, WithdrawOutcome, WithdrawReply, Withdrawal, is_withdrawn, listed, withdrawn_in, without}
+use Rattle.store_spec.specs.WithdrawPhase.{IsRightWithdrawal, MayBeWithdrawnBefore, WithdrawOutcome, WithdrawReply, Withdrawal, is_withdrawn, listed, withdrawn_in, without}
 use Rattle.store_spec.specs.WithdrawPhase.WithdrawReply.{Withdrawn, Gone, Absent}
 use Rattle.session_laws.proofs.Listed.{listed-map}
 use Rattle.session_laws.proofs.Members.{Contains-has, has, has-Contains, has-first, has-none, has-other}
@@ -48,7 +48,7 @@ all_answers_of held before (ns ∷ lists) =
 -- ---- they are right
 
 -- a reply is right
-right_reply : (held : List ℕ) (n : ℕ) (is before : Bool) → has held n ≡ is → IsRight held n (reply_to is before)
+right_reply : (held : List ℕ) (n : ℕ) (is before : Bool) → has held n ≡ is → IsRightWithdrawal held n (reply_to is before)
 unfolding reply_to
 right_reply held n false before is = has-none held n is
 right_reply held n true true is = Contains-has held n is
@@ -56,7 +56,7 @@ right_reply held n true false is = Contains-has held n is
 
 -- an answer is right
 abbrev pub Right : List ℕ → Withdrawal → Type 0
-Right held a = IsRight held a.number a.reply
+Right held a = IsRightWithdrawal held a.number a.reply
 
 -- the answers of a list are right
 answers_right : (held before ns : List ℕ) → All (Right held) (answers held before ns)
@@ -92,17 +92,17 @@ answers_not_again held before (n ∷ ns) =
     has_more xs n x there = elim (cases_eq n x) [ inl same ↦ has-first xs n x same | inr other ↦ has-other xs n x other ∙ there ]
 
 -- the answers of a list stand in order
-answers_in_order : (held before ns : List ℕ) → AllPairs MayPrecede (answers held before ns)
+answers_in_order : (held before ns : List ℕ) → AllPairs MayBeWithdrawnBefore (answers held before ns)
 answers_in_order held before [] = λ i j d less within. absurd (omega arith)
 answers_in_order held before (n ∷ ns) =
-    AllPairs-cons MayPrecede (answer held before n) (answers held (n ∷ before) ns)
-    (All-weaker (NotAgain (n ∷ before)) (MayPrecede (answer held before n)) (λ a not same gone. not (has-first before n a.number same)) (answers held (n ∷ before) ns) (answers_not_again held (n ∷ before) ns))
+    AllPairs-cons MayBeWithdrawnBefore (answer held before n) (answers held (n ∷ before) ns)
+    (All-weaker (NotAgain (n ∷ before)) (MayBeWithdrawnBefore (answer held before n)) (λ a not same gone. not (has-first before n a.number same)) (answers held (n ∷ before) ns) (answers_not_again held (n ∷ before) ns))
     (answers_in_order held (n ∷ before) ns)
 
 -- and those of all lists
-all_in_order : (held before : List ℕ) (lists : List (List ℕ)) → All (AllPairs MayPrecede) (all_answers held before lists)
-all_in_order held before [] = All-nil (AllPairs MayPrecede)
-all_in_order held before (ns ∷ lists) = All-cons (AllPairs MayPrecede) (answers held before ns) (all_answers held (ns ++ before) lists) (answers_in_order held before ns) (all_in_order held (ns ++ before) lists)
+all_in_order : (held before : List ℕ) (lists : List (List ℕ)) → All (AllPairs MayBeWithdrawnBefore) (all_answers held before lists)
+all_in_order held before [] = All-nil (AllPairs MayBeWithdrawnBefore)
+all_in_order held before (ns ∷ lists) = All-cons (AllPairs MayBeWithdrawnBefore) (answers held before ns) (all_answers held (ns ++ before) lists) (answers_in_order held before ns) (all_in_order held (ns ++ before) lists)
 
 -- ---- each number is withdrawn once
 

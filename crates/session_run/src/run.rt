@@ -1,3 +1,5 @@
+//! A whole session, from the recovery of its medium to its last line.
+
 ghost use Rattle.std.specs.Prelude.{◌≡◌, ◌≤◌, [], All, List, false, IfOk, IsErrOf, OnOk};
 ghost use Rattle.outside_io.specs.Outside.{input, output};
 ghost use Rattle.phase_gate.specs.Around.{around, rows_of};

@@ -12,7 +12,7 @@ use Rattle.layout_def.proofs.LaidOut.{AreHomed, empty_cell, homed_ascending, lai
 use Rattle.layout_def.proofs.Ascending.{IsRising, ascending_distinct, length-ascending, put_first, put_later}
 use Rattle.layout_def.proofs.Placing.{placed_at}
 use Rattle.store_spec.specs.CastInvariant.{AreClaimed, ArePlaced, CastInvariant, EachOnce, HasMet, HasSeen, HoldSame, HoldsOther, IsClaimed, IsHand, IsProbing, hands_of, in_hand}
-use Rattle.store_spec.specs.CastStep.{CastView, Table, claim_place, fresh_view, joined_view}
+use Rattle.store_spec.specs.CastStep.{CastView, Table, claim_place, fresh_cast_view, joined_view}
 use Rattle.store_spec.specs.CastStep.CastState.{Rest}
 use Rattle.store_spec.specs.Layout.{HasRoom, IsOrdered, ascending, laid_out, layout_of, put_in_order}
 use Rattle.step_core.proofs.CastClaims.{accepted-set}
@@ -113,34 +113,34 @@ opening_idle t base cells views ordered size same once idle =
     }
 
 -- tabulators that are new
-pub fresh_met : (claims : List ℕ) → HasMet claims fresh_view
+pub fresh_met : (claims : List ℕ) → HasMet claims fresh_cast_view
 fresh_met claims = record { taken = All-nil (IsClaimed claims); full = λ k d none. absurd (omega arith) }
 
-fresh_idle : (claims : List ℕ) (view : CastView) → view ≡ fresh_view → IsIdle claims view
+fresh_idle : (claims : List ℕ) (view : CastView) → view ≡ fresh_cast_view → IsIdle claims view
 fresh_idle claims view is = subst (IsIdle claims) (sym is) (record { rests = refl; no_accepted = refl; met = fresh_met claims })
 
-pub opening : (t : Table) (base cells : List ℕ) (views : List CastView) → IsOrdered t.home cells → length cells ≡ t.cells → HoldSame cells base → EachOnce base → All (λ view. view ≡ fresh_view) views → CastInvariant t base (cells ++ replicate t.claims 0) views
+pub opening : (t : Table) (base cells : List ℕ) (views : List CastView) → IsOrdered t.home cells → length cells ≡ t.cells → HoldSame cells base → EachOnce base → All (λ view. view ≡ fresh_cast_view) views → CastInvariant t base (cells ++ replicate t.claims 0) views
 opening t base cells views ordered size same once fresh =
     opening_idle t base cells views ordered size same once
-    (All-weaker (λ view. view ≡ fresh_view) (IsIdle (replicate t.claims 0)) (fresh_idle (replicate t.claims 0)) views fresh)
+    (All-weaker (λ view. view ≡ fresh_cast_view) (IsIdle (replicate t.claims 0)) (fresh_idle (replicate t.claims 0)) views fresh)
 
 -- ---- seats
 
 -- a new tabulator comes last
-pub seat_made : (t : Table) (base words : List ℕ) (views : List CastView) → CastInvariant t base words views → CastInvariant t base words (views ++ fresh_view ∷ [])
+pub seat_made : (t : Table) (base words : List ℕ) (views : List CastView) → CastInvariant t base words views → CastInvariant t base words (views ++ fresh_cast_view ∷ [])
 seat_made t base words views h =
     let cells = take t.cells words in
     let claims = drop t.cells words in
-    let all = views ++ fresh_view ∷ [] in
+    let all = views ++ fresh_cast_view ∷ [] in
     record {
       size = h.size;
       placed = record {
         ordered = h.placed.ordered;
-        hands = All-push (λ view. IsHand t.home cells view.state) views fresh_view h.placed.hands tt;
-        seen = All-push (λ view. HasSeen cells view.state) views fresh_view h.placed.seen tt;
+        hands = All-push (λ view. IsHand t.home cells view.state) views fresh_cast_view h.placed.hands tt;
+        seen = All-push (λ view. HasSeen cells view.state) views fresh_cast_view h.placed.seen tt;
       };
       owned = λ weight none.
-          let hands = ap (sum_by weight) (map-append (λ (view : CastView). in_hand view.state) views (fresh_view ∷ [])) ∙ sum_by_push weight (hands_of views) 0 in
+          let hands = ap (sum_by weight) (map-append (λ (view : CastView). in_hand view.state) views (fresh_cast_view ∷ [])) ∙ sum_by_push weight (hands_of views) 0 in
           let before = sum_by-append weight cells (hands_of views) in
           let after = sum_by-append weight cells (hands_of all) in
           omega (arith, h.owned weight none);
@@ -149,31 +149,31 @@ seat_made t base words views h =
         accepted = λ weight none.
             let before = sum_by-flat_map weight (λ (view : CastView). view.accepted) views in
             let after = sum_by-flat_map weight (λ (view : CastView). view.accepted) all in
-            let more = sum_by_push (λ (view : CastView). sum_by weight view.accepted) views fresh_view in
+            let more = sum_by_push (λ (view : CastView). sum_by weight view.accepted) views fresh_cast_view in
             omega (arith, h.claimed.accepted weight none);
         some = All-flat_map (λ x. x ≢ 0) (λ (view : CastView). view.accepted) all
-            (All-push (λ view. All (λ x. x ≢ 0) view.accepted) views fresh_view
+            (All-push (λ view. All (λ x. x ≢ 0) view.accepted) views fresh_cast_view
             (All-from_flat_map (λ x. x ≢ 0) (λ (view : CastView). view.accepted) views h.claimed.some) (All-nil (λ x. x ≢ 0)));
         in_order = h.claimed.in_order;
-        probing = All-push (λ view. IsProbing t.claims base claims view.state) views fresh_view h.claimed.probing tt;
-        met = All-push (HasMet claims) views fresh_view h.claimed.met (fresh_met claims);
+        probing = All-push (λ view. IsProbing t.claims base claims view.state) views fresh_cast_view h.claimed.probing tt;
+        met = All-push (HasMet claims) views fresh_cast_view h.claimed.met (fresh_met claims);
       };
     }
 
 -- two tabulators at rest: the one takes in the other's lists, and the other is as new
-pub seat_taken_in : (t : Table) (base words : List ℕ) (views : List CastView) (id other : ℕ) (view gone : CastView) → CastInvariant t base words views → id ≢ other → slice_get views id ≡ Some view → slice_get views other ≡ Some gone → view.state ≡ Rest → gone.state ≡ Rest → CastInvariant t base words (set (set views id (joined_view view gone)) other fresh_view)
+pub seat_taken_in : (t : Table) (base words : List ℕ) (views : List CastView) (id other : ℕ) (view gone : CastView) → CastInvariant t base words views → id ≢ other → slice_get views id ≡ Some view → slice_get views other ≡ Some gone → view.state ≡ Rest → gone.state ≡ Rest → CastInvariant t base words (set (set views id (joined_view view gone)) other fresh_cast_view)
 seat_taken_in t base words views id other view gone h apart stands stands_too rests rests_too =
     let cells = take t.cells words in
     let claims = drop t.cells words in
     let both = joined_view view gone in
     let first = set views id both in
-    let now = set first other fresh_view in
+    let now = set first other fresh_cast_view in
     let within_other = stands_within views other gone stands_too in
     let stays : slice_get first other ≡ Some gone =
     slice_get-get_or first other gone (omega (arith, length-set views id both))
     ∙ ap (λ (v : CastView). Some v) (get_or-set_other views id other both gone (λ e. apart (sym e)) ∙ get_or_from_slice_get views other gone gone stands_too) in
-    let two : (P : CastView → Type 0) → All P views → P both → P fresh_view → All P now = λ P all joined fresh.
-    All-set P first other fresh_view fresh (All-set P views id both joined all) in
+    let two : (P : CastView → Type 0) → All P views → P both → P fresh_cast_view → All P now = λ P all joined fresh.
+    All-set P first other fresh_cast_view fresh (All-set P views id both joined all) in
     let P : ℕ → Type 0 = λ x. x ≢ 0 in
     let each = All-from_flat_map P (λ (v : CastView). v.accepted) views h.claimed.some in
     let own = at_place (HasMet claims) views id view stands h.claimed.met in
@@ -187,7 +187,7 @@ seat_taken_in t base words views id other view gone h apart stands stands_too re
       };
       owned = λ weight none.
           let one = hands-set weight views id view both stands in
-          let two_now = hands-set weight first other gone fresh_view stays in
+          let two_now = hands-set weight first other gone fresh_cast_view stays in
           let hand = ap weight (ap in_hand rests) in
           let hand_too = ap weight (ap in_hand rests_too) in
           let before = sum_by-append weight cells (hands_of views) in
@@ -197,7 +197,7 @@ seat_taken_in t base words views id other view gone h apart stands stands_too re
         once = h.claimed.once;
         accepted = λ weight none.
             let one = accepted-set weight views id view both stands in
-            let two_now = accepted-set weight first other gone fresh_view stays in
+            let two_now = accepted-set weight first other gone fresh_cast_view stays in
             let all = sum_by-append weight view.accepted gone.accepted in
             omega (arith, h.claimed.accepted weight none);
         some = All-flat_map P (λ (v : CastView). v.accepted) now

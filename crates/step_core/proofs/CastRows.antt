@@ -13,7 +13,7 @@ use Rattle.step_core.proofs.CastPlaces.{placed_over, placed_still}
 use Rattle.step_core.proofs.Sets.{at_place}
 use Rattle.layout_def.proofs.Displaced.{displaced_stands_on, passes_greater, stands_at_home}
 use Rattle.store_spec.specs.CastInvariant.{AreClaimed, AreInOrder, ArePlaced, CastInvariant, HasMet, HasRoomFor, HasSeen, HoldsOther, IsHand, IsProbing, IsTried, hands_of, in_hand}
-use Rattle.store_spec.specs.CastStep.{CastNote, CastRow, CastState, CastView, Table, claim_place, claim_word, view_after}
+use Rattle.store_spec.specs.CastStep.{CastNote, CastRow, CastState, CastView, Table, claim_place, claim_word, cast_view_after}
 use Rattle.store_spec.specs.CastStep.CastNote.{Quiet, Claimed, Taken, Full, Placed}
 use Rattle.store_spec.specs.CastStep.CastRow.{claim_won, claim_met, claim_passed, claims_full, look_passes, look_ready, takes_empty, displaces, lost_passes, lost_ready}
 use Rattle.store_spec.specs.CastStep.CastState.{Rest, Probing, Carrying, Ready}
@@ -137,7 +137,7 @@ unchanged words word found is = ap (set words word) (sym is) ∙ set-get_or word
 pub keeps_claim_won : (t : Table) (x k : ℕ) → IsKept t (Probing x k) (claim_word t x k) 0 x (Carrying x (t.home x)) Claimed
 keeps_claim_won t x k base words views id view room h stands from found =
     let tried = probing_is t base words views id view (Probing x k) h stands from in
-    whole_claim t base words views id view (view_after view x (Carrying x (t.home x)) Claimed) x k h stands tried found (ap in_hand from) refl refl refl refl
+    whole_claim t base words views id view (cast_view_after view x (Carrying x (t.home x)) Claimed) x k h stands tried found (ap in_hand from) refl refl refl refl
 
 -- where the word is left as it was
 row_still : (t : Table) (base words : List ℕ) (views : List CastView) (word found : ℕ) (now : List CastView) → get_or words word 0 ≡ found → CastInvariant t base words now → CastInvariant t base (set words word found) now
@@ -158,7 +158,7 @@ keeps_claim_met t x k base words views id view room h stands from found =
     let left = tried.one_left in
     let inside : claim_place x k t.claims < length claims = let there = within x k t.claims (omega arith) in omega (arith, claims_size t base words views h) in
     let claimed = met_claimed claims x (claim_place x k t.claims) tried.some inside (claim_found t words x k x found) in
-    let now = view_after view x Rest Taken in
+    let now = cast_view_after view x Rest Taken in
     row_still t base words views (claim_word t x k) x (set views id now) found
     (whole_still t base words views id view now h stands tt tt (sym (ap in_hand from)) refl tt
     (met_taken claims view now x (met_is t base words views id view h stands) claimed refl refl))
@@ -167,7 +167,7 @@ pub keeps_claim_passed : (t : Table) (x k f : ℕ) → f ≢ 0 → f ≢ x → k
 keeps_claim_passed t x k f some other more base words views id view room h stands from found =
     let claims = drop t.cells words in
     let tried = probing_is t base words views id view (Probing x k) h stands from in
-    let now = view_after view x (Probing x (k + 1)) Quiet in
+    let now = cast_view_after view x (Probing x (k + 1)) Quiet in
     row_still t base words views (claim_word t x k) f (set views id now) found
     (whole_still t base words views id view now h stands tt tt (sym (ap in_hand from)) refl
     (tried_more t.claims base claims x k tried (other_found t words x k f found some other) more)
@@ -177,7 +177,7 @@ pub keeps_claims_full : (t : Table) (x k f : ℕ) → f ≢ 0 → f ≢ x → k 
 keeps_claims_full t x k f some other last base words views id view room h stands from found =
     let claims = drop t.cells words in
     let tried = probing_is t base words views id view (Probing x k) h stands from in
-    let now = view_after view x Rest Full in
+    let now = cast_view_after view x Rest Full in
     let all = tried_all t.claims base claims x k tried (other_found t words x k f found some other) last in
     row_still t base words views (claim_word t x k) f (set views id now) found
     (whole_still t base words views id view now h stands tt tt (sym (ap in_hand from)) refl tt
@@ -194,7 +194,7 @@ keeps_look_passes t v i f greater base words views id view room h stands from fo
     let hand = hand_is t base words views id view (Carrying v i) h stands from in
     let there = inside t base words views id view v i room h stands (ap in_hand from) hand in
     let word : get_or cells i 0 ≡ f = get_or-take t.cells words i 0 there ∙ found in
-    let now = view_after view v (Carrying v (i + 1)) Quiet in
+    let now = cast_view_after view v (Carrying v (i + 1)) Quiet in
     row_still t base words views i f (set views id now) found
     (whole_still t base words views id view now h stands
     (hand.0, passes_greater t.home cells v i hand.1 (omega arith)) tt (sym (ap in_hand from)) refl tt
@@ -206,7 +206,7 @@ keeps_look_ready t v i f less base words views id view room h stands from found 
     let hand = hand_is t base words views id view (Carrying v i) h stands from in
     let there = inside t base words views id view v i room h stands (ap in_hand from) hand in
     let word : get_or cells i 0 ≡ f = get_or-take t.cells words i 0 there ∙ found in
-    let now = view_after view v (Ready v i f) Quiet in
+    let now = cast_view_after view v (Ready v i f) Quiet in
     row_still t base words views i f (set views id now) found
     (whole_still t base words views id view now h stands hand (less, omega arith) (sym (ap in_hand from)) refl tt
     (met_same (drop t.cells words) view now (met_is t base words views id view h stands) refl refl))
@@ -217,7 +217,7 @@ keeps_lost_passes t v i s f greater base words views id view room h stands from 
     let hand = hand_is t base words views id view (Ready v i s) h stands from in
     let there = inside t base words views id view v i room h stands (ap in_hand from) hand in
     let word : get_or cells i 0 ≡ f = get_or-take t.cells words i 0 there ∙ found in
-    let now = view_after view v (Carrying v (i + 1)) Quiet in
+    let now = cast_view_after view v (Carrying v (i + 1)) Quiet in
     row_still t base words views i f (set views id now) found
     (whole_still t base words views id view now h stands
     (hand.0, passes_greater t.home cells v i hand.1 (omega arith)) tt (sym (ap in_hand from)) refl tt
@@ -229,7 +229,7 @@ keeps_lost_ready t v i s f less base words views id view room h stands from foun
     let hand = hand_is t base words views id view (Ready v i s) h stands from in
     let there = inside t base words views id view v i room h stands (ap in_hand from) hand in
     let word : get_or cells i 0 ≡ f = get_or-take t.cells words i 0 there ∙ found in
-    let now = view_after view v (Ready v i f) Quiet in
+    let now = cast_view_after view v (Ready v i f) Quiet in
     row_still t base words views i f (set views id now) found
     (whole_still t base words views id view now h stands hand (less, omega arith) (sym (ap in_hand from)) refl tt
     (met_same (drop t.cells words) view now (met_is t base words views id view h stands) refl refl))
@@ -239,7 +239,7 @@ keeps_takes_empty t v i base words views id view room h stands from found =
     let hand = hand_is t base words views id view (Ready v i 0) h stands from in
     let seen = seen_is t base words views id view (Ready v i 0) h stands from in
     let there = inside t base words views id view v i room h stands (ap in_hand from) hand in
-    let now = view_after view v Rest Placed in
+    let now = cast_view_after view v Rest Placed in
     whole_cell t base words views id i view now v 0 h stands there hand.1 found seen.0 (ap in_hand from) refl tt tt refl tt
     (met_same (drop t.cells words) view now (met_is t base words views id view h stands) refl refl)
 
@@ -250,7 +250,7 @@ keeps_displaces t v i s some base words views id view room h stands from found =
     let seen = seen_is t base words views id view (Ready v i s) h stands from in
     let there = inside t base words views id view v i room h stands (ap in_hand from) hand in
     let word : get_or cells i 0 ≡ s = get_or-take t.cells words i 0 there ∙ found in
-    let now = view_after view v (Carrying s (i + 1)) Quiet in
+    let now = cast_view_after view v (Carrying s (i + 1)) Quiet in
     let onward : MayStand t.home (set cells i v) s (i + 1) = subst (λ (w : ℕ). MayStand t.home (set cells i v) w (i + 1)) word
     (displaced_stands_on t.home cells v i h.placed.ordered (omega (arith, cells_size t base words views h)) (λ z. some (sym word ∙ z)) (let less = seen.0 in omega arith)) in
     whole_cell t base words views id i view now v s h stands there hand.1 found seen.0 (ap in_hand from) refl (some, onward) tt refl tt

@@ -12,7 +12,7 @@ use Rattle.step_core.proofs.Sets.{stands-set}
 use Rattle.step_core.specs.CastTables.{FitsIn, MayFind}
 use Rattle.store_spec.specs.Act.{word_of}
 use Rattle.store_spec.specs.CastInvariant.{CastInvariant, HasRoomFor, in_hand}
-use Rattle.store_spec.specs.CastStep.{CastNote, CastRow, CastState, CastStep, CastView, GoesFrom, Table, cast_act, cast_measure, number_of, view_after}
+use Rattle.store_spec.specs.CastStep.{CastNote, CastRow, CastState, CastStep, CastView, GoesFrom, Table, cast_act, cast_measure, cast_number, cast_view_after}
 use Rattle.store_spec.specs.CastStep.CastNote.{Quiet, Claimed, Taken, Full, Placed}
 use Rattle.store_spec.specs.CastStep.CastRow.{claim_won, claim_met, claim_passed, claims_full, look_passes, look_ready, takes_empty, displaces, lost_passes, lost_ready}
 use Rattle.store_spec.specs.Layout.{MayStand}
@@ -55,7 +55,7 @@ begins t base words views id view (Probing x k) from h stands is goes = subst (C
 begins t base words views id view (Carrying v i) from h stands is goes = subst (CastInvariant t base words) (sym (begun_same views id view from stands (goes ∙ sym is))) h
 begins t base words views id view (Ready v i s) from h stands is goes = subst (CastInvariant t base words) (sym (begun_same views id view from stands (goes ∙ sym is))) h
 
-after_begun : (view : CastView) (from : CastState) (number : ℕ) (new : CastState) (note : CastNote) → view_after (begun view from) number new note ≡ view_after view number new note
+after_begun : (view : CastView) (from : CastState) (number : ℕ) (new : CastState) (note : CastNote) → cast_view_after (begun view from) number new note ≡ cast_view_after view number new note
 after_begun view from number new Quiet = refl
 after_begun view from number new Claimed = refl
 after_begun view from number new Taken = refl
@@ -70,9 +70,9 @@ keeps_step t base words views id now views_now room h s =
     let before = begins t base words views id view view.state from h s.acts refl s.goes in
     let after = keeps_row t from s.word (get_or words s.word 0) s.left s.new s.note s.row base words begun_views id (begun view from) room before
     (stands-set views id view (begun view from) s.acts) refl refl in
-    let same : set begun_views id (view_after (begun view from) (number_of from) s.new s.note) ≡ views_now =
-    set-set views id (begun view from) (view_after (begun view from) (number_of from) s.new s.note)
-    ∙ ap (set views id) (after_begun view from (number_of from) s.new s.note)
+    let same : set begun_views id (cast_view_after (begun view from) (cast_number from) s.new s.note) ≡ views_now =
+    set-set views id (begun view from) (cast_view_after (begun view from) (cast_number from) s.new s.note)
+    ∙ ap (set views id) (after_begun view from (cast_number from) s.new s.note)
     ∙ sym s.view_now in
     subst (λ (w : List ℕ). CastInvariant t base w views_now) (sym s.words_now)
     (subst (λ (vs : List CastView). CastInvariant t base (set words s.word s.left) vs) same after)

@@ -5,7 +5,8 @@ use Rattle.std.proofs.lemmas.List.{get_or_default, map-append}
 use Rattle.std.proofs.lemmas.List.Elements.{All-cons, All-head, All-nil, All-tail, All-weaker, filter-append}
 use Rattle.std.proofs.lemmas.List.Folds.{Any-from_list_any, list_any_at}
 use Rattle.std.specs.List.{All, Contains, filter, list_any}
-use Rattle.step_core.specs.Casting.{IsNext, answers_at_once}
+use Rattle.step_core.specs.Casting.{answers_at_once}
+use Rattle.step_core.specs.CastingInvariant.{IsNext}
 use Rattle.store_spec.specs.CastStep.{Table}
 use Rattle.store_spec.specs.CastStep.CastState.{Rest}
 use Rattle.store_spec.specs.Phase.{Answer, Met, numbers_that}

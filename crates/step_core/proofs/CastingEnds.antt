@@ -14,7 +14,8 @@ use Rattle.step_core.proofs.CastingAnswers.{numbers-contains}
 use Rattle.step_core.proofs.CastingSteps.{IsAnswering, has_room, tab_settled}
 use Rattle.step_core.proofs.CastingViews.{settled_accepted, settled_met}
 use Rattle.step_core.proofs.Sets.{at_place, contains-flat_map, distinct_once, flat_map-map, is_one, once_distinct, stands-map}
-use Rattle.step_core.specs.Casting.{Casting, HasEnded, IsCasting, IsDone, IsTabulator, MayOpen, Tabulator, TellsBase, answers_in, cells_in, is_full, is_taken, opened, settled, table_in, view_of}
+use Rattle.step_core.specs.Casting.{Casting, HasEnded, IsDone, MayOpen, Tabulator, answers_in, cells_in, opened, settled, table_in}
+use Rattle.step_core.specs.CastingInvariant.{IsCasting, IsTabulator, TellsBase, is_full, is_taken, view_of}
 use Rattle.layout_def.proofs.Ascending.{contains_from_in, from_ascending, in_from_contains, length-ascending}
 use Rattle.layout_def.proofs.LaidOut.{layout_of_is}
 use Rattle.store_spec.specs.CastInvariant.{EachOnce, HasMet, IsClaimed, accepted_of}
@@ -22,7 +23,7 @@ use Rattle.store_spec.specs.CastStep.{CastView}
 use Rattle.store_spec.specs.CastStep.CastState.{Rest}
 use Rattle.store_spec.specs.Home.{home_of}
 use Rattle.store_spec.specs.Layout.{HasRoom, ascending, layout_of}
-use Rattle.store_spec.specs.Phase.{Answer, CastOutcome, IsRight, MayPrecede, Met, accepted_in, is_accepted, numbers_that}
+use Rattle.store_spec.specs.Phase.{Answer, CastOutcome, IsRightlyMet, MayBeMetBefore, Met, numbers_accepted, is_met_accepted, numbers_that}
 use Rattle.store_spec.specs.Phase.Met.{Held, Accepted, Taken, Full}
 
 -- ---- the opening
@@ -81,15 +82,15 @@ opened_is bits salt limit start lists may =
 
 -- ---- the end
 
-accepted_by_all : (tabs : List Tabulator) → accepted_of (map view_of tabs) ≡ accepted_in (map (λ (tab : Tabulator). tab.answers) tabs)
+accepted_by_all : (tabs : List Tabulator) → accepted_of (map view_of tabs) ≡ numbers_accepted (map (λ (tab : Tabulator). tab.answers) tabs)
 accepted_by_all tabs =
     flat_map-map (λ (view : CastView). view.accepted) view_of tabs
-    ∙ sym (flat_map-map (numbers_that is_accepted) (λ (tab : Tabulator). tab.answers) tabs)
+    ∙ sym (flat_map-map (numbers_that is_met_accepted) (λ (tab : Tabulator). tab.answers) tabs)
 
 -- ---- an answer is right at the end
 
 -- what an answer says of the set before and after, as its tabulator tells it
-right : (limit : ℕ) (base after accepted taken full : List ℕ) (x : ℕ) (met : Met) → TellsBase base x met → (is_accepted met ≡ true → Contains accepted x) → (is_taken met ≡ true → Contains taken x) → (is_full met ≡ true → Contains full x) → (Contains accepted x → Contains after x) → (Contains taken x → Contains after x) → (Contains full x → ¬ Contains base x → (¬ Contains after x) × (length after ≡ limit)) → IsRight limit base after x met
+right : (limit : ℕ) (base after accepted taken full : List ℕ) (x : ℕ) (met : Met) → TellsBase base x met → (is_met_accepted met ≡ true → Contains accepted x) → (is_taken met ≡ true → Contains taken x) → (is_full met ≡ true → Contains full x) → (Contains accepted x → Contains after x) → (Contains taken x → Contains after x) → (Contains full x → ¬ Contains base x → (¬ Contains after x) × (length after ≡ limit)) → IsRightlyMet limit base after x met
 right limit base after accepted taken full x Held tells in_accepted in_taken in_full from_accepted from_taken from_full = tells
 right limit base after accepted taken full x Accepted tells in_accepted in_taken in_full from_accepted from_taken from_full = (tells, from_accepted (in_accepted refl))
 right limit base after accepted taken full x Taken tells in_accepted in_taken in_full from_accepted from_taken from_full = (tells, from_taken (in_taken refl))
@@ -122,15 +123,15 @@ module _ (c : Casting) (h : IsCasting c) where
       let claimed = All-contains (IsClaimed claims) (numbers_that is_taken tab.answers) x met.taken taken in
       same-contains claims (accepted_of views) x (same-back (accepted_of views) claims h.invariant.claimed.accepted) claimed.0 claimed.1
 
-  answers_right : (id : ℕ) (tab : Tabulator) → slice_get c.tabs id ≡ Some tab → All (λ a. IsRight c.limit c.base (c.base ++ accepted_of (map view_of c.tabs)) a.number a.met) tab.answers
+  answers_right : (id : ℕ) (tab : Tabulator) → slice_get c.tabs id ≡ Some tab → All (λ a. IsRightlyMet c.limit c.base (c.base ++ accepted_of (map view_of c.tabs)) a.number a.met) tab.answers
   answers_right id tab stands k d within =
       let views = map view_of c.tabs in
       let accepted = accepted_of views in
       let own = at_place (IsTabulator (table_in c) c.base) c.tabs id tab stands h.tabs in
       let a = get_or tab.answers k d in
-      right c.limit c.base (c.base ++ accepted) (numbers_that is_accepted tab.answers) (numbers_that is_taken tab.answers) (numbers_that is_full tab.answers) a.number a.met
+      right c.limit c.base (c.base ++ accepted) (numbers_that is_met_accepted tab.answers) (numbers_that is_taken tab.answers) (numbers_that is_full tab.answers) a.number a.met
       (own.tells_base k d within)
-      (numbers-contains is_accepted tab.answers k d within)
+      (numbers-contains is_met_accepted tab.answers k d within)
       (numbers-contains is_taken tab.answers k d within)
       (numbers-contains is_full tab.answers k d within)
       (λ has. Contains-append_right c.base accepted a.number (contains-flat_map (λ (view : CastView). view.accepted) views id (view_of tab) a.number (stands-map view_of c.tabs id tab stands) has))
@@ -148,10 +149,10 @@ module _ (c : Casting) (h : IsCasting c) where
         outcome = record {
           gains = subst (λ (xs : List ℕ). IsPermutation (c.base ++ xs) after) (accepted_by_all c.tabs) (IsPermutation-refl after);
           distinct = distinct_once after (accepted_once t c.base c.words views h.invariant) some;
-          answers = All-map (All (λ a. IsRight c.limit c.base after a.number a.met)) (λ (tab : Tabulator). tab.answers) c.tabs
+          answers = All-map (All (λ a. IsRightlyMet c.limit c.base after a.number a.met)) (λ (tab : Tabulator). tab.answers) c.tabs
               (λ id tab within. answers_right id (get_or c.tabs id tab) (slice_get-get_or c.tabs id tab within));
-          in_order = All-map (AllPairs MayPrecede) (λ (tab : Tabulator). tab.answers) c.tabs
-              (All-weaker (IsTabulator t c.base) (λ (tab : Tabulator). AllPairs MayPrecede tab.answers) (λ tab own. own.in_order) c.tabs h.tabs);
+          in_order = All-map (AllPairs MayBeMetBefore) (λ (tab : Tabulator). tab.answers) c.tabs
+              (All-weaker (IsTabulator t c.base) (λ (tab : Tabulator). AllPairs MayBeMetBefore tab.answers) (λ tab own. own.in_order) c.tabs h.tabs);
         };
         layout = rest_layout t c.base c.words views (has_room c h) h.invariant
             (All-map (λ (view : CastView). view.state ≡ Rest) view_of c.tabs (All-weaker IsDone (λ (tab : Tabulator). tab.state ≡ Rest) (λ tab is. is.0) c.tabs done));

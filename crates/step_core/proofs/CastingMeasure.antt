@@ -6,7 +6,8 @@ use Rattle.std.specs.Prelude.{slice_get}
 use Rattle.step_core.proofs.CastSteps.{begins, begun, falls_at}
 use Rattle.step_core.proofs.CastingSteps.{goes_from, has_room, no_row, steps_keep, told_state}
 use Rattle.step_core.proofs.Sets.{at_place, stands-map, stands-set}
-use Rattle.step_core.specs.Casting.{Casting, FallsAt, IsCasting, IsTabulator, Runs, Steps, Tabulator, after_step, answers_at_once, next_from, not_begun, table_in, view_of}
+use Rattle.step_core.specs.Casting.{Casting, Runs, Steps, Tabulator, after_step, answers_at_once, next_from, table_in}
+use Rattle.step_core.specs.CastingInvariant.{FallsAt, IsCasting, IsTabulator, not_begun, view_of}
 use Rattle.step_core.specs.Casting.Runs.{ended, goes, rests}
 use Rattle.store_spec.specs.CastStep.{CastNote, CastRow, CastState, Table, cast_measure}
 use Rattle.store_spec.specs.CastStep.CastRow.{claim_won, claim_met, claim_passed, claims_full, look_passes, look_ready, takes_empty, displaces, lost_passes, lost_ready}

@@ -7,7 +7,8 @@ use Rattle.step_core.proofs.CastSteps.{word_of_row}
 use Rattle.step_core.proofs.CastingSteps.{no_row, steps_keep}
 use Rattle.step_core.proofs.CoreSteps.{may_step}
 use Rattle.step_core.specs.CastTables.{FitsIn}
-use Rattle.step_core.specs.Casting.{Casting, IsCasting, IsDone, IsDoneAt, Runs, Steps, Tabulator, after_step, next_from, table_in}
+use Rattle.step_core.specs.Casting.{Casting, IsDone, IsDoneAt, Runs, Steps, Tabulator, after_step, next_from, table_in}
+use Rattle.step_core.specs.CastingInvariant.{IsCasting}
 use Rattle.step_core.specs.Casting.Runs.{ended, goes, rests}
 use Rattle.store_spec.specs.CastStep.{CastNote, CastRow, CastState, Table, claim_word}
 use Rattle.store_spec.specs.CastStep.CastNote.{Quiet, Claimed, Taken, Full, Placed}

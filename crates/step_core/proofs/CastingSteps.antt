@@ -13,14 +13,15 @@ use Rattle.step_core.proofs.CastingAnswers.{IsAtOnce, at_once, next_settled, num
 use Rattle.step_core.proofs.CastingAnswers.IsAtOnce.{is_full_for, is_held}
 use Rattle.step_core.proofs.CastingViews.{AnswersFirst, keeps_settled, view_told}
 use Rattle.step_core.proofs.Sets.{AllPairs-append, at_place, stands-map, stands-set}
-use Rattle.step_core.specs.Casting.{Casting, IsCasting, IsNext, IsTabulator, Steps, Tabulator, TellsBase, after_step, answers_at_once, first_answered, is_full, is_taken, next_from, settled, table_in, told, view_of}
+use Rattle.step_core.specs.Casting.{Casting, Steps, Tabulator, after_step, answers_at_once, first_answered, next_from, settled, table_in, told}
+use Rattle.step_core.specs.CastingInvariant.{IsCasting, IsNext, IsTabulator, TellsBase, is_full, is_taken, view_of}
 use Rattle.store_spec.specs.Act.{word_of}
 use Rattle.store_spec.specs.CastInvariant.{CastInvariant, HasRoomFor}
-use Rattle.store_spec.specs.CastStep.{CastNote, CastRow, CastState, CastView, GoesFrom, MayBegin, Table, cast_act, claim_word, number_of, view_after}
+use Rattle.store_spec.specs.CastStep.{CastNote, CastRow, CastState, CastView, GoesFrom, MayBegin, Table, cast_act, claim_word, cast_number, cast_view_after}
 use Rattle.store_spec.specs.CastStep as notes
 use Rattle.store_spec.specs.CastStep.CastRow.{claim_won, claim_met, claim_passed, claims_full, look_passes, look_ready, takes_empty, displaces, lost_passes, lost_ready}
 use Rattle.store_spec.specs.CastStep.CastState.{Rest, Probing, Carrying, Ready}
-use Rattle.store_spec.specs.Phase.{Answer, MayPrecede, Met, is_accepted, numbers_that}
+use Rattle.store_spec.specs.Phase.{Answer, MayBeMetBefore, Met, is_met_accepted, numbers_that}
 use Rattle.store_spec.specs.Phase.Met.{Held, Accepted, Taken, Full}
 
 -- a cell for each home, each number of the base and each claim word
@@ -54,7 +55,7 @@ goes_from t base (Probing x k) left word found put new note next row = refl
 goes_from t base (Carrying v i) left word found put new note next row = refl
 goes_from t base (Ready v i s) left word found put new note next row = refl
 
-answers_first : (t : Table) (from : CastState) (word found put : ℕ) (new : CastState) (note : CastNote) (left : List ℕ) → CastRow t from word found put new note → ((x k : ℕ) → from ≡ Probing x k → (xs : List ℕ) × (left ≡ x ∷ xs)) → AnswersFirst note (number_of from) left
+answers_first : (t : Table) (from : CastState) (word found put : ℕ) (new : CastState) (note : CastNote) (left : List ℕ) → CastRow t from word found put new note → ((x k : ℕ) → from ≡ Probing x k → (xs : List ℕ) × (left ≡ x ∷ xs)) → AnswersFirst note (cast_number from) left
 answers_first t from word found put new note left (claim_won x k) first = first x k refl
 answers_first t from word found put new note left (claim_met x k) first = first x k refl
 answers_first t from word found put new note left (claim_passed x k f some other more) first = tt
@@ -92,21 +93,21 @@ invariant_after t base words views id view tab (Ready v i s) note stands h = h
 
 pub record IsAnswering (base : List ℕ) (answers : List Answer) : Type 0 where
   pub tells_base : All (λ a. TellsBase base a.number a.met) answers
-  pub in_order : AllPairs MayPrecede answers
+  pub in_order : AllPairs MayBeMetBefore answers
 
 answers_more : (base : List ℕ) (answers : List Answer) (x : ℕ) (met : Met) → IsAnswering base answers → TellsBase base x met → (met ≡ Accepted → All (λ a. (a.number ≢ x) × (a.met ≢ Full)) answers) → IsAnswering base (answers ++ record { number = x; met = met } ∷ [])
 answers_more base answers x met h tells new =
     let a : Answer = record { number = x; met = met } in
     record {
       tells_base = All-push (λ (b : Answer). TellsBase base b.number b.met) answers a h.tells_base tells;
-      in_order = all_pairs_push MayPrecede answers a h.in_order (λ k d within is. new is k d within);
+      in_order = all_pairs_push MayBeMetBefore answers a h.in_order (λ k d within is. new is k d within);
     }
 
 at_once_tells : (base : List ℕ) (claims x : ℕ) (met : Met) → IsAtOnce base claims x met → TellsBase base x met
 at_once_tells base claims x met (is_held y h) = h
 at_once_tells base claims x met (is_full_for y h e) = h
 
-at_once_follows : (base : List ℕ) (claims : ℕ) (earlier : Answer) (x : ℕ) (met : Met) → IsAtOnce base claims x met → MayPrecede earlier (record { number = x; met = met })
+at_once_follows : (base : List ℕ) (claims : ℕ) (earlier : Answer) (x : ℕ) (met : Met) → IsAtOnce base claims x met → MayBeMetBefore earlier (record { number = x; met = met })
 at_once_follows base claims earlier x met (is_held y h) = λ is. absurd cc
 at_once_follows base claims earlier x met (is_full_for y h e) = λ is. absurd cc
 
@@ -118,12 +119,12 @@ answers_settled base claims answers xs h =
     record {
       tells_base = All-append (λ (a : Answer). TellsBase base a.number a.met) answers more h.tells_base
           (All-weaker AtOnce (λ (a : Answer). TellsBase base a.number a.met) (λ a. at_once_tells base claims a.number a.met) more once);
-      in_order = AllPairs-append MayPrecede answers more h.in_order
-          (All-weaker AtOnce (λ (a : Answer). (earlier : Answer) → MayPrecede earlier a) (λ a is earlier. at_once_follows base claims earlier a.number a.met is) more once);
+      in_order = AllPairs-append MayBeMetBefore answers more h.in_order
+          (All-weaker AtOnce (λ (a : Answer). (earlier : Answer) → MayBeMetBefore earlier a) (λ a is earlier. at_once_follows base claims earlier a.number a.met is) more once);
     }
 
 -- an answer among others, of which none has the number and none met full claim words
-new_by : (base accepted taken full : List ℕ) (x y : ℕ) (met : Met) → TellsBase base y met → (is_accepted met ≡ true → Contains accepted y) → (is_taken met ≡ true → Contains taken y) → (is_full met ≡ true → Contains full y) → ¬ Contains base x → ¬ Contains accepted x → ¬ Contains taken x → full ≡ [] → (y ≢ x) × (met ≢ Full)
+new_by : (base accepted taken full : List ℕ) (x y : ℕ) (met : Met) → TellsBase base y met → (is_met_accepted met ≡ true → Contains accepted y) → (is_taken met ≡ true → Contains taken y) → (is_full met ≡ true → Contains full y) → ¬ Contains base x → ¬ Contains accepted x → ¬ Contains taken x → full ≡ [] → (y ≢ x) × (met ≢ Full)
 new_by base accepted taken full x y Held tells in_accepted in_taken in_full not_base not_accepted not_taken none =
     (λ e. not_base (subst (Contains base) e tells), λ is. cc)
 new_by base accepted taken full x y Accepted tells in_accepted in_taken in_full not_base not_accepted not_taken none =
@@ -137,9 +138,9 @@ new_by base accepted taken full x y Full tells in_accepted in_taken in_full not_
 new_among : (base : List ℕ) (answers : List Answer) (x : ℕ) → IsAnswering base answers → ¬ Contains base x → IsNewIn (view_of (record { state = Rest; answers = answers; left = [] })) x → All (λ a. (a.number ≢ x) × (a.met ≢ Full)) answers
 new_among base answers x h not_base new k d within =
     let a = get_or answers k d in
-    new_by base (numbers_that is_accepted answers) (numbers_that is_taken answers) (numbers_that is_full answers) x a.number a.met
+    new_by base (numbers_that is_met_accepted answers) (numbers_that is_taken answers) (numbers_that is_full answers) x a.number a.met
     (h.tells_base k d within)
-    (numbers-contains is_accepted answers k d within)
+    (numbers-contains is_met_accepted answers k d within)
     (numbers-contains is_taken answers k d within)
     (numbers-contains is_full answers k d within)
     not_base new.not_accepted new.not_taken new.not_full
@@ -201,7 +202,7 @@ steps_keep c id now h s =
     let goes = goes_from t c.base tab.state tab.left s.word found s.left s.new s.note own.next s.row in
     let first = λ (x k : ℕ) (e : from ≡ Probing x k). tried_first t c.base tab.state tab.left x k own.next e in
     let words = set c.words s.word s.left in
-    let after = keeps_step t c.base c.words views id words (set views id (view_after view (number_of from) s.new s.note)) room h.invariant
+    let after = keeps_step t c.base c.words views id words (set views id (cast_view_after view (cast_number from) s.new s.note)) room h.invariant
     (record {
       view = view;
       acts = stands;
@@ -215,7 +216,7 @@ steps_keep c id now h s =
       words_now = refl;
       view_now = refl;
     }) in
-    let told_view = view_told s.new tab.answers (number_of from) tab.left s.note (answers_first t from s.word found s.left s.new s.note tab.left s.row first) in
+    let told_view = view_told s.new tab.answers (cast_number from) tab.left s.note (answers_first t from s.word found s.left s.new s.note tab.left s.row first) in
     let told_invariant : CastInvariant t c.base words (set views id (view_of (told s.note (record tab { state = s.new })))) =
     subst (λ (v : CastView). CastInvariant t c.base words (set views id v)) (sym told_view) after in
     let end = after_step c.base t.claims tab s.new s.note in

@@ -8,12 +8,13 @@ use Rattle.step_core.proofs.CastHands.{claims_size}
 use Rattle.step_core.proofs.CastRows.{met_is, whole_still}
 use Rattle.step_core.proofs.CastingAnswers.{All-numbers, IsAtOnce, at_once, numbers-append, numbers-no, numbers-none, numbers-yes}
 use Rattle.step_core.proofs.CastingAnswers.IsAtOnce.{is_full_for, is_held}
-use Rattle.step_core.specs.Casting.{Tabulator, answers_at_once, first_answered, is_full, is_taken, settled, told, view_of}
+use Rattle.step_core.specs.Casting.{Tabulator, answers_at_once, first_answered, settled, told}
+use Rattle.step_core.specs.CastingInvariant.{is_full, is_taken, view_of}
 use Rattle.store_spec.specs.CastInvariant.{CastInvariant, HasMet, HasSeen, HoldsOther, IsClaimed, IsHand, IsProbing}
-use Rattle.store_spec.specs.CastStep.{CastNote, CastState, CastView, Table, view_after}
+use Rattle.store_spec.specs.CastStep.{CastNote, CastState, CastView, Table, cast_view_after}
 use Rattle.store_spec.specs.CastStep as notes
 use Rattle.store_spec.specs.CastStep.CastState.{Rest, Probing, Carrying, Ready}
-use Rattle.store_spec.specs.Phase.{Answer, Met, is_accepted, numbers_that}
+use Rattle.store_spec.specs.Phase.{Answer, Met, is_met_accepted, numbers_that}
 use Rattle.store_spec.specs.Phase.Met.{Accepted, Taken, Full}
 
 -- ---- the answer of a step
@@ -46,31 +47,31 @@ first_is_answered : (met : Met) (answers : List Answer) (x : ℕ) (left xs : Lis
 first_is_answered met answers x left xs e = ap (first_answered met answers) e
 
 -- the view of a tabulator that has answered by a note
-pub view_told : (state : CastState) (answers : List Answer) (x : ℕ) (left : List ℕ) (note : CastNote) → AnswersFirst note x left → view_of (told note (record { state = state; answers = answers; left = left })) ≡ view_after (view_of (record { state = state; answers = answers; left = left })) x state note
+pub view_told : (state : CastState) (answers : List Answer) (x : ℕ) (left : List ℕ) (note : CastNote) → AnswersFirst note x left → view_of (told note (record { state = state; answers = answers; left = left })) ≡ cast_view_after (view_of (record { state = state; answers = answers; left = left })) x state note
 view_told state answers x left notes.Quiet first = refl
 view_told state answers x left notes.Claimed first =
     let is = first_is_answered Accepted answers x left first.0 first.1 in
     same_view state _ _ _ _ _ _
-    (ap (numbers_that is_accepted) is ∙ pushed is_accepted answers x Accepted refl)
+    (ap (numbers_that is_met_accepted) is ∙ pushed is_met_accepted answers x Accepted refl)
     (ap (numbers_that is_taken) is ∙ passed is_taken answers x Accepted refl)
     (ap (numbers_that is_full) is ∙ passed is_full answers x Accepted refl)
 view_told state answers x left notes.Taken first =
     let is = first_is_answered Taken answers x left first.0 first.1 in
     same_view state _ _ _ _ _ _
-    (ap (numbers_that is_accepted) is ∙ passed is_accepted answers x Taken refl)
+    (ap (numbers_that is_met_accepted) is ∙ passed is_met_accepted answers x Taken refl)
     (ap (numbers_that is_taken) is ∙ pushed is_taken answers x Taken refl)
     (ap (numbers_that is_full) is ∙ passed is_full answers x Taken refl)
 view_told state answers x left notes.Full first =
     let is = first_is_answered Full answers x left first.0 first.1 in
     same_view state _ _ _ _ _ _
-    (ap (numbers_that is_accepted) is ∙ passed is_accepted answers x Full refl)
+    (ap (numbers_that is_met_accepted) is ∙ passed is_met_accepted answers x Full refl)
     (ap (numbers_that is_taken) is ∙ passed is_taken answers x Full refl)
     (ap (numbers_that is_full) is ∙ pushed is_full answers x Full refl)
 view_told state answers x left notes.Placed first = refl
 
 -- ---- the answers that need no step
 
-not_accepted : (base : List ℕ) (claims x : ℕ) (met : Met) → IsAtOnce base claims x met → is_accepted met ≡ false
+not_accepted : (base : List ℕ) (claims x : ℕ) (met : Met) → IsAtOnce base claims x met → is_met_accepted met ≡ false
 not_accepted base claims x met (is_held y h) = refl
 not_accepted base claims x met (is_full_for y h e) = refl
 
@@ -93,8 +94,8 @@ same_behind is_such answers base xs claims none =
     ∙ ap (λ ys. numbers_that is_such answers ++ ys) (none_at_once is_such base xs claims none)
     ∙ append-nil (numbers_that is_such answers)
 
-pub settled_accepted : (base : List ℕ) (claims : ℕ) (tab : Tabulator) → numbers_that is_accepted (settled base claims tab).answers ≡ numbers_that is_accepted tab.answers
-settled_accepted base claims tab = same_behind is_accepted tab.answers base tab.left claims (not_accepted base claims)
+pub settled_accepted : (base : List ℕ) (claims : ℕ) (tab : Tabulator) → numbers_that is_met_accepted (settled base claims tab).answers ≡ numbers_that is_met_accepted tab.answers
+settled_accepted base claims tab = same_behind is_met_accepted tab.answers base tab.left claims (not_accepted base claims)
 
 pub settled_taken : (base : List ℕ) (claims : ℕ) (tab : Tabulator) → numbers_that is_taken (settled base claims tab).answers ≡ numbers_that is_taken tab.answers
 settled_taken base claims tab = same_behind is_taken tab.answers base tab.left claims (not_taken base claims)

@@ -16,7 +16,8 @@ use Rattle.step_core.proofs.CoreTabs.{mets_are}
 use Rattle.step_core.proofs.Sets.{All-from_map, stands-map}
 use Rattle.step_core.specs.CastCore.{HasReplyRoom, MayStep, TabSteps, met_of, tab_of}
 use Rattle.step_core.specs.CastCoreKept.{IsCoreKept, casting_of}
-use Rattle.step_core.specs.Casting.{Casting, FallsAt, HasEnded, IsCasting, IsDone, Steps, lists_in, mets_at, table_in}
+use Rattle.step_core.specs.Casting.{Casting, HasEnded, IsDone, Steps, lists_in, mets_at, table_in}
+use Rattle.step_core.specs.CastingInvariant.{FallsAt, IsCasting}
 use Rattle.step_core.specs.Casting as casting
 use Rattle.store_spec.specs.Phase.{Answer}
 use Rattle.step_core.specs.Shape.{table_of}

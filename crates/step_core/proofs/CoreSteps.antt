@@ -8,7 +8,8 @@ use Rattle.step_core.proofs.CastingSteps.{has_room}
 use Rattle.step_core.proofs.Sets.{at_place, stands-map, stands-set}
 use Rattle.step_core.specs.CastCore.{HasTried, MayStep, MayTell}
 use Rattle.step_core.specs.CastTables.{FitsIn, MayFind}
-use Rattle.step_core.specs.Casting.{Casting, IsCasting, IsNext, IsTabulator, Tabulator, next_from, table_in, view_of}
+use Rattle.step_core.specs.Casting.{Casting, Tabulator, next_from, table_in}
+use Rattle.step_core.specs.CastingInvariant.{IsCasting, IsNext, IsTabulator, view_of}
 use Rattle.store_spec.specs.Act.{word_of}
 use Rattle.store_spec.specs.CastStep.{CastNote, CastRow, CastState, GoesFrom, Table, cast_act}
 use Rattle.store_spec.specs.CastStep.CastRow.{claim_won, claim_met, claim_passed, claims_full, look_passes, look_ready, takes_empty, displaces, lost_passes, lost_ready}

@@ -9,7 +9,8 @@ use Rattle.step_core.proofs.WithdrawingBase.{base_layout}
 use Rattle.step_core.proofs.WithdrawingEnds.{opens, same_base}
 use Rattle.step_core.specs.Seats.{StandOnce}
 use Rattle.step_core.specs.WithdrawCore.{IsShape}
-use Rattle.step_core.specs.Withdrawing.{IsWithdrawing, Withdrawing, opened, opened_tab}
+use Rattle.step_core.specs.Withdrawing.{Withdrawing, opened, opened_tab}
+use Rattle.step_core.specs.WithdrawingInvariant.{IsWithdrawing}
 use Rattle.step_core.specs.Withdrawing as phase
 use Rattle.step_core.specs.declared.shape.Shape.{Shape}
 use Rattle.probe_order.specs.declared.Salted.{Salted}

@@ -9,7 +9,8 @@ use Rattle.step_core.proofs.WithdrawingBase.{base_layout}
 use Rattle.step_core.proofs.WithdrawingSteps.{steps_fall, steps_keep}
 use Rattle.step_core.specs.WithdrawCore.{MayStep, Moves, TabSteps, base_of, tab_of}
 use Rattle.step_core.specs.WithdrawCoreKept.{IsCoreKept, withdrawing_of}
-use Rattle.step_core.specs.Withdrawing.{FallsAt, IsDone, IsDoneAt, IsWithdrawer, IsWithdrawing, Steps, Withdrawing, next_number, view_of}
+use Rattle.step_core.specs.Withdrawing.{IsDone, IsDoneAt, Steps, Withdrawing, next_number}
+use Rattle.step_core.specs.WithdrawingInvariant.{FallsAt, IsWithdrawer, IsWithdrawing, view_of}
 use Rattle.step_core.specs.Withdrawing as phase
 use Rattle.step_core.specs.declared.shape.Shape.{Shape}
 use Rattle.step_core.specs.declared.withdraw_core.WithdrawCore.TheInside.{Inside}

@@ -16,7 +16,7 @@ use Rattle.step_core.specs.declared.withdrawer.WithdrawReply.{WithdrawReply}
 use Rattle.store_spec.specs.Act.{Act, left_by, word_of}
 use Rattle.store_spec.specs.WithdrawPhase as outcome
 use Rattle.store_spec.specs.WithdrawPhase.WithdrawReply.{Absent}
-use Rattle.store_spec.specs.WithdrawStep.{FirstRow, IsSeated, WithdrawNote, WithdrawRow, WithdrawState, number_of, withdraw_act}
+use Rattle.store_spec.specs.WithdrawStep.{FirstRow, IsSeated, WithdrawNote, WithdrawRow, WithdrawState, withdraw_number, withdraw_act}
 use Rattle.store_spec.specs.WithdrawStep.WithdrawMove.{begins, goes_on}
 use Rattle.store_spec.specs.WithdrawStep.WithdrawState.{Rest, Chosen, Owing, Up, Down}
 
@@ -88,7 +88,7 @@ first_moves home base words numbers places number cell cells found words_now new
       put = put ∙ ap (λ n. set words (n + cell) 1) (sym size);
     }
 
-pub next_moves : (home : ℕ → ℕ) (base words : List ℕ) (from : WithdrawState) (act : Act) (found : ℕ) (words_now : List ℕ) (new : WithdrawState) (note : WithdrawNote) → act ≡ withdraw_act from → found ≡ get_or words (word_of act) 0 → words_now ≡ set words (word_of act) (left_by act found) → LeadsTo home from found new note → Moves home base words from (number_of from) words_now new note
+pub next_moves : (home : ℕ → ℕ) (base words : List ℕ) (from : WithdrawState) (act : Act) (found : ℕ) (words_now : List ℕ) (new : WithdrawState) (note : WithdrawNote) → act ≡ withdraw_act from → found ≡ get_or words (word_of act) 0 → words_now ≡ set words (word_of act) (left_by act found) → LeadsTo home from found new note → Moves home base words from (withdraw_number from) words_now new note
 next_moves home base words from act found words_now new note is finds put row = record {
   word = word_of (withdraw_act from);
   left = left_by (withdraw_act from) found;
@@ -97,7 +97,7 @@ next_moves home base words from act found words_now new note is finds put row = 
 }
 
 -- away from rest the number is that of the state
-pub later_number : (from : WithdrawState) (left : List ℕ) → from ≢ Rest → number_of from ≡ next_number from left
+pub later_number : (from : WithdrawState) (left : List ℕ) → from ≢ Rest → withdraw_number from ≡ next_number from left
 later_number Rest left moves = absurd (moves refl)
 later_number (Chosen x place) left moves = refl
 later_number (Owing x bound) left moves = refl

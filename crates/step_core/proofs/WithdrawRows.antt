@@ -13,7 +13,7 @@ use Rattle.step_core.proofs.WithdrawLowered.{lower}
 use Rattle.step_core.proofs.WithdrawQuiet.{quiet}
 use Rattle.step_core.specs.WithdrawKept.{IsKept}
 use Rattle.store_spec.specs.WithdrawInvariant.{copies, IsSound, Owes, SearchesDown, cell_words, WithdrawInvariant}
-use Rattle.store_spec.specs.WithdrawStep.{WithdrawState, WithdrawNote, WithdrawView, Fits, WithdrawRow, FirstRow, IsSeated, WithdrawMove, WithdrawStep, number_of}
+use Rattle.store_spec.specs.WithdrawStep.{WithdrawState, WithdrawNote, WithdrawView, Fits, WithdrawRow, FirstRow, IsSeated, WithdrawMove, WithdrawStep, withdraw_number}
 use Rattle.store_spec.specs.WithdrawStep.FirstRow.{found_gone, chose}
 use Rattle.store_spec.specs.WithdrawStep.WithdrawMove.{begins, goes_on}
 use Rattle.store_spec.specs.WithdrawStep.WithdrawState.{Rest, Chosen, Owing, Up, Down}
@@ -203,7 +203,7 @@ module _ (home : ℕ → ℕ) (base words : List ℕ) (views : List WithdrawView
 
 -- ---- any row
 
-pub keeps_row : (home : ℕ → ℕ) (base : List ℕ) (state : WithdrawState) (cell found left : ℕ) (next : WithdrawState) (note : WithdrawNote) → WithdrawRow home state cell found left next note → IsKept home base (number_of state) state cell found left next note
+pub keeps_row : (home : ℕ → ℕ) (base : List ℕ) (state : WithdrawState) (cell found left : ℕ) (next : WithdrawState) (note : WithdrawNote) → WithdrawRow home state cell found left next note → IsKept home base (withdraw_number state) state cell found left next note
 keeps_row home base _ _ _ _ _ _ (walked_on {x} {place} {word} less) words views id w inv has is here = keeps_walked_on home base words views inv id w has x place word less is here
 keeps_row home base _ _ _ _ _ _ (began {x} {place} {word} stops) words views id w inv has is here = keeps_began home base words views inv id w has x place word stops is here
 keeps_row home base _ _ _ _ _ _ (found_owed {x} {bound}) words views id w inv has is here = keeps_found_owed home base words views inv id w has x bound is here

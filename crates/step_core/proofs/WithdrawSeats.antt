@@ -12,7 +12,7 @@ use Rattle.step_core.proofs.WithdrawFirst.{one_place}
 use Rattle.step_core.proofs.WithdrawStates.{Follows, sound_after}
 use Rattle.step_core.proofs.WordSets.{all_after_set, sum_none, zero_cell}
 use Rattle.store_spec.specs.WithdrawInvariant.{copies, debts, times, times_begun, times_taken, walks_to, IsOf, IsLive, AreCopies, AreOwed, AreLowest, IsSound, IsBase, cell_words, flag_words, WithdrawInvariant}
-use Rattle.store_spec.specs.WithdrawStep.{WithdrawState, WithdrawView, fresh_view}
+use Rattle.store_spec.specs.WithdrawStep.{WithdrawState, WithdrawView, fresh_withdraw_view}
 use Rattle.store_spec.specs.WithdrawStep.WithdrawState.{Rest}
 
 -- ---- the same counts
@@ -60,19 +60,19 @@ module _ (home : ℕ → ℕ) (base words : List ℕ) (views views' : List Withd
 
 -- ---- a seat is made: a view at rest comes last
 
-pub seat_made : (home : ℕ → ℕ) (base words : List ℕ) (views : List WithdrawView) → WithdrawInvariant home base words views → WithdrawInvariant home base words (views ++ fresh_view ∷ [])
+pub seat_made : (home : ℕ → ℕ) (base words : List ℕ) (views : List WithdrawView) → WithdrawInvariant home base words views → WithdrawInvariant home base words (views ++ fresh_withdraw_view ∷ [])
 seat_made home base words views inv =
-    let views' = views ++ fresh_view ∷ [] in
+    let views' = views ++ fresh_withdraw_view ∷ [] in
     let same : SameCounts views views' = record {
-      owed = λ x first. omega (arith, sum_by_push (λ v. owed v.state x first) views fresh_view);
-      begun = λ x. omega (arith, sum_by_push (λ v. times v.begun x) views fresh_view);
-      taken = λ x. omega (arith, sum_by_push (λ v. times v.begun x) views fresh_view, sum_by_push (λ v. chosen v.state x) views fresh_view);
+      owed = λ x first. omega (arith, sum_by_push (λ v. owed v.state x first) views fresh_withdraw_view);
+      begun = λ x. omega (arith, sum_by_push (λ v. times v.begun x) views fresh_withdraw_view);
+      taken = λ x. omega (arith, sum_by_push (λ v. times v.begun x) views fresh_withdraw_view, sum_by_push (λ v. chosen v.state x) views fresh_withdraw_view);
     } in
     with_same_counts home base words views views' same inv
-    (All-push (λ v. All (IsOf base) v.begun) views fresh_view inv.flags.begun (λ k d lt. absurd (omega arith)))
-    (All-push (λ v. All (λ x. IsOf base x × (times_taken views' x ≡ 1)) v.gone) views fresh_view
+    (All-push (λ v. All (IsOf base) v.begun) views fresh_withdraw_view inv.flags.begun (λ k d lt. absurd (omega arith)))
+    (All-push (λ v. All (λ x. IsOf base x × (times_taken views' x ≡ 1)) v.gone) views fresh_withdraw_view
     (λ k d lt. gone_on home base words views views' same inv (get_or views k d).gone (inv.flags.gone k d lt)) (λ k d lt. absurd (omega arith)))
-    (All-push (λ v. IsSound home base (cell_words base words) views v.state) views fresh_view inv.states tt)
+    (All-push (λ v. IsSound home base (cell_words base words) views v.state) views fresh_withdraw_view inv.states tt)
 
 -- ---- a seat at rest is taken in by another at rest, which has its lists then
 
@@ -84,7 +84,7 @@ module _ (home : ℕ → ℕ) (base words : List ℕ) (views : List WithdrawView
   between = set views id both
 
   abbrev after : List WithdrawView
-  after = set (set views id both) other fresh_view
+  after = set (set views id both) other fresh_withdraw_view
 
   lt : id < length views
   lt = slice_get_within views id w has
@@ -112,22 +112,22 @@ module _ (home : ℕ → ℕ) (base words : List ℕ) (views : List WithdrawView
   same =
       let begun = λ (x : ℕ).
       let joined : times (w.begun ++ v.begun) x ≡ times w.begun x + times v.begun x = sum_by-append (hit x) w.begun v.begun in
-      let one = begun_set views id w both lt at x in let two = begun_set between other v fresh_view lt_between at_between x in
+      let one = begun_set views id w both lt at x in let two = begun_set between other v fresh_withdraw_view lt_between at_between x in
       let is : times_begun after x ≡ times_begun views x = omega arith in is in
       record {
         owed = λ x first. let none = owed_none x first in
-            let one = debts_set views id w both lt at x first in let two = debts_set between other v fresh_view lt_between at_between x first in omega arith;
+            let one = debts_set views id w both lt at x first in let two = debts_set between other v fresh_withdraw_view lt_between at_between x first in omega arith;
         begun = begun;
         taken = λ x. let none = chosen_none x in let is = begun x in
-            let one = chosen_set views id w both lt at x in let two = chosen_set between other v fresh_view lt_between at_between x in omega arith;
+            let one = chosen_set views id w both lt at x in let two = chosen_set between other v fresh_withdraw_view lt_between at_between x in omega arith;
       }
 
   -- what holds of lists that come together, and of each other view, holds of all
-  all_after : (P : WithdrawView → Type 0) → P both → P fresh_view → ((k : ℕ) (d : WithdrawView) → k < length views → P (get_or views k d)) → All P after
+  all_after : (P : WithdrawView → Type 0) → P both → P fresh_withdraw_view → ((k : ℕ) (d : WithdrawView) → k < length views → P (get_or views k d)) → All P after
   all_after P joined none old =
-      all_after_set P between other fresh_view none (λ k d within n. all_after_set P views id both joined (λ j e within_views m. old j e within_views) k d within)
+      all_after_set P between other fresh_withdraw_view none (λ k d within n. all_after_set P views id both joined (λ j e within_views m. old j e within_views) k d within)
 
-  pub taken_in : WithdrawInvariant home base words (set (set views id (record { state = Rest; begun = w.begun ++ v.begun; gone = w.gone ++ v.gone })) other fresh_view)
+  pub taken_in : WithdrawInvariant home base words (set (set views id (record { state = Rest; begun = w.begun ++ v.begun; gone = w.gone ++ v.gone })) other fresh_withdraw_view)
   unfolding both
   taken_in =
       let cells = cell_words base words in
@@ -166,7 +166,7 @@ base_once home base x begins of =
     let there : get_or base place 0 ≡ x = get_or_default base place 0 x of.stood.1 ∙ of.stood.2 in
     times_one base x place of.stood.1 there (λ k lt e. one_place home base x k place begins.ordered of.some e there)
 
-pub opened : (home : ℕ → ℕ) (base : List ℕ) (views : List WithdrawView) → IsBase home base → All (λ v. v ≡ fresh_view) views → WithdrawInvariant home base (base ++ replicate (length base) 0) views
+pub opened : (home : ℕ → ℕ) (base : List ℕ) (views : List WithdrawView) → IsBase home base → All (λ v. v ≡ fresh_withdraw_view) views → WithdrawInvariant home base (base ++ replicate (length base) 0) views
 opened home base views begins fresh =
     let n = length base in
     let words = base ++ replicate {A = ℕ} n 0 in

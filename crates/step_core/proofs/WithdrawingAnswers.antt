@@ -6,8 +6,9 @@ use Rattle.std.proofs.lemmas.List.Elements.{All-append, All-cons, All-head, All-
 use Rattle.std.proofs.lemmas.List.Folds.{Any-from_list_any, list_any_at}
 use Rattle.std.proofs.lemmas.List.Quantifiers.{all_pairs_push}
 use Rattle.std.specs.List.{All, AllPairs, Contains, filter, list_any}
-use Rattle.step_core.specs.Withdrawing.{IsNext, absent_first, numbers_that}
-use Rattle.store_spec.specs.WithdrawPhase.{MayPrecede, Withdrawal, WithdrawReply}
+use Rattle.step_core.specs.Withdrawing.{absent_first}
+use Rattle.step_core.specs.WithdrawingInvariant.{IsNext, numbers_that}
+use Rattle.store_spec.specs.WithdrawPhase.{MayBeWithdrawnBefore, Withdrawal, WithdrawReply}
 use Rattle.store_spec.specs.WithdrawPhase.WithdrawReply.{Absent}
 use Rattle.store_spec.specs.WithdrawStep.WithdrawState.{Rest}
 
@@ -116,14 +117,14 @@ pairs_on R P xs (y ∷ ys) follows pairs all =
     subst (λ (l : List Withdrawal). AllPairs R l) (append_assoc xs (y ∷ []) ys)
     (pairs_on R P (xs ++ y ∷ []) ys follows (all_pairs_push R xs y pairs (λ k d lt. follows _ y (All-head P y ys all))) (All-tail P y ys all))
 
-pub pairs_settled : (held : List ℕ) (answers : List Withdrawal) (a : Withdrawal) (left : List ℕ) → AllPairs MayPrecede answers → All (λ b. MayPrecede b a) answers → AllPairs MayPrecede ((answers ++ a ∷ []) ++ absent_first held left)
+pub pairs_settled : (held : List ℕ) (answers : List Withdrawal) (a : Withdrawal) (left : List ℕ) → AllPairs MayBeWithdrawnBefore answers → All (λ b. MayBeWithdrawnBefore b a) answers → AllPairs MayBeWithdrawnBefore ((answers ++ a ∷ []) ++ absent_first held left)
 pairs_settled held answers a left pairs before =
-    pairs_on MayPrecede (IsAbsent held) (answers ++ a ∷ []) (absent_first held left)
+    pairs_on MayBeWithdrawnBefore (IsAbsent held) (answers ++ a ∷ []) (absent_first held left)
     (λ x y absent same gone withdrawn. absurd (let is = absent.reply in let no : ⊥ = cc in no))
-    (all_pairs_push MayPrecede answers a pairs before) (all_absent held left)
+    (all_pairs_push MayBeWithdrawnBefore answers a pairs before) (all_absent held left)
 
-pub pairs_absent : (held left : List ℕ) → AllPairs MayPrecede (absent_first held left)
+pub pairs_absent : (held left : List ℕ) → AllPairs MayBeWithdrawnBefore (absent_first held left)
 pairs_absent held left =
-    pairs_on MayPrecede (IsAbsent held) [] (absent_first held left)
+    pairs_on MayBeWithdrawnBefore (IsAbsent held) [] (absent_first held left)
     (λ x y absent same gone withdrawn. absurd (let is = absent.reply in let no : ⊥ = cc in no))
     (λ i j d lt within. absurd (omega arith)) (all_absent held left)

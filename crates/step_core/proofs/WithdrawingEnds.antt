@@ -18,13 +18,14 @@ use Rattle.step_core.proofs.WithdrawingBase.{base_begins, base_layout, of_base_h
 use Rattle.step_core.proofs.WordSets.{sum_same}
 use Rattle.layout_def.proofs.Ascending.{ascending_distinct, length-ascending}
 use Rattle.layout_def.proofs.LaidOut.{ascending_from_rising}
-use Rattle.step_core.specs.Withdrawing.{EndsWith, HasEnded, IsDone, IsDoneAt, IsWithdrawer, IsWithdrawing, Withdrawer, Withdrawing, absent_first, answers_in, base_in, count_in, home_in, is_gone, numbers_that, opened, settled, view_of}
+use Rattle.step_core.specs.Withdrawing.{EndsWith, HasEnded, IsDone, IsDoneAt, Withdrawer, Withdrawing, absent_first, answers_in, base_in, count_in, home_in, opened, settled}
+use Rattle.step_core.specs.WithdrawingInvariant.{IsWithdrawer, IsWithdrawing, is_gone, numbers_that, view_of}
 use Rattle.store_spec.specs.Home.{home_of}
 use Rattle.store_spec.specs.Layout.{ascending, laid_out, layout_of, numbers_in}
 use Rattle.store_spec.specs.WithdrawInvariant.{IsOf, WithdrawInvariant, begun_by, times}
-use Rattle.store_spec.specs.WithdrawPhase.{IsRight, MayPrecede, Withdrawal, WithdrawOutcome, is_withdrawn, listed, withdrawn_in, without}
+use Rattle.store_spec.specs.WithdrawPhase.{IsRightWithdrawal, MayBeWithdrawnBefore, Withdrawal, WithdrawOutcome, is_withdrawn, listed, withdrawn_in, without}
 use Rattle.store_spec.specs.WithdrawPhase as reply
-use Rattle.store_spec.specs.WithdrawStep.{WithdrawView, fresh_view}
+use Rattle.store_spec.specs.WithdrawStep.{WithdrawView, fresh_withdraw_view}
 use Rattle.store_spec.specs.WithdrawStep.WithdrawState.{Rest}
 
 -- ---- numbers of lists
@@ -112,7 +113,7 @@ module _ (w : Withdrawing) (h : IsWithdrawing w) (done : All IsDone w.tabs) wher
   )
 
   -- by its kind
-  answer_cases : (t : Withdrawer) (k : ℕ) (a : Withdrawal) → k < length w.tabs → get_or w.tabs k t ≡ t → Contains w.held a.number → Contains t.answers a → (r : reply.WithdrawReply) → a.reply ≡ r → IsRight w.held a.number r → 0 < times (begun_by (map view_of w.tabs)) a.number
+  answer_cases : (t : Withdrawer) (k : ℕ) (a : Withdrawal) → k < length w.tabs → get_or w.tabs k t ≡ t → Contains w.held a.number → Contains t.answers a → (r : reply.WithdrawReply) → a.reply ≡ r → IsRightWithdrawal w.held a.number r → 0 < times (begun_by (map view_of w.tabs)) a.number
   answer_cases t k a lt is stands among reply.Withdrawn e right =
       let own : Contains (numbers_that is_withdrawn t.answers) a.number =
       All-contains (λ (b : Withdrawal). is_withdrawn b.reply ≡ true → Contains (numbers_that is_withdrawn t.answers) b.number) t.answers a (numbers-contains is_withdrawn t.answers) among (ap is_withdrawn e) in
@@ -134,7 +135,7 @@ module _ (w : Withdrawing) (h : IsWithdrawing w) (done : All IsDone w.tabs) wher
   answer_begun : (t : Withdrawer) (k : ℕ) (a : Withdrawal) → k < length w.tabs → get_or w.tabs k t ≡ t → Contains w.held a.number → Contains t.answers a → 0 < times (begun_by (map view_of w.tabs)) a.number
   answer_begun t k a lt is stands among =
       let own : IsWithdrawer w.held t = subst (IsWithdrawer w.held) is (h.tabs k t lt) in
-      answer_cases t k a lt is stands among a.reply refl (All-contains (λ (b : Withdrawal). IsRight w.held b.number b.reply) t.answers a own.answers among)
+      answer_cases t k a lt is stands among a.reply refl (All-contains (λ (b : Withdrawal). IsRightWithdrawal w.held b.number b.reply) t.answers a own.answers among)
 
   -- so each listed number that is held was begun
   listed_begun : (x : ℕ) → Contains w.held x → 0 < times (listed (answers_in w)) x → 0 < times (begun_by (map view_of w.tabs)) x
@@ -201,12 +202,12 @@ module _ (w : Withdrawing) (h : IsWithdrawing w) (done : All IsDone w.tabs) wher
       record {
         outcome = record {
           rest = refl;
-          answers = All-map (All (λ (a : Withdrawal). IsRight w.held a.number a.reply)) (λ (t : Withdrawer). t.answers) w.tabs (λ k d lt. (h.tabs k d lt).answers);
+          answers = All-map (All (λ (a : Withdrawal). IsRightWithdrawal w.held a.number a.reply)) (λ (t : Withdrawer). t.answers) w.tabs (λ k d lt. (h.tabs k d lt).answers);
           once = λ x stands among.
               let few = rest.begun_once (home_in w) (base_in w) w.words (map view_of w.tabs) h.invariant resting x in
               let some = listed_begun x stands (times_some (listed (answers_in w)) x among) in
               omega (arith, withdrawn_is x);
-          in_order = All-map (AllPairs MayPrecede) (λ (t : Withdrawer). t.answers) w.tabs (λ k d lt. (h.tabs k d lt).in_order);
+          in_order = All-map (AllPairs MayBeWithdrawnBefore) (λ (t : Withdrawer). t.answers) w.tabs (λ k d lt. (h.tabs k d lt).in_order);
         };
         layout =
             ap (λ n. take n w.words) (sym size)
@@ -241,8 +242,8 @@ module _ (bits salt limit : ℕ) (start : List ℕ) (lists : List (List ℕ)) (f
   pub same_base : layout_of (home_of bits salt) (2 ^ bits + limit) start ≡ base_in begin
   same_base = ap (laid_out (home_of bits salt) (2 ^ bits + limit)) (sym (same_ascending (ascending start) start (times_ascending start)))
 
-  all_fresh : All (λ v. v ≡ fresh_view) (map view_of (opened bits salt limit start lists).tabs)
-  all_fresh = All-map (λ v. v ≡ fresh_view) view_of begin.tabs (All-map (λ t. view_of t ≡ fresh_view) (λ (list : List ℕ). settled (ascending start) (record { state = Rest; answers = []; left = list })) lists
+  all_fresh : All (λ v. v ≡ fresh_withdraw_view) (map view_of (opened bits salt limit start lists).tabs)
+  all_fresh = All-map (λ v. v ≡ fresh_withdraw_view) view_of begin.tabs (All-map (λ t. view_of t ≡ fresh_withdraw_view) (λ (list : List ℕ). settled (ascending start) (record { state = Rest; answers = []; left = list })) lists
       (λ k d lt.
       let list = get_or lists k d in
       ap (λ l. record { state = Rest; begun = l ++ []; gone = numbers_that is_gone (absent_first (ascending start) list) }) (numbers-absent is_withdrawn (ascending start) list refl)
@@ -266,7 +267,7 @@ module _ (bits salt limit : ℕ) (start : List ℕ) (lists : List (List ℕ)) (f
             let absent = all_absent (ascending start) list in
             record {
               next = next_settled (ascending start) list;
-              answers = All-weaker (IsAbsent (ascending start)) (λ b. IsRight (ascending start) b.number b.reply) (λ b out. subst (λ r. IsRight (ascending start) b.number r) (sym out.reply) out.not_held) (absent_first (ascending start) list) absent;
+              answers = All-weaker (IsAbsent (ascending start)) (λ b. IsRightWithdrawal (ascending start) b.number b.reply) (λ b out. subst (λ r. IsRightWithdrawal (ascending start) b.number r) (sym out.reply) out.not_held) (absent_first (ascending start) list) absent;
               in_order = pairs_absent (ascending start) list;
               not_gone = λ moves. absurd (moves refl);
             });

@@ -7,7 +7,8 @@ use Rattle.std.proofs.lemmas.Option.{get_or_from_slice_get}
 use Rattle.std.specs.List.{All, list_any}
 use Rattle.step_core.proofs.Sets.{at_place, stands-map}
 use Rattle.step_core.proofs.WithdrawingAnswers.{absent_on, absent_stops}
-use Rattle.step_core.specs.Withdrawing.{IsDone, IsDoneAt, IsNext, IsWithdrawer, IsWithdrawing, Runs, Steps, Withdrawer, Withdrawing, absent_first, after_step, answered, answered_in, base_in, home_in, list_of, lists_in, next_number, opened, opened_tab, settled}
+use Rattle.step_core.specs.Withdrawing.{IsDone, IsDoneAt, Runs, Steps, Withdrawer, Withdrawing, absent_first, after_step, answered, answered_in, base_in, home_in, list_of, lists_in, next_number, opened, opened_tab, settled}
+use Rattle.step_core.specs.WithdrawingInvariant.{IsNext, IsWithdrawer, IsWithdrawing}
 use Rattle.step_core.specs.Withdrawing.Runs.{ended, goes, rests}
 use Rattle.step_core.proofs.WithdrawingSteps.{first_held, steps_keep}
 use Rattle.store_spec.specs.Layout.{ascending}

@@ -6,7 +6,8 @@ use Rattle.step_core.proofs.WithdrawFirst.{one_place}
 use Rattle.step_core.proofs.WithdrawOneRow.{one_row}
 use Rattle.step_core.proofs.WithdrawReady.{down_word}
 use Rattle.step_core.proofs.WithdrawingSteps.{steps_keep}
-use Rattle.step_core.specs.Withdrawing.{IsDone, IsDoneAt, IsWithdrawing, Runs, Steps, Withdrawer, Withdrawing, after_step, base_in, home_in, next_number}
+use Rattle.step_core.specs.Withdrawing.{IsDone, IsDoneAt, Runs, Steps, Withdrawer, Withdrawing, after_step, base_in, home_in, next_number}
+use Rattle.step_core.specs.WithdrawingInvariant.{IsWithdrawing}
 use Rattle.step_core.specs.Withdrawing.Runs.{ended, goes, rests}
 use Rattle.store_spec.specs.Act.{word_of}
 use Rattle.store_spec.specs.Layout.{IsOrdered}

@@ -10,12 +10,13 @@ use Rattle.step_core.proofs.WithdrawRows.{keeps_step}
 use Rattle.step_core.proofs.WithdrawingAnswers.{answers_settled, next_settled, numbers-contains, numbers-settled, pairs_settled}
 use Rattle.step_core.proofs.WithdrawingBase.{base_layout, of_base_held}
 use Rattle.step_core.proofs.WordSets.{all_after_set}
-use Rattle.step_core.specs.Withdrawing.{FallsAt, IsNext, IsWithdrawer, IsWithdrawing, Steps, Withdrawer, Withdrawing, absent_first, after_step, answered, base_in, begun_now, count_in, home_in, is_gone, next_number, numbers_that, settled, tab_measure, view_of}
+use Rattle.step_core.specs.Withdrawing.{Steps, Withdrawer, Withdrawing, absent_first, after_step, answered, base_in, count_in, home_in, next_number, settled}
+use Rattle.step_core.specs.WithdrawingInvariant.{FallsAt, IsNext, IsWithdrawer, IsWithdrawing, begun_now, is_gone, numbers_that, tab_measure, view_of}
 use Rattle.store_spec.specs.Measure.{Falls}
 use Rattle.store_spec.specs.WithdrawInvariant.{IsOf, IsSound, WithdrawInvariant, cell_words}
-use Rattle.store_spec.specs.WithdrawPhase.{IsRight, MayPrecede, Withdrawal, is_withdrawn}
+use Rattle.store_spec.specs.WithdrawPhase.{IsRightWithdrawal, MayBeWithdrawnBefore, Withdrawal, is_withdrawn}
 use Rattle.store_spec.specs.WithdrawPhase as reply
-use Rattle.store_spec.specs.WithdrawStep.{FirstRow, IsSeated, WithdrawMove, WithdrawNote, WithdrawRow, WithdrawState, WithdrawStep, WithdrawView, number_of, view_after}
+use Rattle.store_spec.specs.WithdrawStep.{FirstRow, IsSeated, WithdrawMove, WithdrawNote, WithdrawRow, WithdrawState, WithdrawStep, WithdrawView, withdraw_number, withdraw_view_after}
 use Rattle.store_spec.specs.WithdrawStep.FirstRow.{found_gone, chose}
 use Rattle.store_spec.specs.WithdrawStep.WithdrawMove.{begins, goes_on}
 use Rattle.store_spec.specs.WithdrawStep.WithdrawRow.{walked_on, began, found_owed, looked_lower, looked_higher, found_candidate, found_lower_candidate, kept_candidate, emptied, refilled, lost}
@@ -51,7 +52,7 @@ module _ (home : ℕ → ℕ) (base held : List ℕ) (answers : List Withdrawal)
   answered_not_gone : numbers_that is_gone ((answers ++ record { number = get_or left 0 0; reply = reply.Withdrawn } ∷ []) ++ absent_first held (drop 1 left)) ≡ numbers_that is_gone answers
   answered_not_gone = numbers-settled is_gone held answers (record { number = get_or left 0 0; reply = reply.Withdrawn }) (drop 1 left) refl ∙ append-nil (numbers_that is_gone answers)
 
-  row_view : (from : WithdrawState) (word found leaves : ℕ) (new : WithdrawState) (note : WithdrawNote) → WithdrawRow home from word found leaves new note → IsNext held from left → view_now from new note ≡ view_after (view_before from) (number_of from) new note
+  row_view : (from : WithdrawState) (word found leaves : ℕ) (new : WithdrawState) (note : WithdrawNote) → WithdrawRow home from word found leaves new note → IsNext held from left → view_now from new note ≡ withdraw_view_after (view_before from) (withdraw_number from) new note
   row_view _ _ _ _ _ _ (walked_on {x} {place} {word} less) next = refl
   row_view _ _ _ _ _ _ (began {x} {place} {word} stops) next =
       same_view (Owing x place) (withdrawn ++ take 1 left) ((withdrawn ++ []) ++ x ∷ []) (numbers_that is_gone answers) (numbers_that is_gone answers)
@@ -67,14 +68,14 @@ module _ (home : ℕ → ℕ) (base held : List ℕ) (answers : List Withdrawal)
   row_view _ _ _ _ _ _ (refilled {x} {bound} {c} {source} some) next = refl
   row_view _ _ _ _ _ _ (lost {x} {bound} {c} {source} {word} other) next = refl
 
-  first_view : (x found : ℕ) (new : WithdrawState) (note : WithdrawNote) → x ≡ get_or left 0 0 → FirstRow home x found new note → view_now Rest new note ≡ view_after (view_before Rest) x new note
+  first_view : (x found : ℕ) (new : WithdrawState) (note : WithdrawNote) → x ≡ get_or left 0 0 → FirstRow home x found new note → view_now Rest new note ≡ withdraw_view_after (view_before Rest) x new note
   first_view x _ _ _ e found_gone =
       same_view Rest _ (withdrawn ++ []) _ (numbers_that is_gone answers ++ x ∷ [])
       (append-nil _ ∙ numbers-settled is_withdrawn held answers (record { number = get_or left 0 0; reply = reply.Gone }) (drop 1 left) refl)
       (numbers-settled is_gone held answers (record { number = get_or left 0 0; reply = reply.Gone }) (drop 1 left) refl ∙ ap (λ v. numbers_that is_gone answers ++ v ∷ []) (sym e))
   first_view x _ _ _ e chose = refl
 
-  move_view : (from : WithdrawState) (number word found leaves : ℕ) (new : WithdrawState) (note : WithdrawNote) → number ≡ next_number from left → WithdrawMove home base from number word found leaves new note → IsNext held from left → view_now from new note ≡ view_after (view_before from) number new note
+  move_view : (from : WithdrawState) (number word found leaves : ℕ) (new : WithdrawState) (note : WithdrawNote) → number ≡ next_number from left → WithdrawMove home base from number word found leaves new note → IsNext held from left → view_now from new note ≡ withdraw_view_after (view_before from) number new note
   move_view _ _ _ _ _ _ _ e (begins {x} {cell} {found} {new} {note} seated row) next = first_view x found new note e row
   move_view _ _ _ _ _ _ _ e (goes_on {state} {cell} {found} {left = leaves} {new} {note} row) next = row_view state cell found leaves new note row next
 
@@ -84,12 +85,12 @@ module _ (held : List ℕ) (answers : List Withdrawal) (left : List ℕ) where
   abbrev tab_in : WithdrawState → Withdrawer
   tab_in state = record { state = state; answers = answers; left = left }
 
-  answered_tab : (given : reply.WithdrawReply) → All (λ a. IsRight held a.number a.reply) answers → AllPairs MayPrecede answers → IsRight held (get_or left 0 0) given → All (λ b. MayPrecede b (record { number = get_or left 0 0; reply = given })) answers → IsWithdrawer held (settled held (answered given (tab_in Rest)))
+  answered_tab : (given : reply.WithdrawReply) → All (λ a. IsRightWithdrawal held a.number a.reply) answers → AllPairs MayBeWithdrawnBefore answers → IsRightWithdrawal held (get_or left 0 0) given → All (λ b. MayBeWithdrawnBefore b (record { number = get_or left 0 0; reply = given })) answers → IsWithdrawer held (settled held (answered given (tab_in Rest)))
   answered_tab given right pairs one before =
       let a : Withdrawal = record { number = get_or left 0 0; reply = given } in
       record {
         next = next_settled held (drop 1 left);
-        answers = answers_settled (λ b. IsRight held b.number b.reply) held answers a (drop 1 left) (λ b absent. subst (λ r. IsRight held b.number r) (sym absent.reply) absent.not_held) right one;
+        answers = answers_settled (λ b. IsRightWithdrawal held b.number b.reply) held answers a (drop 1 left) (λ b absent. subst (λ r. IsRightWithdrawal held b.number r) (sym absent.reply) absent.not_held) right one;
         in_order = pairs_settled held answers a (drop 1 left) pairs before;
         not_gone = λ moves. absurd (moves refl);
       }
@@ -108,7 +109,7 @@ module _ (held : List ℕ) (answers : List Withdrawal) (left : List ℕ) where
   row_tab home _ _ _ _ _ _ (found_lower_candidate {x} {bound} {place} {c} {source} {word} above fits) h done = going_on (Down x bound (place + 1) c source) (Down x bound place word (place + 1)) h (λ e. cc) h.next
   row_tab home _ _ _ _ _ _ (kept_candidate {x} {bound} {place} {c} {source} {word} above misfit) h done = going_on (Down x bound (place + 1) c source) (Down x bound place c source) h (λ e. cc) h.next
   row_tab home _ _ _ _ _ _ (emptied {x} {bound} {source}) h done = answered_tab reply.Withdrawn h.answers h.in_order (done refl h.next)
-      (All-weaker (λ b. b.number ≡ get_or left 0 0 → b.reply ≢ reply.Gone) (λ b. MayPrecede b (record { number = get_or left 0 0; reply = reply.Withdrawn }))
+      (All-weaker (λ b. b.number ≡ get_or left 0 0 → b.reply ≢ reply.Gone) (λ b. MayBeWithdrawnBefore b (record { number = get_or left 0 0; reply = reply.Withdrawn }))
       (λ b not_gone same gone. absurd (not_gone same gone)) answers (h.not_gone (λ e. cc)))
   row_tab home _ _ _ _ _ _ (refilled {x} {bound} {c} {source} some) h done = going_on (Down x bound bound c source) (Owing c source) h (λ e. cc) h.next
   row_tab home _ _ _ _ _ _ (lost {x} {bound} {c} {source} {word} other) h done = going_on (Down x (bound + 1) (bound + 1) c source) (Owing x bound) h (λ e. cc) h.next
@@ -202,9 +203,9 @@ module _ (w : Withdrawing) (id : ℕ) (now : Withdrawing) (h : IsWithdrawing w) 
 
   invariant_now : WithdrawInvariant (home_in w) (base_in w) (set w.words s.word s.left) (map view_of (set w.tabs id tab_now))
   invariant_now =
-      let view_is : view_of tab_now ≡ view_after (view_of s.tab) (next_number s.tab.state s.tab.left) s.new s.note =
+      let view_is : view_of tab_now ≡ withdraw_view_after (view_of s.tab) (next_number s.tab.state s.tab.left) s.new s.note =
       move_view (home_in w) (base_in w) w.held s.tab.answers s.tab.left s.tab.state (next_number s.tab.state s.tab.left) s.word (get_or w.words s.word 0) s.left s.new s.note refl s.move own.next in
-      let one : WithdrawStep (home_in w) (base_in w) w.words views id (set w.words s.word s.left) (set views id (view_after (view_of s.tab) (next_number s.tab.state s.tab.left) s.new s.note)) = record {
+      let one : WithdrawStep (home_in w) (base_in w) w.words views id (set w.words s.word s.left) (set views id (withdraw_view_after (view_of s.tab) (next_number s.tab.state s.tab.left) s.new s.note)) = record {
         view = view_of s.tab;
         acts = has;
         number = next_number s.tab.state s.tab.left;
@@ -216,7 +217,7 @@ module _ (w : Withdrawing) (id : ℕ) (now : Withdrawing) (h : IsWithdrawing w) 
         words_now = refl;
         view_now = refl;
       } in
-      let kept = keeps_step (home_in w) (base_in w) w.words views id (set w.words s.word s.left) (set views id (view_after (view_of s.tab) (next_number s.tab.state s.tab.left) s.new s.note)) one h.invariant in
+      let kept = keeps_step (home_in w) (base_in w) w.words views id (set w.words s.word s.left) (set views id (withdraw_view_after (view_of s.tab) (next_number s.tab.state s.tab.left) s.new s.note)) one h.invariant in
       subst (λ (l : List WithdrawView). WithdrawInvariant (home_in w) (base_in w) (set w.words s.word s.left) l)
       (ap (λ (v : WithdrawView). set views id v) (sym view_is) ∙ sym (map-set view_of w.tabs id tab_now)) kept
 

@@ -2,7 +2,8 @@
 use Rattle.std.specs.Prelude.{◌≡◌, ◌+◌, ◌^◌, ◌<◌, length, map, All}
 use Rattle.std.specs.List.Sorted.{IsNonDecreasing}
 use Rattle.step_core.specs.CastCore.{HasReplyRoom, tab_of}
-use Rattle.step_core.specs.Casting.{Casting, IsCasting}
+use Rattle.step_core.specs.Casting.{Casting}
+use Rattle.step_core.specs.CastingInvariant.{IsCasting}
 use Rattle.step_core.specs.declared.cast_core.CastCore.TheInside.{Inside}
 
 abbrev pub casting_of : Inside → Casting

@@ -1,15 +1,13 @@
 -- A casting phase that is made step by step: tabulators, each with a list of numbers, on shared words.
-use Rattle.std.specs.Prelude.{◌≡◌, ◌≢◌, ℕ, ◌+◌, ◌-◌, ◌^◌, ◌≤◌, ◌==◌, if◌then◌else◌, List, [], ◌∷◌, ◌++◌, length, take, drop, map, replicate, All, AllPairs, Contains, Bool, true, false, Some, slice_get, slice_index, slice_set}
+use Rattle.std.specs.Prelude.{◌≡◌, ◌≢◌, ℕ, ◌+◌, ◌-◌, ◌^◌, ◌≤◌, ◌==◌, if◌then◌else◌, List, [], ◌∷◌, ◌++◌, length, take, drop, map, replicate, All, AllPairs, Some, slice_get, slice_index, slice_set}
 use Rattle.std.specs.List.{list_any}
 use Rattle.std.specs.Option.{IsSomeAnd, option_map_or}
-use Rattle.store_spec.specs.CastInvariant.{CastInvariant}
-use Rattle.store_spec.specs.CastStep.{CastNote, CastRow, CastState, CastView, MayBegin, Table, cast_measure}
+use Rattle.store_spec.specs.CastStep.{CastNote, CastRow, CastState, Table}
 use Rattle.store_spec.specs.CastStep as notes
 use Rattle.store_spec.specs.CastStep.CastState.{Rest, Probing, Carrying, Ready}
 use Rattle.store_spec.specs.Home.{home_of}
 use Rattle.store_spec.specs.Layout.{ascending, layout_of}
-use Rattle.store_spec.specs.Measure.{Falls}
-use Rattle.store_spec.specs.Phase.{Answer, CastOutcome, MayPrecede, Met, accepted_in, is_accepted, numbers_that}
+use Rattle.store_spec.specs.Phase.{Answer, CastOutcome, Met, numbers_accepted}
 use Rattle.store_spec.specs.Phase.Met.{Held, Accepted, Taken, Full}
 
 -- A tabulator: its state, the numbers of its list that are answered, and those that are not. Of these the first is the
@@ -56,7 +54,7 @@ mets_at c id = option_map_or (λ tab. map (λ a. a.met) tab.answers) (slice_get 
 
 -- the base and what was accepted
 abbrev pub set_after : Casting → List ℕ
-set_after c = c.base ++ accepted_in (answers_in c)
+set_after c = c.base ++ numbers_accepted (answers_in c)
 
 -- ---- numbers that need no step
 
@@ -164,80 +162,6 @@ pub data Runs : Casting → List ℕ → Casting → Type 0 where
   ended : (c : Casting) → Runs c [] c
   goes : (c next end : Casting) (id : ℕ) (ids : List ℕ) → Steps c id next → Runs next ids end → Runs c (id ∷ ids) end
   rests : (c end : Casting) (id : ℕ) (ids : List ℕ) → IsDoneAt c id → Runs c ids end → Runs c (id ∷ ids) end
-
--- ---- the measure
-
--- the numbers that were not begun
-abbrev pub not_begun : CastState → ℕ → ℕ
-not_begun Rest left = left
-not_begun (Probing x k) left = left - 1
-not_begun (Carrying v i) left = left
-not_begun (Ready v i s) left = left
-
-abbrev pub tab_measure : Table → Tabulator → List ℕ
-tab_measure t tab = not_begun tab.state (length tab.left) ∷ cast_measure t tab.state
-
--- the measure of the tabulator at `id` falls
-pub record FallsAt (c : Casting) (id : ℕ) (now : Casting) : Type 0 where
-  pub tab : Tabulator
-  pub stands : slice_get c.tabs id ≡ Some tab
-  pub tab_now : Tabulator
-  pub stands_now : slice_get now.tabs id ≡ Some tab_now
-  pub falls : Falls (tab_measure (table_in c) tab_now) (tab_measure (table_in c) tab)
-
--- ---- what holds at every moment
-
-abbrev pub is_taken : Met → Bool
-is_taken Held = false
-is_taken Accepted = false
-is_taken Taken = true
-is_taken Full = false
-
-abbrev pub is_full : Met → Bool
-is_full Held = false
-is_full Accepted = false
-is_full Taken = false
-is_full Full = true
-
--- a tabulator as the casting invariant sees it
-abbrev pub view_of : Tabulator → CastView
-view_of tab = record {
-  state = tab.state;
-  accepted = numbers_that is_accepted tab.answers;
-  taken = numbers_that is_taken tab.answers;
-  full = numbers_that is_full tab.answers;
-}
-
--- an answer tells rightly whether its number is of the base
-abbrev pub TellsBase : List ℕ → ℕ → Met → Type 0
-TellsBase base x Held = Contains base x
-TellsBase base x Accepted = ¬ Contains base x
-TellsBase base x Taken = ¬ Contains base x
-TellsBase base x Full = ¬ Contains base x
-
--- the number that stands first is the one that is tried, and at rest it may be begun
-abbrev pub IsNext : Table → List ℕ → CastState → List ℕ → Type 0
-IsNext t base Rest [] = Unit {0}
-IsNext t base Rest (x ∷ xs) = MayBegin t base x
-IsNext t base (Probing y k) [] = ⊥
-IsNext t base (Probing y k) (x ∷ xs) = x ≡ y
-IsNext t base (Carrying v i) left = Unit {0}
-IsNext t base (Ready v i s) left = Unit {0}
-
-pub record IsTabulator (t : Table) (base : List ℕ) (tab : Tabulator) : Type 0 where
-  pub some : All (λ x. x ≢ 0) tab.left
-  pub next : IsNext t base tab.state tab.left
-  pub tells_base : All (λ a. TellsBase base a.number a.met) tab.answers
-  pub in_order : AllPairs MayPrecede tab.answers
-
--- The base is a set within the limit, the casting invariant holds of the words and the tabulators, and each tabulator
--- answers its list in order.
-pub record IsCasting (c : Casting) : Type 0 where
-  pub few_bits : c.bits ≤ 16
-  pub within_limit : length c.base ≤ c.limit
-  pub some : All (λ v. v ≢ 0) c.base
-  pub invariant : CastInvariant (table_in c) c.base c.words (map view_of c.tabs)
-  pub tabs : All (IsTabulator (table_in c) c.base) c.tabs
 
 -- ---- at the end
 

@@ -4,6 +4,7 @@ pub mod CastCoreKept
 pub mod CastKept
 pub mod CastTables
 pub mod Casting
+pub mod CastingInvariant
 pub mod Seats
 pub mod Shape
 pub mod WithdrawCore
@@ -11,3 +12,4 @@ pub mod WithdrawCoreKept
 pub mod WithdrawKept
 pub mod WithdrawTables
 pub mod Withdrawing
+pub mod WithdrawingInvariant

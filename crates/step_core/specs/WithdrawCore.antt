@@ -3,7 +3,8 @@ use Rattle.std.specs.Prelude.{◌≡◌, ◌≢◌, ℕ, ◌+◌, ◌^◌, ◌<�
 use Rattle.step_core.specs.Shape.{homes_of}
 use Rattle.step_core.specs.WithdrawTables.{FitsIn, MayFind, state_of}
 use Rattle.step_core.specs.Withdrawing as phase
-use Rattle.step_core.specs.Withdrawing.{IsNext, after_step, next_number}
+use Rattle.step_core.specs.Withdrawing.{after_step, next_number}
+use Rattle.step_core.specs.WithdrawingInvariant.{IsNext}
 use Rattle.step_core.specs.declared.shape.Shape.{Shape}
 use Rattle.step_core.specs.declared.withdrawer.WithdrawReply.{WithdrawReply}
 use Rattle.step_core.specs.declared.withdrawer.WithdrawReply.TheVariants as replies

@@ -2,7 +2,8 @@
 use Rattle.std.specs.Prelude.{◌≡◌, ◌+◌, ◌^◌, map, All}
 use Rattle.step_core.specs.Seats.{AreSeats}
 use Rattle.step_core.specs.WithdrawCore.{HasReplyRoom, IsShape, base_of, tab_of}
-use Rattle.step_core.specs.Withdrawing.{IsWithdrawing, Withdrawing}
+use Rattle.step_core.specs.Withdrawing.{Withdrawing}
+use Rattle.step_core.specs.WithdrawingInvariant.{IsWithdrawing}
 use Rattle.step_core.specs.declared.withdraw_core.WithdrawCore.TheInside.{Inside}
 
 abbrev pub withdrawing_of : Inside → Withdrawing

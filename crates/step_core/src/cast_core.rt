@@ -4,7 +4,8 @@ ghost use Rattle.std.specs.Prelude.{◌≡◌, ◌≢◌, ◌↔◌, ◌+◌, �
 ghost use Rattle.std.specs.List.Sorted.{IsNonDecreasing};
 ghost use Rattle.store_spec.specs.Election.{most_ballots};
 ghost use Rattle.step_core.specs.CastCore.{HasReplyRoom, met_of, tab_of};
-ghost use Rattle.step_core.specs.Casting.{FallsAt, HasEnded, IsCasting, IsDone, IsDoneAt, Steps, answered_in, cells_in, lists_in, mets_at, opened, opened_tabs};
+ghost use Rattle.step_core.specs.Casting.{HasEnded, IsDone, IsDoneAt, Steps, answered_in, cells_in, lists_in, mets_at, opened, opened_tabs};
+ghost use Rattle.step_core.specs.CastingInvariant.{FallsAt, IsCasting};
 
 use crate::tabulator::{CastMet, Tabulator, make_step};
 use crate::{Shape, Stepped};

@@ -1,3 +1,5 @@
+//! How many shared words a phase has, and where the home of a number is.
+
 use probe_order::Salted;
 
 /// The shared words of a phase: so many cells, in which the order gives each number its home, and behind them so many

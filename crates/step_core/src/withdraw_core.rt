@@ -3,7 +3,8 @@
 ghost use Rattle.std.specs.Prelude.{◌≡◌, ◌≢◌, ◌↔◌, ◌+◌, ◌^◌, ◌<◌, ◌≤◌, All, AllPairs, IfOk, IsTrue, length, map, vec_len};
 ghost use Rattle.step_core.specs.Seats.{AreSeats};
 ghost use Rattle.step_core.specs.WithdrawCore.{HasReplyRoom, reply_of, tab_of};
-ghost use Rattle.step_core.specs.Withdrawing.{FallsAt, HasEnded, IsDone, IsDoneAt, IsWithdrawing, Steps, answered_in, cells_in, lists_in, opened, opened_tab, replies_at};
+ghost use Rattle.step_core.specs.Withdrawing.{HasEnded, IsDone, IsDoneAt, Steps, answered_in, cells_in, lists_in, opened, opened_tab, replies_at};
+ghost use Rattle.step_core.specs.WithdrawingInvariant.{FallsAt, IsWithdrawing};
 
 use crate::seats::Seats;
 use crate::withdrawer::{WithdrawReply, Withdrawer, make_step};

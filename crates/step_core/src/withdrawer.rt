@@ -7,7 +7,7 @@ ghost use Rattle.step_core.specs.WithdrawCore.{HasReplyRoom, IsShape, KeepsList,
 ghost use Rattle.step_core.specs.WithdrawTables.{FitsIn, MayFind, note_of, state_of};
 ghost use Rattle.step_core.specs.Withdrawing.{IsDone, after_step, answered, next_number, opened_tab, settled};
 ghost use Rattle.store_spec.specs.Act.{word_of};
-ghost use Rattle.store_spec.specs.WithdrawStep.{number_of, withdraw_act};
+ghost use Rattle.store_spec.specs.WithdrawStep.{withdraw_number, withdraw_act};
 ghost use Rattle.store_spec.specs.WithdrawStep.WithdrawState.{Rest};
 
 use crate::act::perform;
@@ -179,7 +179,7 @@ fn next_act(shape: &Shape, words: &mut [u64], state: WithdrawState) -> (Withdraw
     requires finds { MayFind (state_of state)
         (slice_index words.old (word_of (withdraw_act (state_of state)))) }
     ensures { (base : List ℕ) → Moves (homes_of shape.now) base words.old
-        (state_of state) (number_of (state_of state))
+        (state_of state) (withdraw_number (state_of state))
         words.new (state_of result.0) (note_of result.1) }
 {
     let found = perform(words, withdraw_act(shape, state));

@@ -1,6 +1,6 @@
-//! What the tests of the cores draw from seeds: numbers on few homes, and whose turn it is.
+//! What tests draw from seeds: numbers on few homes, and whose turn it is.
 
-ghost use Rattle.std.specs.Prelude.{◌≢◌, ◌<◌, ◌≤◌, All, AllPairs, IfOk, length};
+ghost use Rattle.std.specs.Prelude.{◌≡◌, ◌≢◌, ◌+◌, ◌*◌, ◌<◌, ◌≤◌, All, AllPairs, IfOk, length};
 
 use outside_io::Memory;
 use probe_order::Salted;
@@ -8,6 +8,7 @@ use std::alloc::Global;
 
 pub const LISTS: usize = 8;
 
+/// All numbers have one of four homes.
 pub const FEW_HOMES: Salted = Salted {
     bits: 2,
     salt: 0x5eed,
@@ -24,6 +25,14 @@ pub fn drawn(seed: &mut u64, below: usize) -> usize
     (*seed >> 32) as usize % below
 }
 
+/// The number at this place of three hundred.
+pub fn number_at(place: usize) -> u64
+    requires { place < 300 }
+    ensures { result ≡ 7 + place * 20015998343868 }
+{
+    7 + place as u64 * 0x1234_5678_9abc
+}
+
 /// The numbers among three hundred that none of the lists has.
 pub fn numbers_without(alloc: Global, lists: &[Vec<u64>]) -> Result<Vec<u64>, Memory>
     ensures few { IfOk result (λ v. length v.items ≤ 300) }
@@ -32,7 +41,7 @@ pub fn numbers_without(alloc: Global, lists: &[Vec<u64>]) -> Result<Vec<u64>, Me
 {
     let mut numbers = Vec::new(alloc);
     for k in 0..300 {
-        let number = 7 + k * 0x1234_5678_9abc;
+        let number = number_at(k);
         if !is_listed(lists, number) {
             numbers.push(number)?;
         }

@@ -1,12 +1,16 @@
-//! Tests of the crates whose steps change shared words. They stand in a crate of their own, since a crate with tests is
+//! Tests of the crates whose steps change shared words, one by one or by threads. They stand in a crate of their own, since a crate with tests is
 //! proved twice.
 #![tactic(auto)]
 
+#[cfg(test)]
+mod cast_words;
 #[cfg(test)]
 mod casting;
 #[cfg(test)]
 mod draws;
 #[cfg(test)]
 mod turns;
+#[cfg(test)]
+mod withdraw_words;
 #[cfg(test)]
 mod withdrawing;

@@ -31,16 +31,16 @@ abbrev pub HasNumber : List Ballot → ℕ → Type 0
 HasNumber ballots number = Any (λ b. b.number ≡ number) ballots
 
 -- what a reply says of its ballot, where the phase leads from one set to another
-abbrev pub IsRight : Election → List Ballot → List Ballot → Ballot → CastReply → Type 0
-IsRight e base after b Accepted = ¬ HasNumber base b.number × Contains after b
-IsRight e base after b Duplicate = Contains after b
-IsRight e base after b Conflict = Any (λ other. (other.number ≡ b.number) × (other ≢ b)) after
-IsRight e base after b Full = ¬ HasNumber after b.number × (length after ≡ e.limit)
+abbrev pub IsRightReply : Election → List Ballot → List Ballot → Ballot → CastReply → Type 0
+IsRightReply e base after b Accepted = ¬ HasNumber base b.number × Contains after b
+IsRightReply e base after b Duplicate = Contains after b
+IsRightReply e base after b Conflict = Any (λ other. (other.number ≡ b.number) × (other ≢ b)) after
+IsRightReply e base after b Full = ¬ HasNumber after b.number × (length after ≡ e.limit)
 
 -- One line may stand before another of its list: what is accepted was not answered before, and nothing is accepted once
 -- there was no room.
-abbrev pub MayPrecede : CastLine → CastLine → Type 0
-MayPrecede earlier later =
+abbrev pub MayBeCastBefore : CastLine → CastLine → Type 0
+MayBeCastBefore earlier later =
     later.reply ≡ Accepted → (earlier.ballot.number ≢ later.ballot.number) × (earlier.reply ≢ Full)
 
 -- The outcome of a casting phase from the set `base` to the set `after`: the set gains the ballots that are accepted and
@@ -49,5 +49,5 @@ pub record BallotOutcome (e : Election) (base : List Ballot) (lists : List (List
   pub gains : IsPermutation (base ++ accepted_in lists) after
   pub set : IsBallotSet e after
   pub within_limit : IsWithinLimit e after
-  pub replies : All (All (λ l. IsRight e base after l.ballot l.reply)) lists
-  pub in_order : All (AllPairs MayPrecede) lists
+  pub replies : All (All (λ l. IsRightReply e base after l.ballot l.reply)) lists
+  pub in_order : All (AllPairs MayBeCastBefore) lists

@@ -65,8 +65,8 @@ pub record CastView : Type 0 where
   pub full : List ℕ
 
 -- a tabulator that is new, or whose numbers were handed to another
-abbrev pub fresh_view : CastView
-fresh_view = record { state = Rest; accepted = []; taken = []; full = [] }
+abbrev pub fresh_cast_view : CastView
+fresh_cast_view = record { state = Rest; accepted = []; taken = []; full = [] }
 
 -- the view of a tabulator that takes in another, both at rest: its lists and then those of the other
 abbrev pub joined_view : CastView → CastView → CastView
@@ -78,19 +78,19 @@ joined_view view other = record {
 }
 
 -- the number that a state is about, and 0 at rest
-abbrev pub number_of : CastState → ℕ
-number_of Rest = 0
-number_of (Probing x k) = x
-number_of (Carrying v i) = v
-number_of (Ready v i s) = v
+abbrev pub cast_number : CastState → ℕ
+cast_number Rest = 0
+cast_number (Probing x k) = x
+cast_number (Carrying v i) = v
+cast_number (Ready v i s) = v
 
 -- the view after a step: the new state, and the number in the list that the note names
-abbrev pub view_after : CastView → ℕ → CastState → CastNote → CastView
-view_after view number new Quiet = record view { state = new }
-view_after view number new Claimed = record view { state = new; accepted = view.accepted ++ number ∷ [] }
-view_after view number new Taken = record view { state = new; taken = view.taken ++ number ∷ [] }
-view_after view number new Full = record view { state = new; full = view.full ++ number ∷ [] }
-view_after view number new Placed = record view { state = new }
+abbrev pub cast_view_after : CastView → ℕ → CastState → CastNote → CastView
+cast_view_after view number new Quiet = record view { state = new }
+cast_view_after view number new Claimed = record view { state = new; accepted = view.accepted ++ number ∷ [] }
+cast_view_after view number new Taken = record view { state = new; taken = view.taken ++ number ∷ [] }
+cast_view_after view number new Full = record view { state = new; full = view.full ++ number ∷ [] }
+cast_view_after view number new Placed = record view { state = new }
 
 -- A number that may be taken up: it is not 0 and not of the base, and there are claim words.
 pub record MayBegin (t : Table) (base : List ℕ) (x : ℕ) : Type 0 where
@@ -117,7 +117,7 @@ pub record CastStep (t : Table) (base words : List ℕ) (views : List CastView) 
   pub note : CastNote
   pub row : CastRow t from word (slice_index words word) left new note
   pub words_now : now ≡ slice_set words word left
-  pub view_now : views_now ≡ slice_set views id (view_after view (number_of from) new note)
+  pub view_now : views_now ≡ slice_set views id (cast_view_after view (cast_number from) new note)
 
 -- What is left of the steps for a number: claim words to try, cells to look at, and the room between the word seen and
 -- the number in hand. Of these an earlier one counts more.

@@ -34,22 +34,22 @@ abbrev pub without : List ℕ → List ℕ → List ℕ
 without numbers others = filter (λ x. not (list_any (λ other. other == x) others)) numbers
 
 -- what a reply says of its number
-abbrev pub IsRight : List ℕ → ℕ → WithdrawReply → Type 0
-IsRight held x Withdrawn = Contains held x
-IsRight held x Gone = Contains held x
-IsRight held x Absent = ¬ Contains held x
+abbrev pub IsRightWithdrawal : List ℕ → ℕ → WithdrawReply → Type 0
+IsRightWithdrawal held x Withdrawn = Contains held x
+IsRightWithdrawal held x Gone = Contains held x
+IsRightWithdrawal held x Absent = ¬ Contains held x
 
 -- One answer may stand before another of its list: what was found gone is not withdrawn later.
-abbrev pub MayPrecede : Withdrawal → Withdrawal → Type 0
-MayPrecede earlier later = earlier.number ≡ later.number → earlier.reply ≡ Gone → later.reply ≢ Withdrawn
+abbrev pub MayBeWithdrawnBefore : Withdrawal → Withdrawal → Type 0
+MayBeWithdrawnBefore earlier later = earlier.number ≡ later.number → earlier.reply ≡ Gone → later.reply ≢ Withdrawn
 
 -- The outcome of a withdrawing phase from the set `held` to the set `after`: the set loses the listed numbers, each of
 -- which that it held is answered once with Withdrawn.
 pub record WithdrawOutcome (held : List ℕ) (lists : List (List Withdrawal)) (after : List ℕ) : Type 0 where
   pub rest : after ≡ without held (listed lists)
-  pub answers : All (All (λ a. IsRight held a.number a.reply)) lists
+  pub answers : All (All (λ a. IsRightWithdrawal held a.number a.reply)) lists
   pub once : (x : ℕ) → Contains held x → Contains (listed lists) x → count_by (λ n. n == x) (withdrawn_in lists) ≡ 1
-  pub in_order : All (AllPairs MayPrecede) lists
+  pub in_order : All (AllPairs MayBeWithdrawnBefore) lists
 
 -- ---- finding
 

@@ -71,23 +71,23 @@ pub record WithdrawView : Type 0 where
   pub gone : List ℕ
 
 -- a withdrawer that is new, or whose numbers were handed to another
-abbrev pub fresh_view : WithdrawView
-fresh_view = record { state = Rest; begun = []; gone = [] }
+abbrev pub fresh_withdraw_view : WithdrawView
+fresh_withdraw_view = record { state = Rest; begun = []; gone = [] }
 
 -- the number that a state is about, and 0 at rest
-abbrev pub number_of : WithdrawState → ℕ
-number_of Rest = 0
-number_of (Chosen x place) = x
-number_of (Owing x bound) = x
-number_of (Up x bound place) = x
-number_of (Down x bound place c source) = x
+abbrev pub withdraw_number : WithdrawState → ℕ
+withdraw_number Rest = 0
+withdraw_number (Chosen x place) = x
+withdraw_number (Owing x bound) = x
+withdraw_number (Up x bound place) = x
+withdraw_number (Down x bound place c source) = x
 
 -- the view after a step for a number: the new state, and the number in the list that the note names
-abbrev pub view_after : WithdrawView → ℕ → WithdrawState → WithdrawNote → WithdrawView
-view_after view x new Quiet = record { state = new; begun = view.begun; gone = view.gone }
-view_after view x new Done = record { state = new; begun = view.begun; gone = view.gone }
-view_after view x new Gone = record { state = new; begun = view.begun; gone = view.gone ++ x ∷ [] }
-view_after view x new Begun = record { state = new; begun = view.begun ++ x ∷ []; gone = view.gone }
+abbrev pub withdraw_view_after : WithdrawView → ℕ → WithdrawState → WithdrawNote → WithdrawView
+withdraw_view_after view x new Quiet = record { state = new; begun = view.begun; gone = view.gone }
+withdraw_view_after view x new Done = record { state = new; begun = view.begun; gone = view.gone }
+withdraw_view_after view x new Gone = record { state = new; begun = view.begun; gone = view.gone ++ x ∷ [] }
+withdraw_view_after view x new Begun = record { state = new; begun = view.begun ++ x ∷ []; gone = view.gone }
 
 -- a number, and its cell in the base, the cells that the phase began with
 pub record IsSeated (base : List ℕ) (x cell : ℕ) : Type 0 where
@@ -98,7 +98,7 @@ pub record IsSeated (base : List ℕ) (x cell : ℕ) : Type 0 where
 -- leaves there, the new state, and the note.
 pub data WithdrawMove (home : ℕ → ℕ) (base : List ℕ) : WithdrawState → ℕ → ℕ → ℕ → ℕ → WithdrawState → WithdrawNote → Type 0 where
   begins : {x cell found : ℕ} {new : WithdrawState} {note : WithdrawNote} → IsSeated base x cell → FirstRow home x found new note → WithdrawMove home base Rest x (length base + cell) found 1 new note
-  goes_on : {state : WithdrawState} {cell found left : ℕ} {new : WithdrawState} {note : WithdrawNote} → WithdrawRow home state cell found left new note → WithdrawMove home base state (number_of state) cell found left new note
+  goes_on : {state : WithdrawState} {cell found left : ℕ} {new : WithdrawState} {note : WithdrawNote} → WithdrawRow home state cell found left new note → WithdrawMove home base state (withdraw_number state) cell found left new note
 
 -- One step: one row of the table, on one of the words and in the view at `id`. All else stays.
 pub record WithdrawStep (home : ℕ → ℕ) (base words : List ℕ) (views : List WithdrawView) (id : ℕ) (now : List ℕ) (views_now : List WithdrawView) : Type 0 where
@@ -111,4 +111,4 @@ pub record WithdrawStep (home : ℕ → ℕ) (base words : List ℕ) (views : Li
   pub note : WithdrawNote
   pub move : WithdrawMove home base view.state number word (slice_index words word) left new note
   pub words_now : now ≡ slice_set words word left
-  pub view_now : views_now ≡ slice_set views id (view_after view number new note)
+  pub view_now : views_now ≡ slice_set views id (withdraw_view_after view number new note)

@@ -1,3 +1,5 @@
+//! The counting of a store's ballots.
+
 ghost use Rattle.std.specs.Prelude.{◌≡◌, ◌≢◌, ℕ, ◌^◌, ◌<◌, ◌≤◌, ◌∷◌, [], length, slice_index};
 ghost use Rattle.store_spec.specs.Ballot.{Ballot};
 ghost use Rattle.store_spec.specs.Election.{IsElection, cell_count, cell_size};

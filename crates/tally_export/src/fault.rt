@@ -1,3 +1,5 @@
+//! Why a tally or an export was not written.
+
 use outside_io::{Failed, Memory};
 use std::error::Error;
 use std::fmt;

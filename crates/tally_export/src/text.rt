@@ -1,3 +1,5 @@
+//! The text of a tally.
+
 ghost use Rattle.std.specs.Prelude.{◌≡◌, ℕ, ◌+◌, ◌-◌, ◌<◌, ◌≤◌, ◌∷◌, [], ◌++◌, List, IfOk, OnErr, OnOk, length, map, codes, flat_map, slice_index, string_bytes};
 ghost use Rattle.std.specs.List.{range_with_len};
 ghost use Rattle.outside_io.specs.Stream.{TakesAll, TakesSome};

@@ -1,3 +1,5 @@
+//! Elections read from their texts.
+
 use ballot_record::Election;
 use election_def::{ElectionFault, read_election};
 use std::alloc::{AllocError, Global};

@@ -1,3 +1,5 @@
+//! Lines of a session's script, as read.
+
 mod generated;
 
 use ballot_record::{Election, MAX_MARK_SETS, Record};

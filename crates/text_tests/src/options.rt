@@ -1,3 +1,5 @@
+//! The options of a large run, as read from words.
+
 use large_options::{Options, are_options, options_of};
 use std::alloc::{AllocError, Global};
 use std::test::Fail;

@@ -1,3 +1,4 @@
+//! Ballots: which are valid, how they stand in cells, and why lines are refused.
 #![tactic(auto, unfolding(store_spec::specs::Election::cell_size, store_spec::specs::Election::in_version))]
 
 use ballot_record::{CellRead, Election, LineFault, LineWhy, MAX_MARK_SETS, Record, take_cell};

@@ -1,3 +1,5 @@
+//! Replays: their texts, and what is refused.
+
 use ballot_record::{Election, LineWhy};
 use outside_io::{MemorySink, MemorySource, SureSink, SureSource};
 use schedule_replay::{ReplayFault, replay};

@@ -7,7 +7,7 @@ use Rattle.step_core.specs.CastTables.{BeginsAt, FitsIn, LeadsTo}
 use Rattle.step_core.specs.Shape.{table_of}
 use Rattle.step_core.specs.declared.shape.Shape.{Shape}
 use Rattle.store_spec.specs.Act.{Act, left_by, word_of}
-use Rattle.store_spec.specs.CastStep.{CastNote, CastState, CastView, GoesFrom, cast_act, cast_measure, fresh_view, number_of, view_after}
+use Rattle.store_spec.specs.CastStep.{CastNote, CastState, CastView, GoesFrom, cast_act, cast_measure, fresh_cast_view, cast_number, cast_view_after}
 use Rattle.store_spec.specs.CastStep as definition
 use Rattle.store_spec.specs.CastStep.CastState.{Rest, Probing}
 use Rattle.store_spec.specs.Layout.{numbers_in}
@@ -34,18 +34,18 @@ pub same_shape : (of : SharedWords) (state : CastState) (seat : OneSeat) → IsA
 same_shape of state seat about = sym (ap (λ (v : SharedWords). v.shape) about.belongs)
 
 -- the act of a state, as the code has it
-pub allows_act : (opening : Opening) (slots id : ℕ) (me : Here) (from : CastState) (shape : Shape) (act : Act) → shape ≡ me.0.shape → act ≡ cast_act (table_of shape) from → me.0.weight ≡ 1 → GoesFrom (table_of me.0.shape) (numbers_in me.0.base) me.0.view.state from → Allows (IsSeated IsCast fresh_view opening) slots id me (word_of act) (left_by act) (StepsFrom from me)
+pub allows_act : (opening : Opening) (slots id : ℕ) (me : Here) (from : CastState) (shape : Shape) (act : Act) → shape ≡ me.0.shape → act ≡ cast_act (table_of shape) from → me.0.weight ≡ 1 → GoesFrom (table_of me.0.shape) (numbers_in me.0.base) me.0.view.state from → Allows (IsSeated IsCast fresh_cast_view opening) slots id me (word_of act) (left_by act) (StepsFrom from me)
 allows_act opening slots id me from shape act same is weight goes =
-    subst (λ (a : Act). Allows (IsSeated IsCast fresh_view opening) slots id me (word_of a) (left_by a) (StepsFrom from me))
+    subst (λ (a : Act). Allows (IsSeated IsCast fresh_cast_view opening) slots id me (word_of a) (left_by a) (StepsFrom from me))
     (sym (is ∙ ap (λ (s : Shape). cast_act (table_of s) from) same))
     (allows opening slots id me from (λ none. absurd (let one = weight in cc)) goes)
 
 module _ (from : CastState) (me : Here) (found : ℕ) (now : Here) (told : StepsFrom from me found now) where
-  view_now : now.0.view ≡ view_after me.0.view (number_of from) told.new told.note
+  view_now : now.0.view ≡ cast_view_after me.0.view (cast_number from) told.new told.note
   view_now = ap (λ (m : Here). m.0.view) told.is
 
   state_now : now.0.view.state ≡ told.new
-  state_now = ap (λ (v : CastView). v.state) view_now ∙ state_after me.0.view (number_of from) told.new told.note
+  state_now = ap (λ (v : CastView). v.state) view_now ∙ state_after me.0.view (cast_number from) told.new told.note
 
   -- what the code makes of the word is what the step told
   pub same_end : (shape : Shape) (new : CastState) (note : CastNote) → shape ≡ me.0.shape → FitsIn (table_of me.0.shape) from → LeadsTo (table_of shape) from found new note → (told.new ≡ new) × (told.note ≡ note)
@@ -58,11 +58,11 @@ module _ (from : CastState) (me : Here) (found : ℕ) (now : Here) (told : Steps
       (record {
         found = found;
         leads = subst (λ (s : CastState). LeadsTo (table_of me.0.shape) from found s told.note) (sym state_now) told.leads;
-        is = view_now ∙ ap (λ (s : CastState). view_after me.0.view (number_of from) s told.note) (sym state_now);
+        is = view_now ∙ ap (λ (s : CastState). cast_view_after me.0.view (cast_number from) s told.note) (sym state_now);
       })
 
-  pub tells : (note : CastNote) → told.note ≡ note → IsToldAlike me.0.view (number_of from) note
-  tells note same = subst (IsToldAlike me.0.view (number_of from)) same told.told_alike
+  pub tells : (note : CastNote) → told.note ≡ note → IsToldAlike me.0.view (cast_number from) note
+  tells note same = subst (IsToldAlike me.0.view (cast_number from)) same told.told_alike
 
   -- the seat is kept
   pub record IsLeft (new : CastState) : Type 0 where
@@ -84,7 +84,7 @@ module _ (from : CastState) (me : Here) (found : ℕ) (now : Here) (told : Steps
 pub record HasStepped (of : SharedWords) (from : CastState) (seat now : OneSeat) (new : CastState) (note : CastNote) : Type 0 where
   pub about : IsAbout of new now
   pub row : MakesRow (table_of of.shape) from seat.me.0.view note now.me.0.view
-  pub told_alike : IsToldAlike seat.me.0.view (number_of from) note
+  pub told_alike : IsToldAlike seat.me.0.view (cast_number from) note
   pub begins : (first : ℕ) → BeginsAt (table_of of.shape) from first → BeginsAt (table_of of.shape) new first
   pub falls : Falls (cast_measure (table_of of.shape) new) (cast_measure (table_of of.shape) from)
 
@@ -116,10 +116,10 @@ may_begin of seat x belongs may =
     let own = subst (λ (w : SharedWords). MayBegin w x) (sym belongs) may in
     record { some = own.some; not_held = own.not_held; claims = pos_of_ne-zero own.claims }
 
-pub allows_first : (opening : Opening) (slots id : ℕ) (me : Here) (x : ℕ) (shape : Shape) (act : Act) → shape ≡ me.0.shape → act ≡ cast_act (table_of shape) (Probing x 0) → me.0.weight ≡ 1 → me.0.view.state ≡ Rest → definition.MayBegin (table_of me.0.shape) (numbers_in me.0.base) x → Allows (IsSeated IsCast fresh_view opening) slots id me (word_of act) (left_by act) (begins (step_of slots act) me)
+pub allows_first : (opening : Opening) (slots id : ℕ) (me : Here) (x : ℕ) (shape : Shape) (act : Act) → shape ≡ me.0.shape → act ≡ cast_act (table_of shape) (Probing x 0) → me.0.weight ≡ 1 → me.0.view.state ≡ Rest → definition.MayBegin (table_of me.0.shape) (numbers_in me.0.base) x → Allows (IsSeated IsCast fresh_cast_view opening) slots id me (word_of act) (left_by act) (begins (step_of slots act) me)
 allows_first opening slots id me x shape act same is weight rest may =
     let first = cast_act (table_of me.0.shape) (Probing x 0) in
-    subst (λ (a : Act). Allows (IsSeated IsCast fresh_view opening) slots id me (word_of a) (left_by a) (begins (step_of slots a) me))
+    subst (λ (a : Act). Allows (IsSeated IsCast fresh_cast_view opening) slots id me (word_of a) (left_by a) (begins (step_of slots a) me))
     (sym (is ∙ ap (λ (s : Shape). cast_act (table_of s) (Probing x 0)) same))
     (allows opening slots id me (Probing x 0) (λ none. absurd (let one = weight in cc))
     (subst (λ (s : CastState). GoesFrom (table_of me.0.shape) (numbers_in me.0.base) s (Probing x 0)) (sym rest) (x, may, refl)))

@@ -9,7 +9,7 @@ use Rattle.step_core.proofs.CastHands.{all_count, claims_size, counts_few, is_so
 use Rattle.step_core.proofs.CastRows.{met_is}
 use Rattle.step_core.proofs.Sets.{counted, is_one}
 use Rattle.store_spec.specs.CastInvariant.{CastInvariant, EachOnce, HasRoomFor, IsClaimed, accepted_of}
-use Rattle.store_spec.specs.CastStep.{CastView, Table, fresh_view}
+use Rattle.store_spec.specs.CastStep.{CastView, Table, fresh_cast_view}
 use Rattle.store_spec.specs.CastStep.CastState.{Rest}
 use Rattle.store_spec.specs.Layout.{layout_of}
 use Rattle.word_rule.proofs.Joined.{all_such, one_has_all}
@@ -22,12 +22,12 @@ pub record AtTheEnd (t : Table) (base cells : List ℕ) (view : CastView) : Type
   pub taken : All (Contains view.accepted) view.taken
   pub full : All (λ x. (¬ Contains view.accepted x) × (length view.accepted ≡ t.claims)) view.full
 
-pub ends : (t : Table) (base words : List ℕ) (views : List CastView) (id : ℕ) (view : CastView) → HasRoomFor t base → CastInvariant t base words views → slice_get views id ≡ Some view → ((k : ℕ) (d : CastView) → k < length views → k ≢ id → get_or views k d ≡ fresh_view) → view.state ≡ Rest → AtTheEnd t base (take t.cells words) view
+pub ends : (t : Table) (base words : List ℕ) (views : List CastView) (id : ℕ) (view : CastView) → HasRoomFor t base → CastInvariant t base words views → slice_get views id ≡ Some view → ((k : ℕ) (d : CastView) → k < length views → k ≢ id → get_or views k d ≡ fresh_cast_view) → view.state ≡ Rest → AtTheEnd t base (take t.cells words) view
 ends t base words views id view room h stands others rest =
     let accepted : accepted_of views ≡ view.accepted = one_has_all (λ v. v.accepted) views id view stands (λ k d lt n. ap (λ v. v.accepted) (others k d lt n)) in
     let all = accepted_once t base words views h in
     let met = met_is t base words views id view h stands in
-    let all_rest = all_such (λ v. v.state ≡ Rest) fresh_view views id view stands others rest refl in
+    let all_rest = all_such (λ v. v.state ≡ Rest) fresh_cast_view views id view stands others rest refl in
     record {
       layout = rest_layout t base words views room h all_rest ∙ ap (λ xs. layout_of t.home t.cells (base ++ xs)) accepted;
       once = subst EachOnce accepted (λ v some. (let both = sum_by-append (is_one v) base (accepted_of views) in let few = all v some in omega arith));

@@ -1,7 +1,7 @@
 -- What a step from a hand leads to, and what is left of the steps until it is empty.
 use Rattle.std.proofs.Common.{◌≡◌, ◌≢◌, ℕ, suc, ◌+◌, ◌-◌, ◌*◌, ◌<◌, ◌≤◌, inl, inr, [], ◌∷◌, refl, sym, ap, ◌∙◌, subst, arith}
 use Rattle.std.proofs.Math.Nat.{mul-le-mul_right}
-use Rattle.store_spec.specs.CastStep.{CastNote, CastRow, CastState, CastView, Table, cast_measure, number_of, view_after}
+use Rattle.store_spec.specs.CastStep.{CastNote, CastRow, CastState, CastView, Table, cast_measure, cast_number, cast_view_after}
 use Rattle.store_spec.specs.CastStep.CastNote.{Quiet, Claimed, Taken, Full, Placed}
 use Rattle.store_spec.specs.CastStep.CastRow.{claim_won, claim_met, claim_passed, claims_full, look_passes, look_ready, takes_empty, displaces, lost_passes, lost_ready}
 use Rattle.store_spec.specs.CastStep.CastState.{Rest, Probing, Carrying, Ready}
@@ -44,7 +44,7 @@ held_after top new Taken h = absurd h
 held_after top new Full h = absurd h
 held_after top new Placed h = subst (IsHeld top) (sym h) tt
 
-lists_stay : (top number : ℕ) (old now : CastView) (note : CastNote) → now ≡ view_after old number now.state note → IsHandAfter top now.state note → now ≡ record old { state = now.state }
+lists_stay : (top number : ℕ) (old now : CastView) (note : CastNote) → now ≡ cast_view_after old number now.state note → IsHandAfter top now.state note → now ≡ record old { state = now.state }
 lists_stay top number old now Quiet is h = is
 lists_stay top number old now Claimed is h = absurd h
 lists_stay top number old now Taken is h = absurd h
@@ -109,5 +109,5 @@ has_moved t top first old now from new note moving h lists rows row state falls 
     }
 
 -- a number in hand, to begin with
-pub held_first : (number place : ℕ) (state : CastState) → state ≡ Carrying number place → IsHeld (number_of state) state
-held_first number place state is = subst (λ (s : CastState). IsHeld (number_of s) s) (sym is) (omega arith)
+pub held_first : (number place : ℕ) (state : CastState) → state ≡ Carrying number place → IsHeld (cast_number state) state
+held_first number place state is = subst (λ (s : CastState). IsHeld (cast_number s) s) (sym is) (omega arith)

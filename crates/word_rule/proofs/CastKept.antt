@@ -9,7 +9,7 @@ use Rattle.step_core.specs.CastTables.{FitsIn, LeadsTo, MayFind}
 use Rattle.step_core.specs.Shape.{table_of}
 use Rattle.store_spec.specs.Act.{left_by, word_of}
 use Rattle.store_spec.specs.CastInvariant.{CastInvariant, HasRoomFor}
-use Rattle.store_spec.specs.CastStep.{CastNote, CastRow, CastState, CastView, GoesFrom, Table, cast_act, cast_measure, fresh_view, number_of, view_after}
+use Rattle.store_spec.specs.CastStep.{CastNote, CastRow, CastState, CastView, GoesFrom, Table, cast_act, cast_measure, fresh_cast_view, cast_number, cast_view_after}
 use Rattle.store_spec.specs.CastStep.CastNote.{Quiet, Claimed, Taken, Full, Placed}
 use Rattle.store_spec.specs.CastStep.CastState.{Rest, Probing, Carrying, Ready}
 use Rattle.store_spec.specs.Layout.{numbers_in}
@@ -29,7 +29,7 @@ moves t base (Probing x k) from goes e = absurd cc
 moves t base (Carrying v i) from goes e = absurd cc
 moves t base (Ready v i s) from goes e = absurd cc
 
-pub state_after : (view : CastView) (x : ℕ) (new : CastState) (note : CastNote) → (view_after view x new note).state ≡ new
+pub state_after : (view : CastView) (x : ℕ) (new : CastState) (note : CastNote) → (cast_view_after view x new note).state ≡ new
 state_after view x new Quiet = refl
 state_after view x new Claimed = refl
 state_after view x new Taken = refl
@@ -42,9 +42,9 @@ record IsMade (t : Table) (base words : List ℕ) (views : List CastView) (id : 
   note : CastNote
   may_find : MayFind from f
   leads : LeadsTo t from f new note
-  kept : CastInvariant t base (set words word left) (set views id (view_after view (number_of from) new note))
+  kept : CastInvariant t base (set words word left) (set views id (cast_view_after view (cast_number from) new note))
   fits : FitsIn t new
-  told : IsToldAlike view (number_of from) note
+  told : IsToldAlike view (cast_number from) note
   falls : Falls (cast_measure t new) (cast_measure t from)
 
 -- what the step is about is kept as if the view had begun with it before
@@ -55,7 +55,7 @@ made_so t base words views id view from word left new note room h stands goes fi
     let own_views = set views id own in
     let before = begins t base words views id view view.state from h stands refl goes in
     let stands_own = stands-set views id view own stands in
-    let now = view_after view (number_of from) new note in
+    let now = cast_view_after view (cast_number from) new note in
     let after = keeps_step t base words views id (set words word left) (set views id now) room h
     (record { view = view; acts = stands; from = from; goes = goes; word = word; left = left; new = new; note = note; row = row; words_now = refl; view_now = refl }) in
     let after_own = keeps_row t from word (get_or words word 0) left new note row base words own_views id own room before stands_own refl refl in
@@ -66,7 +66,7 @@ made_so t base words views id view from word left new note room h stands goes fi
       may_find = finds;
       leads = leads;
       kept = after;
-      fits = fits_at t base (set words word left) (set views id now) id now room after (stands-set views id view now stands) new (state_after view (number_of from) new note);
+      fits = fits_at t base (set words word left) (set views id now) id now room after (stands-set views id view now stands) new (state_after view (cast_number from) new note);
       told = record { again = told.again; no_room = told.no_room; full_again = told.full_again };
       falls = falls_at t base words own_views id own room before stands_own word left new note row;
     }
@@ -83,25 +83,25 @@ made t base words views id view from room h stands goes =
     made_so t base words views id view from (word_of (cast_act t from)) (left_by (cast_act t from) f) row.0 row.1 room h stands goes finds row.2 row.2
 
 pub allows : (opening : Opening) (slots id : ℕ) (me : Me (Unit {0}) (Known CastView)) (from : CastState) → me.0.weight ≢ 0 → GoesFrom (table_of me.0.shape) (numbers_in me.0.base) me.0.view.state from
-    → let act = cast_act (table_of me.0.shape) from in Allows (IsSeated IsCast fresh_view opening) slots id me (word_of act) (left_by act) (StepsFrom from me)
+    → let act = cast_act (table_of me.0.shape) from in Allows (IsSeated IsCast fresh_cast_view opening) slots id me (word_of act) (left_by act) (StepsFrom from me)
 allows opening slots id me from heavy goes s h homes seen small =
     let known = me.0 in
     let t = table_of known.shape in
     let base = numbers_in known.base in
     let act = cast_act t from in
     let views = map (λ (k : Known CastView). k.view) s.views in
-    let is = knows_opening IsCast fresh_view opening s id known h seen heavy in
+    let is = knows_opening IsCast fresh_cast_view opening s id known h seen heavy in
     let kept : IsCast known.shape known.base s.words views = subst (λ (k : Known CastView). IsCast k.shape k.base s.words views) (sym is) h.kept in
     let stands = stands-map (λ (k : Known CastView). k.view) s.views id known (at_slice s.views id known seen) in
     let m = made t base s.words views id known.view from kept.room kept.invariant stands goes in
-    let view = view_after known.view (number_of from) m.new m.note in
+    let view = cast_view_after known.view (cast_number from) m.new m.note in
     let now : Known CastView = record known { view = view } in
     let words = set s.words (word_of act) (left_by act (get_or s.words (word_of act) 0)) in
     let kept_now : IsCast known.shape known.base words (set views id view) = record { room = kept.room; invariant = m.kept } in (
       now,
       keeps,
       tt,
-      steps IsCast fresh_view opening s id known words view (stepped s (word_of act) (left_by act (get_or s.words (word_of act) 0)) id me.1 now keeps) h seen heavy
+      steps IsCast fresh_cast_view opening s id known words view (stepped s (word_of act) (left_by act (get_or s.words (word_of act) 0)) id me.1 now keeps) h seen heavy
           (subst (λ (k : Known CastView). IsCast k.shape k.base words (set views id view)) is kept_now) refl refl,
       record {
         new = m.new;

@@ -11,13 +11,13 @@ use Rattle.step_core.proofs.Sets.{once_distinct}
 use Rattle.step_core.specs.Shape.{homes_of, table_of}
 use Rattle.step_core.specs.declared.shape.Shape.{Shape}
 use Rattle.store_spec.specs.CastInvariant.{HasRoomFor, HoldSame}
-use Rattle.store_spec.specs.CastStep.{fresh_view, joined_view}
+use Rattle.store_spec.specs.CastStep.{fresh_cast_view, joined_view}
 use Rattle.store_spec.specs.Layout.{numbers_in}
 use Rattle.word_rule.specs.CastSeats.{IsAtRest, IsCast}
 use Rattle.word_rule.specs.CastWords.{MayHold}
 use Rattle.word_rule.specs.Seats.{KeepsSeats, Opens}
 
-pub keeps_seats : KeepsSeats IsCast fresh_view joined_view IsAtRest
+pub keeps_seats : KeepsSeats IsCast fresh_cast_view joined_view IsAtRest
 keeps_seats = record {
   made = λ shape base words views h. record { room = h.room; invariant = core.seat_made (table_of shape) (numbers_in base) words views h.invariant };
   taken = λ shape base words views id other view gone h apart stands stands_gone rest rest_gone. record {
@@ -66,15 +66,15 @@ has_room shape cells may = record {
 }
 
 -- the rule holds of the cells with free claim words, and one new view
-pub opens : (shape : Shape) (cells : List ℕ) → MayHold shape cells → Opens IsCast fresh_view shape.claims shape cells
+pub opens : (shape : Shape) (cells : List ℕ) → MayHold shape cells → Opens IsCast fresh_cast_view shape.claims shape cells
 opens shape cells may = record {
   some = let room = may.room in let some : 0 < 2 ^ shape.order.bits = pow_pos shape.order.bits in omega arith;
   size = may.size;
   small = may.small;
   kept = record {
     room = has_room shape cells may;
-    invariant = core.opening (table_of shape) (numbers_in cells) cells (fresh_view ∷ []) may.ordered may.size (numbers_weigh cells)
+    invariant = core.opening (table_of shape) (numbers_in cells) cells (fresh_cast_view ∷ []) may.ordered may.size (numbers_weigh cells)
         (once_distinct (numbers_in cells) (distinct_in (homes_of shape) cells may.ordered))
-        (All-cons (λ view. view ≡ fresh_view) fresh_view [] refl (All-nil (λ view. view ≡ fresh_view)));
+        (All-cons (λ view. view ≡ fresh_cast_view) fresh_cast_view [] refl (All-nil (λ view. view ≡ fresh_cast_view)));
   };
 }

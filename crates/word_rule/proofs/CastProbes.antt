@@ -1,6 +1,6 @@
 -- Probes for a number, of which those before the last one told nothing.
 use Rattle.std.proofs.Common.{◌≡◌, ◌≢◌, ℕ, ◌+◌, ◌-◌, ◌<◌, refl, sym, ap, ◌∙◌, subst}
-use Rattle.store_spec.specs.CastStep.{CastNote, CastRow, CastState, CastView, Table, number_of, view_after}
+use Rattle.store_spec.specs.CastStep.{CastNote, CastRow, CastState, CastView, Table, cast_number, cast_view_after}
 use Rattle.store_spec.specs.CastStep.CastNote.{Quiet, Claimed, Taken, Full, Placed}
 use Rattle.store_spec.specs.CastStep.CastRow.{claim_won, claim_met, claim_passed, claims_full, look_passes, look_ready, takes_empty, displaces, lost_passes, lost_ready}
 use Rattle.store_spec.specs.CastStep.CastState.{Rest, Probing, Carrying, Ready}
@@ -65,7 +65,7 @@ in_state view state = record view { state = state }
 pub quiet_lists : (t : Table) (number : ℕ) (old now : CastView) → Probes t number old Quiet now → now ≡ record old { state = now.state }
 quiet_lists t number old now p = p.row.is
 
-same_lists : (old : CastView) (number : ℕ) (state new : CastState) (note : CastNote) → view_after (record old { state = state }) number new note ≡ view_after old number new note
+same_lists : (old : CastView) (number : ℕ) (state new : CastState) (note : CastNote) → cast_view_after (record old { state = state }) number new note ≡ cast_view_after old number new note
 same_lists old number state new Quiet = refl
 same_lists old number state new Claimed = refl
 same_lists old number state new Taken = refl
@@ -81,15 +81,15 @@ one_probe_more t number old mid now note p row =
       row = record {
         found = from.found;
         leads = from.leads;
-        is = from.is ∙ ap (λ (v : CastView). view_after v number now.state note) (quiet_lists t number old mid p) ∙ same_lists old number mid.state now.state note;
+        is = from.is ∙ ap (λ (v : CastView). cast_view_after v number now.state note) (quiet_lists t number old mid p) ∙ same_lists old number mid.state now.state note;
       };
     }
 
 -- and what its note tells is said of the first view too
-pub told_again : (t : Table) (number : ℕ) (old mid : CastView) (note : CastNote) → Probes t number old Quiet mid → IsToldAlike mid (number_of mid.state) note → IsToldAlike old number note
+pub told_again : (t : Table) (number : ℕ) (old mid : CastView) (note : CastNote) → Probes t number old Quiet mid → IsToldAlike mid (cast_number mid.state) note → IsToldAlike old number note
 told_again t number old mid note p told =
     let after = probe_after t number old mid Quiet p in
-    let of_number = subst (λ (s : CastState). IsToldAlike mid (number_of s) note) after.0 told in
+    let of_number = subst (λ (s : CastState). IsToldAlike mid (cast_number s) note) after.0 told in
     let h = subst (λ (v : CastView). IsToldAlike v number note) (quiet_lists t number old mid p) of_number in
     record { again = h.again; no_room = h.no_room; full_again = h.full_again }
 
@@ -106,7 +106,7 @@ tries_left t (Ready v i s) = 0
 -- what is told of a number, and the view after it
 pub record IsCastSo (number : ℕ) (old now : CastView) (note : CastNote) : Type 0 where
   pub answers : IsAnswer note
-  pub view : now ≡ view_after old number Rest note
+  pub view : now ≡ cast_view_after old number Rest note
 
 -- where the number that was claimed is placed
 pub placed_so : (t : Table) (number v i : ℕ) (old mid now : CastView) (note : CastNote) → mid.state ≡ Carrying v i → Probes t number old note mid → now ≡ record mid { state = Rest } → IsCastSo number old now note
@@ -117,7 +117,7 @@ placed_so t number v i old mid now Full carrying p placed = let clash : Carrying
 placed_so t number v i old mid now Placed carrying p placed = absurd (probe_after t number old mid Placed p)
 
 rested : (t : Table) (number : ℕ) (old now : CastView) (note : CastNote) → IsAnswer note → now.state ≡ Rest → Probes t number old note now → IsCastSo number old now note
-rested t number old now note answers rests p = record { answers = answers; view = p.row.is ∙ ap (λ (s : CastState). view_after old number s note) rests }
+rested t number old now note answers rests p = record { answers = answers; view = p.row.is ∙ ap (λ (s : CastState). cast_view_after old number s note) rests }
 
 -- where none was claimed
 pub refused_so : (t : Table) (number : ℕ) (old now : CastView) (note : CastNote) → ((v i : ℕ) → now.state ≢ Carrying v i) → note ≢ Quiet → Probes t number old note now → IsCastSo number old now note

@@ -8,7 +8,7 @@ use Rattle.step_core.proofs.CastAtRest.{IsNewIn, claim_is_new, full_for}
 use Rattle.step_core.proofs.CastRows.{met_is}
 use Rattle.step_core.proofs.Sets.{contains-flat_map, stands-set}
 use Rattle.store_spec.specs.CastInvariant.{CastInvariant, HasMet, HoldsOther, IsClaimed}
-use Rattle.store_spec.specs.CastStep.{CastNote, CastRow, CastState, CastView, Table, claim_word, number_of, view_after}
+use Rattle.store_spec.specs.CastStep.{CastNote, CastRow, CastState, CastView, Table, claim_word, cast_number, cast_view_after}
 use Rattle.store_spec.specs.CastStep.CastNote.{Claimed, Taken, Full}
 use Rattle.store_spec.specs.CastStep.CastRow.{claim_won, claim_met, claim_passed, claims_full, look_passes, look_ready, takes_empty, displaces, lost_passes, lost_ready}
 use Rattle.store_spec.specs.CastStep.CastState.{Probing}
@@ -44,22 +44,22 @@ won t from word f left new note (lost_ready v i s g other less) is = absurd cc
 -- before and after a step
 module _ (t : Table) (base words words_now : List ℕ) (views : List CastView) (id : ℕ) (view : CastView) (from : CastState) (new : CastState) (note : CastNote)
     (h : CastInvariant t base words views) (stands : slice_get views id ≡ Some view) (is : view.state ≡ from)
-    (after : CastInvariant t base words_now (set views id (view_after view (number_of from) new note))) where
+    (after : CastInvariant t base words_now (set views id (cast_view_after view (cast_number from) new note))) where
   abbrev x : ℕ
-  x = number_of from
+  x = cast_number from
 
-  after_note : (note' : CastNote) → note ≡ note' → CastInvariant t base words_now (set views id (view_after view x new note'))
-  after_note note' e = subst (λ (n : CastNote). CastInvariant t base words_now (set views id (view_after view x new n))) e after
+  after_note : (note' : CastNote) → note ≡ note' → CastInvariant t base words_now (set views id (cast_view_after view x new note'))
+  after_note note' e = subst (λ (n : CastNote). CastInvariant t base words_now (set views id (cast_view_after view x new n))) e after
 
   claimed_new : (word left : ℕ) → CastRow t from word (get_or words word 0) left new note → note ≡ Claimed → IsNewIn view x
   claimed_new word left row e =
       let w = won t from word (get_or words word 0) left new note row e in
-      subst (IsNewIn view) (sym (ap number_of w.is))
+      subst (IsNewIn view) (sym (ap cast_number w.is))
       (claim_is_new t base words views id view w.x w.k h stands (is ∙ w.is) (ap (λ (n : ℕ). get_or words n 0) (sym w.at) ∙ w.free))
 
   full_foreign : note ≡ Full → (¬ Contains view.accepted x) × (¬ Contains view.taken x)
   full_foreign e =
-      let now = view_after view x new Full in
+      let now = cast_view_after view x new Full in
       let h_now = after_note Full e in
       let stands_now = stands-set views id view now stands in
       let full = Contains-push view.full x in (
@@ -70,7 +70,7 @@ module _ (t : Table) (base words words_now : List ℕ) (views : List CastView) (
 
   taken_room : note ≡ Taken → ¬ Contains view.full x
   taken_room e full =
-      let now = view_after view x new Taken in
+      let now = cast_view_after view x new Taken in
       let stands_now = stands-set views id view now stands in
       taken_not_full (drop t.cells words_now) now x (met_is t base words_now (set views id now) id now (after_note Taken e) stands_now) (Contains-push view.taken x) full
 

@@ -12,7 +12,7 @@ use Rattle.store_spec.specs.WithdrawStep.FirstRow.{chose, found_gone}
 use Rattle.store_spec.specs.WithdrawStep.WithdrawNote.{Gone, Quiet}
 use Rattle.store_spec.specs.WithdrawStep.WithdrawState.{Rest, Chosen}
 use Rattle.store_spec.specs.WithdrawStep as definition
-use Rattle.store_spec.specs.WithdrawStep.{FirstRow, IsSeated, WithdrawNote, WithdrawView, number_of, view_after, withdraw_act}
+use Rattle.store_spec.specs.WithdrawStep.{FirstRow, IsSeated, WithdrawNote, WithdrawView, withdraw_number, withdraw_view_after, withdraw_act}
 use Rattle.word_rule.specs.WithdrawSeats.{Began, WentOn, flagged_by}
 use Rattle.word_rule.specs.WithdrawWords.{MakesFirstRow, MakesRow}
 use Rattle.word_rule.specs.declared.seats.Known.{Known}
@@ -64,9 +64,9 @@ module _ (shape : Shape) (state : WithdrawState) (note : WithdrawNote) (step : S
       leads = subst (λ s. FirstRow (homes_of shape) x found s note) after_first.same_state row;
       is =
           ap (λ m. m.0.view) told.is ∙ told.told.is
-          ∙ ap (λ (n : ℕ). view_after me.0.view n told.view.state told.told.note) flagged
-          ∙ ap (λ n. view_after me.0.view x told.view.state n) (sym same_first.1)
-          ∙ ap (λ m. view_after me.0.view x m.0.view.state note) (sym told.is);
+          ∙ ap (λ (n : ℕ). withdraw_view_after me.0.view n told.view.state told.told.note) flagged
+          ∙ ap (λ n. withdraw_view_after me.0.view x told.view.state n) (sym same_first.1)
+          ∙ ap (λ m. withdraw_view_after me.0.view x m.0.view.state note) (sym told.is);
     }
 
     -- a number that was taken here before is found gone
@@ -92,6 +92,6 @@ module _ (shape : Shape) (state : WithdrawState) (note : WithdrawNote) (step : S
       leads = subst (λ s. LeadsTo (homes_of shape) me.0.view.state found s note) after_later.same_state row;
       is =
           ap (λ m. m.0.view) told.is ∙ told.told.is
-          ∙ ap (λ n. view_after me.0.view (number_of me.0.view.state) told.view.state n) (sym same_later.1)
-          ∙ ap (λ m. view_after me.0.view (number_of me.0.view.state) m.0.view.state note) (sym told.is);
+          ∙ ap (λ n. withdraw_view_after me.0.view (withdraw_number me.0.view.state) told.view.state n) (sym same_later.1)
+          ∙ ap (λ m. withdraw_view_after me.0.view (withdraw_number me.0.view.state) m.0.view.state note) (sym told.is);
     }

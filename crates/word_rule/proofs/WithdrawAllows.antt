@@ -9,7 +9,7 @@ use Rattle.step_core.specs.Shape.{homes_of}
 use Rattle.store_spec.specs.Act.{Act, left_by, word_of}
 use Rattle.store_spec.specs.WithdrawInvariant.{WithdrawInvariant}
 use Rattle.store_spec.specs.WithdrawStep as numbers
-use Rattle.store_spec.specs.WithdrawStep.{WithdrawView, fresh_view, withdraw_act}
+use Rattle.store_spec.specs.WithdrawStep.{WithdrawView, fresh_withdraw_view, withdraw_act}
 use Rattle.store_spec.specs.WithdrawStep.WithdrawState.{Rest}
 use Rattle.word_rule.proofs.Weights.{at_slice, knows_opening, steps}
 use Rattle.word_rule.proofs.WithdrawStepKeeps.{first_view, next_view}
@@ -20,7 +20,7 @@ use Rattle.word_rule.specs.declared.seats.Opening.{Opening}
 
 module _ (opening : Opening) (slots id : ℕ) (me : Me (Unit {0}) (Known WithdrawView)) (some_weight : me.0.weight ≢ 0) (size : length me.0.base ≡ me.0.shape.cells) where
   abbrev Rule : State (Unit {0}) (Known WithdrawView) → Type 0
-  Rule = IsSeated IsWithdrawn fresh_view opening
+  Rule = IsSeated IsWithdrawn fresh_withdraw_view opening
 
   module _ (s : State (Unit {0}) (Known WithdrawView)) (rule : Rule s) (at : get_elem? s.views id ≡ some me.0) where
     abbrev views : List WithdrawView
@@ -30,17 +30,17 @@ module _ (opening : Opening) (slots id : ℕ) (me : Me (Unit {0}) (Known Withdra
     has = stands-map (λ (known : Known WithdrawView). known.view) s.views id me.0 (at_slice s.views id me.0 at)
 
     like : me.0 ≡ knows opening me.0.weight me.0.view
-    like = knows_opening IsWithdrawn fresh_view opening s id me.0 rule at some_weight
+    like = knows_opening IsWithdrawn fresh_withdraw_view opening s id me.0 rule at some_weight
 
     invariant : WithdrawInvariant (homes_of me.0.shape) me.0.base s.words views
     invariant = subst (λ (k : Known WithdrawView). WithdrawInvariant (homes_of k.shape) k.base s.words views) (sym like) rule.kept
 
     -- the seat's own view is put in place of the old one
     put : (now : List ℕ) (view : WithdrawView) → WithdrawInvariant (homes_of me.0.shape) me.0.base now (set views id view) → Rule (record { words = now; homes = s.homes; views = set s.views id (record me.0 { view = view }) })
-    put now view kept = steps IsWithdrawn fresh_view opening s id me.0 now view _ rule at some_weight
+    put now view kept = steps IsWithdrawn fresh_withdraw_view opening s id me.0 now view _ rule at some_weight
         (subst (λ (k : Known WithdrawView). WithdrawInvariant (homes_of k.shape) k.base now (set views id view)) like kept) refl refl
 
-  own_act_allowed : (step : Step (Unit {0})) → me.0.view.state ≢ Rest → let act = withdraw_act me.0.view.state in Allows (IsSeated IsWithdrawn fresh_view opening) slots id me (word_of act) (left_by act) (WentOn step me)
+  own_act_allowed : (step : Step (Unit {0})) → me.0.view.state ≢ Rest → let act = withdraw_act me.0.view.state in Allows (IsSeated IsWithdrawn fresh_withdraw_view opening) slots id me (word_of act) (left_by act) (WentOn step me)
   own_act_allowed step moves = λ s rule none at small.
       let act = withdraw_act me.0.view.state in
       let found = get_or s.words (word_of act) 0 in
@@ -57,10 +57,10 @@ module _ (opening : Opening) (slots id : ℕ) (me : Me (Unit {0}) (Known Withdra
       )
 
   -- a later step, by the act of the seat's state
-  pub later_allowed : (act : Act) (step : Step (Unit {0})) → me.0.view.state ≢ Rest → act ≡ withdraw_act me.0.view.state → Allows (IsSeated IsWithdrawn fresh_view opening) slots id me (word_of act) (left_by act) (WentOn step me)
-  later_allowed act step moves is = subst (λ (a : Act). Allows (IsSeated IsWithdrawn fresh_view opening) slots id me (word_of a) (left_by a) (WentOn step me)) (sym is) (own_act_allowed step moves)
+  pub later_allowed : (act : Act) (step : Step (Unit {0})) → me.0.view.state ≢ Rest → act ≡ withdraw_act me.0.view.state → Allows (IsSeated IsWithdrawn fresh_withdraw_view opening) slots id me (word_of act) (left_by act) (WentOn step me)
+  later_allowed act step moves is = subst (λ (a : Act). Allows (IsSeated IsWithdrawn fresh_withdraw_view opening) slots id me (word_of a) (left_by a) (WentOn step me)) (sym is) (own_act_allowed step moves)
 
-  flag_swap_allowed : (x cell : ℕ) (step : Step (Unit {0})) → me.0.view.state ≡ Rest → numbers.IsSeated me.0.base x cell → step.word ≡ me.0.shape.cells + cell → Allows (IsSeated IsWithdrawn fresh_view opening) slots id me (me.0.shape.cells + cell) (λ found. 1) (Began step me)
+  flag_swap_allowed : (x cell : ℕ) (step : Step (Unit {0})) → me.0.view.state ≡ Rest → numbers.IsSeated me.0.base x cell → step.word ≡ me.0.shape.cells + cell → Allows (IsSeated IsWithdrawn fresh_withdraw_view opening) slots id me (me.0.shape.cells + cell) (λ found. 1) (Began step me)
   flag_swap_allowed x cell step rests seated word_is = λ s rule none at small.
       let word = length me.0.base + cell in
       let first = first_view (homes_of me.0.shape) me.0.base s.words _ id me.0.view (invariant s rule at) (has s rule at) x cell rests seated in
@@ -81,5 +81,5 @@ module _ (opening : Opening) (slots id : ℕ) (me : Me (Unit {0}) (Known Withdra
       )
 
   -- the first step for a number, a swap of its flag
-  pub first_allowed : (x cell word : ℕ) (step : Step (Unit {0})) → me.0.view.state ≡ Rest → numbers.IsSeated me.0.base x cell → step.word ≡ word → word ≡ me.0.shape.cells + cell → Allows (IsSeated IsWithdrawn fresh_view opening) slots id me word (λ found. 1) (Began step me)
-  first_allowed x cell word step rests seated word_is flag_is = subst (λ (w : ℕ). Allows (IsSeated IsWithdrawn fresh_view opening) slots id me w (λ found. 1) (Began step me)) (sym flag_is) (flag_swap_allowed x cell step rests seated (word_is ∙ flag_is))
+  pub first_allowed : (x cell word : ℕ) (step : Step (Unit {0})) → me.0.view.state ≡ Rest → numbers.IsSeated me.0.base x cell → step.word ≡ word → word ≡ me.0.shape.cells + cell → Allows (IsSeated IsWithdrawn fresh_withdraw_view opening) slots id me word (λ found. 1) (Began step me)
+  first_allowed x cell word step rests seated word_is flag_is = subst (λ (w : ℕ). Allows (IsSeated IsWithdrawn fresh_withdraw_view opening) slots id me w (λ found. 1) (Began step me)) (sym flag_is) (flag_swap_allowed x cell step rests seated (word_is ∙ flag_is))

@@ -10,7 +10,7 @@ use Rattle.step_core.specs.declared.shape.Shape.{Shape}
 use Rattle.step_core.specs.declared.withdraw.WithdrawState.{WithdrawState}
 use Rattle.store_spec.specs.Act.{Act, left_by, word_of}
 use Rattle.store_spec.specs.Measure.{Falls}
-use Rattle.store_spec.specs.WithdrawStep.{FirstRow, IsSeated, WithdrawNote, WithdrawView, fresh_view, withdraw_act, withdraw_measure}
+use Rattle.store_spec.specs.WithdrawStep.{FirstRow, IsSeated, WithdrawNote, WithdrawView, fresh_withdraw_view, withdraw_act, withdraw_measure}
 use Rattle.store_spec.specs.WithdrawStep as definition
 use Rattle.store_spec.specs.WithdrawStep.WithdrawNote.{Gone}
 use Rattle.store_spec.specs.WithdrawStep.WithdrawState.{Rest}
@@ -64,7 +64,7 @@ module _ {Q : Type 0} (shape : Shape) (shared : Words Q) (of : SharedWords) (sta
   some_weight = λ z. let one = about.single.weight in let no : ⊥ = omega arith in no
 
   -- the act of a state, as the code has it
-  pub allows_act : (slots : ℕ) (step : Step (Unit {0})) (act : Act) → state ≢ Rest → act ≡ withdraw_act state → Allows (rule.IsSeated IsWithdrawn fresh_view shared.key) slots seat.id seat.me (word_of act) (left_by act) (WentOn step seat.me)
+  pub allows_act : (slots : ℕ) (step : Step (Unit {0})) (act : Act) → state ≢ Rest → act ≡ withdraw_act state → Allows (rule.IsSeated IsWithdrawn fresh_withdraw_view shared.key) slots seat.id seat.me (word_of act) (left_by act) (WentOn step seat.me)
   allows_act slots step act moves is = later_allowed shared.key slots seat.id seat.me some_weight base_size act step
       (λ e. moves (sym about.state_is ∙ e)) (is ∙ ap withdraw_act (sym about.state_is))
 
@@ -73,7 +73,7 @@ module _ {Q : Type 0} (shape : Shape) (shared : Words Q) (of : SharedWords) (sta
     seated_here : IsSeated seat.me.0.base x place
     seated_here = subst (λ (l : List ℕ). IsSeated l x place) (sym (ap (λ (v : SharedWords). v.base) about.belongs)) seated
 
-    pub allows_first : (slots word : ℕ) (step : Step (Unit {0})) → state ≡ Rest → step.word ≡ word → word ≡ shape.cells + place → Allows (rule.IsSeated IsWithdrawn fresh_view shared.key) slots seat.id seat.me word (λ found. 1) (Began step seat.me)
+    pub allows_first : (slots word : ℕ) (step : Step (Unit {0})) → state ≡ Rest → step.word ≡ word → word ≡ shape.cells + place → Allows (rule.IsSeated IsWithdrawn fresh_withdraw_view shared.key) slots seat.id seat.me word (λ found. 1) (Began step seat.me)
     allows_first slots word step rests word_is flag_is = first_allowed shared.key slots seat.id seat.me some_weight base_size x place word step (about.state_is ∙ rests) seated_here word_is
         (flag_is ∙ ap (λ (h : Shape). h.cells + place) (stored_shape shape shared of words_is kept ∙ sym (shape_of_seat of state seat about)))
 

@@ -5,7 +5,7 @@ use Rattle.step_core.specs.Shape.{homes_of}
 use Rattle.store_spec.specs.Layout.{layout_of, numbers_in}
 use Rattle.store_spec.specs.WithdrawInvariant.{IsOf, times}
 use Rattle.store_spec.specs.WithdrawPhase.{without}
-use Rattle.store_spec.specs.WithdrawStep.{WithdrawView, fresh_view}
+use Rattle.store_spec.specs.WithdrawStep.{WithdrawView, fresh_withdraw_view}
 use Rattle.word_rule.proofs.Closing.{each_list}
 use Rattle.word_rule.proofs.WithdrawEnds.{ends}
 use Rattle.word_rule.specs.Places.{HaveEnded, Place}
@@ -13,7 +13,7 @@ use Rattle.word_rule.specs.Seats.{SharedWords}
 use Rattle.word_rule.specs.WithdrawSeats.{IsAtRest, IsWithdrawn, joined_view}
 use Rattle.word_rule.specs.WithdrawWords.{AgreeOn, begun_at, cells_after}
 
-pub closes : (words : SharedWords) (places : List (Place WithdrawView)) (last : List ℕ) → length words.base ≡ words.shape.cells → HaveEnded IsWithdrawn fresh_view joined_view IsAtRest words places last → (take words.shape.cells last ≡ cells_after words places) × AgreeOn words places
+pub closes : (words : SharedWords) (places : List (Place WithdrawView)) (last : List ℕ) → length words.base ≡ words.shape.cells → HaveEnded IsWithdrawn fresh_withdraw_view joined_view IsAtRest words places last → (take words.shape.cells last ≡ cells_after words places) × AgreeOn words places
 closes words places last size h =
     let end = ends (homes_of words.shape) words.base last h.views h.id h.view h.kept h.stands h.at_rest h.others in
     let begun : h.view.begun ≡ begun_at places = h.lists (λ v. v.begun) (λ v u. refl) in (

@@ -7,7 +7,7 @@ use Rattle.step_core.proofs.WithdrawAtRest as rest
 use Rattle.store_spec.specs.Layout.{layout_of, numbers_in}
 use Rattle.store_spec.specs.WithdrawInvariant.{IsOf, WithdrawInvariant, begun_by, times}
 use Rattle.store_spec.specs.WithdrawPhase.{without}
-use Rattle.store_spec.specs.WithdrawStep.{WithdrawView, fresh_view}
+use Rattle.store_spec.specs.WithdrawStep.{WithdrawView, fresh_withdraw_view}
 use Rattle.store_spec.specs.WithdrawStep.WithdrawState.{Rest}
 use Rattle.word_rule.proofs.Joined.{all_such, one_has_all}
 
@@ -18,9 +18,9 @@ pub record Ends (home : ℕ → ℕ) (base cells : List ℕ) (view : WithdrawVie
   pub once : (x : ℕ) → times view.begun x ≤ 1
   pub gone : All (Contains view.begun) view.gone
 
-module _ (home : ℕ → ℕ) (base words : List ℕ) (views : List WithdrawView) (id : ℕ) (view : WithdrawView) (inv : WithdrawInvariant home base words views) (has : slice_get views id ≡ Some view) (rests : view.state ≡ Rest) (others : (k : ℕ) (d : WithdrawView) → k < length views → k ≢ id → get_or views k d ≡ fresh_view) where
+module _ (home : ℕ → ℕ) (base words : List ℕ) (views : List WithdrawView) (id : ℕ) (view : WithdrawView) (inv : WithdrawInvariant home base words views) (has : slice_get views id ≡ Some view) (rests : view.state ≡ Rest) (others : (k : ℕ) (d : WithdrawView) → k < length views → k ≢ id → get_or views k d ≡ fresh_withdraw_view) where
   all_rest : All (λ v. v.state ≡ Rest) views
-  all_rest = all_such (λ v. v.state ≡ Rest) fresh_view views id view has others rests refl
+  all_rest = all_such (λ v. v.state ≡ Rest) fresh_withdraw_view views id view has others rests refl
 
   all_begun : begun_by views ≡ view.begun
   all_begun = one_has_all (λ v. v.begun) views id view has (λ k d lt n. ap (λ v. v.begun) (others k d lt n))

@@ -1,7 +1,7 @@
 -- The steps of a seat for one number, by their rows.
 use Rattle.std.proofs.Common.{◌≡◌, ◌≢◌, ◌⊎◌, ℕ, inl, inr, List, [], ◌∷◌, ◌++◌, refl, sym, ◌∙◌, ap, subst, append-nil}
 use Rattle.store_spec.specs.Act.{left_by, word_of}
-use Rattle.store_spec.specs.WithdrawStep.{FirstRow, WithdrawNote, WithdrawRow, WithdrawState, WithdrawView, number_of, view_after, withdraw_act}
+use Rattle.store_spec.specs.WithdrawStep.{FirstRow, WithdrawNote, WithdrawRow, WithdrawState, WithdrawView, withdraw_number, withdraw_view_after, withdraw_act}
 use Rattle.store_spec.specs.WithdrawStep.FirstRow.{chose, found_gone}
 use Rattle.store_spec.specs.WithdrawStep.WithdrawNote.{Gone, Quiet}
 use Rattle.store_spec.specs.WithdrawStep.WithdrawRow.{walked_on, began, found_owed, looked_lower, looked_higher, found_candidate, found_lower_candidate, kept_candidate, emptied, refilled, lost}
@@ -12,7 +12,7 @@ use Rattle.word_rule.specs.WithdrawWords.{MakesFirstRow, MakesRow}
 abbrev pub Begun : ℕ → WithdrawView → WithdrawNote → WithdrawView → Type 0
 Begun x before note now = ((note ≡ Gone) × HasFoundGone x before now) ⊎ ((note ≡ Quiet) × (now.state ≢ Rest) × IsRemoving x before now)
 
-first_by_row : (home : ℕ → ℕ) (x : ℕ) (before : WithdrawView) (found : ℕ) (new : WithdrawState) (note : WithdrawNote) → FirstRow home x found new note → Begun x before note (view_after before x new note)
+first_by_row : (home : ℕ → ℕ) (x : ℕ) (before : WithdrawView) (found : ℕ) (new : WithdrawState) (note : WithdrawNote) → FirstRow home x found new note → Begun x before note (withdraw_view_after before x new note)
 first_by_row home x before _ _ _ found_gone = inl (refl, record { at_rest = refl; begun = refl; gone = refl })
 first_by_row home x before _ _ _ chose = inr (refl, (λ e. cc), record { walks = refl; begun = sym (append-nil before.begun); gone = refl })
 
@@ -20,7 +20,7 @@ pub begins : (home : ℕ → ℕ) (x : ℕ) (before : WithdrawView) (note : With
 begins home x before note now made = subst (Begun x before note) (sym made.is) (first_by_row home x before made.found now.state note made.leads)
 
 module _ (home : ℕ → ℕ) (x : ℕ) (before old : WithdrawView) where
-  by_row : (from : WithdrawState) (word found left : ℕ) (new : WithdrawState) (note : WithdrawNote) → WithdrawRow home from word found left new note → IsRemoving x before (record { state = from; begun = old.begun; gone = old.gone }) → IsRemoving x before (view_after old (number_of from) new note)
+  by_row : (from : WithdrawState) (word found left : ℕ) (new : WithdrawState) (note : WithdrawNote) → WithdrawRow home from word found left new note → IsRemoving x before (record { state = from; begun = old.begun; gone = old.gone }) → IsRemoving x before (withdraw_view_after old (withdraw_number from) new note)
   by_row _ _ _ _ _ _ (walked_on less) h = record { walks = h.walks; begun = h.begun; gone = h.gone }
   by_row _ _ _ _ _ _ (began {x = y} stops) h = record {
     walks = tt;

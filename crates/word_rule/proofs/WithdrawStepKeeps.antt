@@ -7,14 +7,14 @@ use Rattle.step_core.proofs.WithdrawRows.{keeps_first, keeps_row}
 use Rattle.step_core.specs.WithdrawTables.{FitsIn, LeadsTo}
 use Rattle.store_spec.specs.Act.{left_by, word_of}
 use Rattle.store_spec.specs.WithdrawInvariant.{WithdrawInvariant, cell_words}
-use Rattle.store_spec.specs.WithdrawStep.{FirstRow, IsSeated, WithdrawNote, WithdrawState, WithdrawView, number_of, view_after, withdraw_act}
+use Rattle.store_spec.specs.WithdrawStep.{FirstRow, IsSeated, WithdrawNote, WithdrawState, WithdrawView, withdraw_number, withdraw_view_after, withdraw_act}
 use Rattle.store_spec.specs.WithdrawStep.WithdrawNote.{Quiet, Gone, Begun, Done}
 use Rattle.store_spec.specs.WithdrawStep.WithdrawState.{Rest}
 use Rattle.word_rule.proofs.WithdrawRowFor.{first_row_for, row_for}
 use Rattle.word_rule.specs.WithdrawSeats.{Begins, GoesOn}
 
 -- the state after a step is the new one, whatever the note
-after_state : (view : WithdrawView) (x : ℕ) (new : WithdrawState) (note : WithdrawNote) → (view_after view x new note).state ≡ new
+after_state : (view : WithdrawView) (x : ℕ) (new : WithdrawState) (note : WithdrawNote) → (withdraw_view_after view x new note).state ≡ new
 after_state view x new Quiet = refl
 after_state view x new Gone = refl
 after_state view x new Begun = refl
@@ -41,11 +41,11 @@ module _ (home : ℕ → ℕ) (base words : List ℕ) (views : List WithdrawView
       let act = withdraw_act view.state in
       let found = get_or words (word_of act) 0 in
       let now = set words (word_of act) (left_by act found) in
-      let x = number_of view.state in
+      let x = withdraw_number view.state in
       let sound = sound_of home base words views id view inv has view.state refl in
       let may = may_find home base words views id view inv has view.state found moves refl refl in
       let row = row_for home (length base) view.state found (within_cells home base (cell_words base words) views view.state sound) may in
-      let after = view_after view x row.0 row.1 in
+      let after = withdraw_view_after view x row.0 row.1 in
       let is = after_state view x row.0 row.1 in
       let keeps = keeps_row home base view.state (word_of act) found (left_by act found) row.0 row.1 row.2 words views id view inv has refl refl in
       record {
@@ -55,7 +55,7 @@ module _ (home : ℕ → ℕ) (base words : List ℕ) (views : List WithdrawView
           may_find = may;
           note = row.1;
           row = subst (λ s. LeadsTo home view.state found s row.1) (sym is) row.2;
-          is = ap (λ s. view_after view x s row.1) (sym is);
+          is = ap (λ s. withdraw_view_after view x s row.1) (sym is);
           fits = fits_now now after keeps;
           falls = row_falls home base (cell_words base words) views view.state (word_of act) found (left_by act found) after.state row.1 (subst (λ s. LeadsTo home view.state found s row.1) (sym is) row.2) sound;
         };
@@ -73,7 +73,7 @@ module _ (home : ℕ → ℕ) (base words : List ℕ) (views : List WithdrawView
       let now = set words (length base + cell) 1 in
       let flag : found ≤ 1 = let is = sym (get_or-drop (length base) words cell 0) ∙ inv.flags.counted cell in let once = inv.flags.once (get_or base cell 0) in omega arith in
       let row = first_row_for home x found flag in
-      let after = view_after view x row.0 row.1 in
+      let after = withdraw_view_after view x row.0 row.1 in
       let is = after_state view x row.0 row.1 in
       let keeps = keeps_first home base x cell found row.0 row.1 seated row.2 words views id view inv has rests refl in
       record {
@@ -83,7 +83,7 @@ module _ (home : ℕ → ℕ) (base words : List ℕ) (views : List WithdrawView
           flag = flag;
           note = row.1;
           row = subst (λ s. FirstRow home x found s row.1) (sym is) row.2;
-          is = ap (λ s. view_after view x s row.1) (sym is);
+          is = ap (λ s. withdraw_view_after view x s row.1) (sym is);
           fits = fits_now now after keeps;
           again = λ taken. found_taken home base words views id view inv has x cell seated taken;
         };

@@ -4,7 +4,7 @@ use Rattle.std.specs.Bool.{⊤}
 use Rattle.step_core.specs.WithdrawTables.{LeadsTo}
 use Rattle.store_spec.specs.Act.{left_by, word_of}
 use Rattle.store_spec.specs.Measure.{Falls}
-use Rattle.store_spec.specs.WithdrawStep.{WithdrawNote, WithdrawRow, WithdrawState, WithdrawView, number_of, withdraw_act, withdraw_measure}
+use Rattle.store_spec.specs.WithdrawStep.{WithdrawNote, WithdrawRow, WithdrawState, WithdrawView, withdraw_number, withdraw_act, withdraw_measure}
 use Rattle.store_spec.specs.WithdrawStep.WithdrawRow.{walked_on, began, found_owed, looked_lower, looked_higher, found_candidate, found_lower_candidate, kept_candidate, emptied, refilled, lost}
 use Rattle.store_spec.specs.WithdrawStep.WithdrawState.{Rest, Chosen, Owing, Up, Down}
 use Rattle.word_rule.proofs.WithdrawRemoval.{goes_on}
@@ -92,8 +92,8 @@ has_moved home top cells first old now from new note way old_is now_is row falls
 
 -- a number that is chosen, to begin with
 pub record HasChosen (cells : ℕ) (view : WithdrawView) (state : WithdrawState) : Type 0 where
-  pub removing : IsRemoving (number_of state) view view
-  pub bounded : IsBounded (number_of state) cells state
+  pub removing : IsRemoving (withdraw_number state) view view
+  pub bounded : IsBounded (withdraw_number state) cells state
   pub walks : Walks state
 
 pub has_chosen : (cells x place : ℕ) (view : WithdrawView) (state : WithdrawState) → state ≡ Chosen x place → view.state ≡ state → HasChosen cells view state

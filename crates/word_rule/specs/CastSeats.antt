@@ -5,7 +5,7 @@ use Rattle.step_core.specs.CastTables.{FitsIn, LeadsTo, MayFind}
 use Rattle.step_core.specs.Shape.{table_of}
 use Rattle.step_core.specs.declared.shape.Shape.{Shape}
 use Rattle.store_spec.specs.CastInvariant.{CastInvariant, HasRoomFor}
-use Rattle.store_spec.specs.CastStep.{CastNote, CastState, CastView, Table, cast_measure, number_of, view_after}
+use Rattle.store_spec.specs.CastStep.{CastNote, CastState, CastView, Table, cast_measure, cast_number, cast_view_after}
 use Rattle.store_spec.specs.CastStep.CastNote.{Quiet, Claimed, Taken, Full, Placed}
 use Rattle.store_spec.specs.CastStep.CastState.{Probing, Rest}
 use Rattle.store_spec.specs.Layout.{numbers_in}
@@ -34,7 +34,7 @@ pub record IsToldAlike (view : CastView) (number : ℕ) (note : CastNote) : Type
 pub record MakesRow (t : Table) (from : CastState) (old : CastView) (note : CastNote) (now : CastView) : Type 0 where
   pub found : ℕ
   pub leads : LeadsTo t from found now.state note
-  pub is : now ≡ view_after old (number_of from) now.state note
+  pub is : now ≡ cast_view_after old (cast_number from) now.state note
 
 -- a row from the state of the view before it
 abbrev pub MakesNextRow : Table → CastView → CastNote → CastView → Type 0
@@ -64,9 +64,9 @@ pub record StepsFrom (from : CastState) (me : Me (Unit {0}) (Known CastView)) (f
   pub note : CastNote
   pub may_find : MayFind from found
   pub leads : LeadsTo (table_of me.0.shape) from found new note
-  pub is : now ≡ (record me.0 { view = view_after me.0.view (number_of from) new note }, me.1)
+  pub is : now ≡ (record me.0 { view = cast_view_after me.0.view (cast_number from) new note }, me.1)
   pub fits : FitsIn (table_of me.0.shape) new
-  pub told_alike : IsToldAlike me.0.view (number_of from) note
+  pub told_alike : IsToldAlike me.0.view (cast_number from) note
   pub falls : Falls (cast_measure (table_of me.0.shape) new) (cast_measure (table_of me.0.shape) from)
 
 -- a step from the seat's own state

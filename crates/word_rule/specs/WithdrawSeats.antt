@@ -6,7 +6,7 @@ use Rattle.step_core.specs.WithdrawTables.{FitsIn, LeadsTo, MayFind}
 use Rattle.step_core.specs.declared.shape.Shape.{Shape}
 use Rattle.store_spec.specs.Measure.{Falls}
 use Rattle.store_spec.specs.WithdrawInvariant.{WithdrawInvariant}
-use Rattle.store_spec.specs.WithdrawStep.{FirstRow, WithdrawNote, WithdrawView, number_of, view_after, withdraw_measure}
+use Rattle.store_spec.specs.WithdrawStep.{FirstRow, WithdrawNote, WithdrawView, withdraw_number, withdraw_view_after, withdraw_measure}
 use Rattle.store_spec.specs.WithdrawStep.WithdrawState.{Rest}
 use Rattle.word_rule.specs.declared.seats.Known.{Known}
 
@@ -26,7 +26,7 @@ pub record Begins (home : ℕ → ℕ) (cells x found : ℕ) (old now : Withdraw
   pub flag : found ≤ 1
   pub note : WithdrawNote
   pub row : FirstRow home x found now.state note
-  pub is : now ≡ view_after old x now.state note
+  pub is : now ≡ withdraw_view_after old x now.state note
   pub fits : FitsIn cells now.state
   pub again : Contains old.begun x ⊎ Contains old.gone x → found ≡ 1
 
@@ -35,7 +35,7 @@ pub record GoesOn (home : ℕ → ℕ) (cells found : ℕ) (old now : WithdrawVi
   pub may_find : MayFind old.state found
   pub note : WithdrawNote
   pub row : LeadsTo home old.state found now.state note
-  pub is : now ≡ view_after old (number_of old.state) now.state note
+  pub is : now ≡ withdraw_view_after old (withdraw_number old.state) now.state note
   pub fits : FitsIn cells now.state
   pub falls : Falls (withdraw_measure cells now.state) (withdraw_measure cells old.state)
 

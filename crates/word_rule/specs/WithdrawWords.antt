@@ -8,7 +8,7 @@ use Rattle.step_core.specs.declared.withdraw.WithdrawState as states
 use Rattle.store_spec.specs.Layout.{layout_of, numbers_in}
 use Rattle.store_spec.specs.WithdrawInvariant.{IsBase, IsOf, begun_by, times}
 use Rattle.store_spec.specs.WithdrawPhase.{without}
-use Rattle.store_spec.specs.WithdrawStep.{FirstRow, WithdrawState, WithdrawView, number_of, view_after}
+use Rattle.store_spec.specs.WithdrawStep.{FirstRow, WithdrawState, WithdrawView, withdraw_number, withdraw_view_after}
 use Rattle.store_spec.specs.WithdrawStep as definition
 use Rattle.step_core.specs.WithdrawTables.{LeadsTo}
 use Rattle.word_rule.specs.Chain.{Chain}
@@ -28,13 +28,13 @@ pub record MayEmpty (shape : Shape) (cells : List ℕ) : Type 0 where
 pub record MakesFirstRow (home : ℕ → ℕ) (x : ℕ) (old : WithdrawView) (note : definition.WithdrawNote) (now : WithdrawView) : Type 0 where
   pub found : ℕ
   pub leads : FirstRow home x found now.state note
-  pub is : now ≡ view_after old x now.state note
+  pub is : now ≡ withdraw_view_after old x now.state note
 
 -- the row of the table for what is found, and the list that its note names grows by the number
 pub record MakesRow (home : ℕ → ℕ) (old : WithdrawView) (note : definition.WithdrawNote) (now : WithdrawView) : Type 0 where
   pub found : ℕ
   pub leads : LeadsTo home old.state found now.state note
-  pub is : now ≡ view_after old (number_of old.state) now.state note
+  pub is : now ≡ withdraw_view_after old (withdraw_number old.state) now.state note
 
 -- A chain of rows for a number: its first step, which finds the flag of its cell, and then a row from each state that a
 -- step led to. Each row names a word that the step found.

@@ -1,12 +1,9 @@
 //! Shared words of casting, and seats at which threads make its steps.
 
-#[cfg(test)]
-mod tests;
-
 ghost use Rattle.std.specs.Prelude.{◌≡◌, ◌≢◌, ℕ, ◌+◌, ◌^◌, ◌<◌};
 ghost use Rattle.step_core.specs.CastTables.{BeginsAt, note_of, state_of};
 ghost use Rattle.step_core.specs.Shape.{table_of};
-ghost use Rattle.store_spec.specs.CastStep.{cast_measure, number_of, view_after};
+ghost use Rattle.store_spec.specs.CastStep.{cast_measure, cast_number, cast_view_after};
 ghost use Rattle.store_spec.specs.CastStep.CastNote.{Quiet};
 ghost use Rattle.store_spec.specs.CastStep.CastState.{Carrying, Probing, Rest};
 ghost use Rattle.store_spec.specs.Measure.{Falls};
@@ -50,7 +47,7 @@ impl Model for CastSight {
 pub struct Casting;
 
 impl Phase<CastSight> for Casting {
-    ghost use Rattle.store_spec.specs.CastStep.{fresh_view, joined_view};
+    ghost use Rattle.store_spec.specs.CastStep.{fresh_cast_view, joined_view};
     ghost use Rattle.word_rule.specs.CastSeats.{IsAtRest, IsCast};
     ghost use Rattle.word_rule.specs.CastWords.{AgreeOn, MayHold, StandsFor, cells_after};
 
@@ -58,7 +55,7 @@ impl Phase<CastSight> for Casting {
 
     ghost holds = { IsCast };
 
-    ghost fresh = { fresh_view };
+    ghost fresh = { fresh_cast_view };
 
     ghost both = { joined_view };
 
@@ -152,7 +149,7 @@ impl CastWords {
         ensures words { seat.new.words ≡ seat.old.words }
         ensures row { MakesRow (table_of self.now.shape) seat.old.view.state seat.old.view
             (note_of result) seat.new.view }
-        ensures told_alike { IsToldAlike seat.old.view (number_of seat.old.view.state)
+        ensures told_alike { IsToldAlike seat.old.view (cast_number seat.old.view.state)
             (note_of result) }
         ensures falls { Falls (cast_measure (table_of self.now.shape) seat.new.view.state)
             (cast_measure (table_of self.now.shape) seat.old.view.state) }
@@ -171,7 +168,7 @@ impl CastWords {
         requires may_begin { MayBegin self.now number }
         ensures words { seat.new.words ≡ seat.old.words }
         ensures answers { IsAnswer (note_of result) }
-        ensures view { seat.new.view ≡ view_after seat.old.view number Rest (note_of result) }
+        ensures view { seat.new.view ≡ cast_view_after seat.old.view number Rest (note_of result) }
         ensures told_alike { IsToldAlike seat.old.view number (note_of result) }
 
         // The first step of the number led from the view of before to another, and so on by rows to the view after it.
@@ -278,7 +275,7 @@ impl CastWords {
         ensures begins { BeginsAt (table_of self.now.shape) (state_of result.0) first }
         ensures row { MakesRow (table_of self.now.shape) (state_of state) seat.old.me.0.view
             (note_of result.1) seat.new.me.0.view }
-        ensures told_alike { IsToldAlike seat.old.me.0.view (number_of (state_of state))
+        ensures told_alike { IsToldAlike seat.old.me.0.view (cast_number (state_of state))
             (note_of result.1) }
         ensures falls { Falls (cast_measure (table_of self.now.shape) (state_of result.0))
             (cast_measure (table_of self.now.shape) (state_of state)) }

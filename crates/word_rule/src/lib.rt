@@ -3,8 +3,6 @@
 #![tactic(auto)]
 
 mod cast;
-#[cfg(test)]
-mod draws;
 pub mod laws;
 mod seats;
 mod steps;

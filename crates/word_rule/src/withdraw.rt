@@ -1,13 +1,10 @@
 //! Shared words of withdrawing, and seats at which threads make its steps.
 
-#[cfg(test)]
-mod tests;
-
 ghost use Rattle.std.specs.Prelude.{◌≡◌, ◌≢◌, ◌⊎◌, ℕ, ◌+◌, ◌^◌, ◌<◌, Contains};
 ghost use Rattle.step_core.specs.Shape.{homes_of};
 ghost use Rattle.step_core.specs.WithdrawTables.{note_of, state_of};
 ghost use Rattle.store_spec.specs.Measure.{Falls};
-ghost use Rattle.store_spec.specs.WithdrawStep.{IsSeated, number_of, withdraw_measure};
+ghost use Rattle.store_spec.specs.WithdrawStep.{IsSeated, withdraw_number, withdraw_measure};
 ghost use Rattle.store_spec.specs.WithdrawStep.WithdrawNote.{Gone};
 ghost use Rattle.store_spec.specs.WithdrawStep.WithdrawState.{Chosen, Rest};
 ghost use Rattle.word_rule.specs.Chain.{Rows};
@@ -45,7 +42,7 @@ impl Model for WithdrawSight {
 pub struct Withdrawing;
 
 impl Phase<WithdrawSight> for Withdrawing {
-    ghost use Rattle.store_spec.specs.WithdrawStep.{fresh_view};
+    ghost use Rattle.store_spec.specs.WithdrawStep.{fresh_withdraw_view};
     ghost use Rattle.word_rule.specs.WithdrawSeats.{IsAtRest, IsWithdrawn, joined_view};
     ghost use Rattle.word_rule.specs.WithdrawWords.{AgreeOn, MayEmpty, StandsFor, cells_after};
 
@@ -53,7 +50,7 @@ impl Phase<WithdrawSight> for Withdrawing {
 
     ghost holds = { IsWithdrawn };
 
-    ghost fresh = { fresh_view };
+    ghost fresh = { fresh_withdraw_view };
 
     ghost both = { joined_view };
 
@@ -180,7 +177,7 @@ impl WithdrawWords {
         requires about { IsAbout self.now (state_of chosen) seat.old }
         requires chosen { (number place : ℕ) × (state_of chosen ≡ Chosen number place) }
         ensures at_rest { IsAbout self.now Rest seat.new }
-        ensures removed { HasRemoved (number_of (state_of chosen)) seat.old.me.0.view
+        ensures removed { HasRemoved (withdraw_number (state_of chosen)) seat.old.me.0.view
             seat.new.me.0.view }
         ensures rows { Rows (MakesRow (homes_of self.now.shape)) seat.old.me.0.view
             seat.new.me.0.view }

@@ -5,6 +5,7 @@ ghost use Rattle.std.specs.Prelude.{◌≡◌, ◌<◌, ◌≤◌};
 ghost use Rattle.crash_disk.specs.Recorded.{recorded_calls};
 
 use super::{ROOM, assert_medium, disk_of, empty_bank, medium, put, recovered, three_ballots};
+use crate::calls::{assert_all_calls, assert_calls};
 use ballot_record::Election;
 use checkpoint::checkpoint;
 use crash_disk::{Disk, DiskCall, MemoryDisk, Torn};
@@ -106,14 +107,6 @@ fn stopped_at_each_call_of_a_checkpoint(rt: HostRuntime) -> Result<(), Fail> {
     Ok(())
 }
 
-fn assert_calls(rt: &impl Abort, disk: &MemoryDisk, from: u64, calls: &[DiskCall]) {
-    for (index, call) in calls.iter().enumerate() {
-        let made = disk.call_made(from.wrapping_add(index as u64));
-        assert_eq!(rt; made, Some(*call), "{index}");
-    }
-    assert_eq!(rt; disk.calls(), from.wrapping_add(calls.len() as u64));
-}
-
 fn assert_written(rt: &impl Abort, disk: &MemoryDisk, call: u64, wanted: &[u8]) {
     assert_eq!(rt; disk.written(call), wanted, "{call}");
 }
@@ -154,7 +147,7 @@ fn gate_a_left_closed(rt: HostRuntime) -> Result<(), Fail> {
     assert_eq!(rt; recovered(alloc, &mut open), Ok(0));
     let stopped = stopped_inside(&rt, alloc, &disk, calls, Torn::Fill(0x3c))?;
     let done = assert_recovers(&rt, alloc, stopped, 3)?;
-    assert_calls(&rt, &done, 0, &GATE_A_OPENED);
+    assert_all_calls(&rt, &done, &GATE_A_OPENED);
     assert_written(&rt, &done, 5, &three_ballots());
     assert_written(&rt, &done, 7, &[0xa7]);
     Ok(())
@@ -197,11 +190,12 @@ fn bank_b_half_written(rt: HostRuntime) -> Result<(), Fail> {
     let calls = before.wrapping_add(3);
     let stopped = stopped_inside(&rt, alloc, &disk, calls, Torn::Fill(0x3c))?;
     let mut done = assert_recovers(&rt, alloc, stopped, 0)?;
-    assert_calls(&rt, &done, 0, &BANK_B_FILLED);
+    assert_all_calls(&rt, &done, &BANK_B_FILLED);
     assert_written(&rt, &done, 7, &[0xa7]);
     // Once more.
     assert_eq!(rt; recovered(alloc, &mut done), Ok(0));
     assert_calls(&rt, &done, 9, &NOTHING_LEFT);
+    assert_eq!(rt; done.calls(), 14);
     Ok(())
 }
 

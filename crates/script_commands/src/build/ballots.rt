@@ -1,3 +1,5 @@
+//! The ballots of a build's script so far.
+
 ghost use Rattle.std.specs.Prelude.{◌≡◌, [], IfOk};
 ghost use Rattle.store_spec.specs.Ballot.{IsValid};
 ghost use Rattle.ballot_record.specs.Record.{ballot};

@@ -1,3 +1,5 @@
+//! Where each number of a build's script stands.
+
 ghost use Rattle.std.specs.Prelude.{◌≡◌, ◌+◌, ◌^◌, ◌<◌, ◌++◌, ◌∷◌, [], Some, length, slice_get, IfOk, MatchResult, OnOk};
 ghost use Rattle.script_commands.specs.Index.{IsAbsent, IsIndexOf, IsPlaceOf, slot_of};
 ghost use Rattle.store_spec.specs.Ballot.{numbers_of};

@@ -1,3 +1,5 @@
+//! The reading of a whole build script.
+
 ghost use Rattle.std.specs.Prelude.{◌≡◌, Err, IfOk};
 ghost use Rattle.store_spec.specs.Ballot.{IsListing, IsWithinLimit};
 ghost use Rattle.outside_io.specs.Told.{AsTold};

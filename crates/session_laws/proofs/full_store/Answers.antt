@@ -1,7 +1,7 @@
 use Rattle.std.proofs.Common.{List, [], ◌∷◌, refl, arith}
 use Rattle.std.specs.Fmt.{digits}
 use Rattle.std.proofs.lemmas.List.Sorted.{IsPermutation-refl}
-use Rattle.store_spec.specs.BallotPhase.{BallotOutcome, CastLine, IsRight, MayPrecede}
+use Rattle.store_spec.specs.BallotPhase.{BallotOutcome, CastLine, IsRightReply, MayBeCastBefore}
 use Rattle.store_spec.specs.BallotPhase.CastReply.{Duplicate, Full}
 use Rattle.store_spec.specs.Election.{example}
 use Rattle.store_spec.specs.Figures.{example_ballot}
@@ -26,8 +26,8 @@ outcome = record {
   gains = IsPermutation-refl full;
   set = full_is_set;
   within_limit = omega arith;
-  replies = all_each (λ (l : CastLine). IsRight example full full l.ballot l.reply) (lines ∷ []) (((no_number_in full 5 refl, refl), ((3, omega arith, refl), tt)), tt);
-  in_order = pairs_each MayPrecede (lines ∷ []) ((((λ accepted. absurd cc), tt), (tt, tt)), tt);
+  replies = all_each (λ (l : CastLine). IsRightReply example full full l.ballot l.reply) (lines ∷ []) (((no_number_in full 5 refl, refl), ((3, omega arith, refl), tt)), tt);
+  in_order = pairs_each MayBeCastBefore (lines ∷ []) ((((λ accepted. absurd cc), tt), (tt, tt)), tt);
 }
 
 pub returns : goal.returns

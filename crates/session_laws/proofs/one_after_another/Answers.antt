@@ -1,7 +1,7 @@
 use Rattle.std.proofs.Common.{List, [], ◌∷◌, refl, arith}
 use Rattle.std.specs.Fmt.{digits}
 use Rattle.std.proofs.lemmas.List.Sorted.{IsPermutation-refl}
-use Rattle.store_spec.specs.BallotPhase.{BallotOutcome, CastLine, IsRight, MayPrecede}
+use Rattle.store_spec.specs.BallotPhase.{BallotOutcome, CastLine, IsRightReply, MayBeCastBefore}
 use Rattle.store_spec.specs.BallotPhase.CastReply.{Accepted, Conflict, Duplicate}
 use Rattle.store_spec.specs.Election.{example}
 use Rattle.store_spec.specs.ScriptLine.Work.{Casting, Withdrawing}
@@ -25,9 +25,9 @@ outcome = record {
   gains = IsPermutation-refl (one_way ∷ []);
   set = one_is_set one_way spells_one_way.valid;
   within_limit = omega arith;
-  replies = all_each (λ (l : CastLine). IsRight example [] (one_way ∷ []) l.ballot l.reply) (lines ∷ [])
+  replies = all_each (λ (l : CastLine). IsRightReply example [] (one_way ∷ []) l.ballot l.reply) (lines ∷ [])
       (((no_number 6, (0, omega arith, refl)), ((0, omega arith, refl), ((0, one_way, omega arith, refl, (refl, apart)), tt))), tt);
-  in_order = pairs_each MayPrecede (lines ∷ []) ((((λ e. absurd cc), ((λ e. absurd cc), tt)), (((λ e. absurd cc), tt), (tt, tt))), tt);
+  in_order = pairs_each MayBeCastBefore (lines ∷ []) ((((λ e. absurd cc), ((λ e. absurd cc), tt)), (((λ e. absurd cc), tt), (tt, tt))), tt);
 }
 
 pub returns : goal.returns

@@ -6,7 +6,7 @@ use Rattle.std.proofs.lemmas.List.Elements.{All-from_recursion}
 use Rattle.std.proofs.lemmas.List.Sorted.{All-permutation, IsPermutation-refl, length_permutation}
 use Rattle.ballot_record.proofs.BallotSets.{same_in_order}
 use Rattle.store_spec.specs.Ballot.{Ballot, IsBallotSet}
-use Rattle.store_spec.specs.BallotPhase.{BallotOutcome, CastLine, CastReply, IsRight, MayPrecede}
+use Rattle.store_spec.specs.BallotPhase.{BallotOutcome, CastLine, CastReply, IsRightReply, MayBeCastBefore}
 use Rattle.store_spec.specs.BallotPhase.CastReply.{Accepted, Conflict, Duplicate, Full}
 use Rattle.store_spec.specs.Election.{example}
 use Rattle.store_spec.specs.ScriptLine.ScriptLine.{Close}
@@ -28,7 +28,7 @@ lists first second = (record { ballot = one_way; reply = first } ∷ []) ∷ (re
 
 -- a line's reply is right
 abbrev Right : List Ballot → CastLine → Type 0
-Right after l = IsRight example [] after l.ballot l.reply
+Right after l = IsRightReply example [] after l.ballot l.reply
 
 -- the first may be accepted
 first_outcome : BallotOutcome example [] (lists Accepted Conflict) (one_way ∷ [])
@@ -38,7 +38,7 @@ first_outcome = record {
   within_limit = omega arith;
   replies = all_each (Right (one_way ∷ [])) (lists Accepted Conflict)
       (((no_number 6, (0, omega arith, refl)), tt), (((0, one_way, omega arith, refl, (refl, apart)), tt), tt));
-  in_order = pairs_each MayPrecede (lists Accepted Conflict) ((tt, tt), ((tt, tt), tt));
+  in_order = pairs_each MayBeCastBefore (lists Accepted Conflict) ((tt, tt), ((tt, tt), tt));
 }
 
 -- so may the second
@@ -49,7 +49,7 @@ second_outcome = record {
   within_limit = omega arith;
   replies = all_each (Right (other_way ∷ [])) (lists Conflict Accepted)
       (((0, other_way, omega arith, refl, (refl, λ same. apart (sym same))), tt), (((no_number 6, (0, omega arith, refl)), tt), tt));
-  in_order = pairs_each MayPrecede (lists Conflict Accepted) ((tt, tt), ((tt, tt), tt));
+  in_order = pairs_each MayBeCastBefore (lists Conflict Accepted) ((tt, tt), ((tt, tt), tt));
 }
 
 -- ---- nothing else comes of it
@@ -76,7 +76,7 @@ in_one b x (zero, within, is) = is
 in_one b x (suc k, within, is) = absurd (omega arith)
 
 -- where nothing is accepted no other reply is right
-wrong_in_none : (b : Ballot) (reply : CastReply) (after : List Ballot) → [] ≡ after → IsRight example [] after b reply → reply ≡ Accepted
+wrong_in_none : (b : Ballot) (reply : CastReply) (after : List Ballot) → [] ≡ after → IsRightReply example [] after b reply → reply ≡ Accepted
 wrong_in_none b Accepted after none right = refl
 wrong_in_none b Duplicate after none right = let in_none : Contains [] b = subst (λ (set : List Ballot). Contains set b) (sym none) right in absurd (omega (arith, in_none.1))
 wrong_in_none b Conflict after none right =
@@ -85,7 +85,7 @@ wrong_in_none b Conflict after none right =
 wrong_in_none b Full after none right = let size : 0 ≡ length after = ap length none in absurd (omega (arith, right.1))
 
 -- where one ballot is accepted another of its number is in conflict with it
-right_beside : (b other : Ballot) (reply : CastReply) (after : List Ballot) → (b ≡ other → ⊥) → b ∷ [] ≡ after → IsRight example [] after other reply → (reply ≡ Accepted) ⊎ (reply ≡ Conflict)
+right_beside : (b other : Ballot) (reply : CastReply) (after : List Ballot) → (b ≡ other → ⊥) → b ∷ [] ≡ after → IsRightReply example [] after other reply → (reply ≡ Accepted) ⊎ (reply ≡ Conflict)
 right_beside b other Accepted after differ is right = inl refl
 right_beside b other Conflict after differ is right = inr refl
 right_beside b other Duplicate after differ is right = absurd (differ (in_one b other (subst (λ (set : List Ballot). Contains set other) (sym is) right)))
@@ -103,11 +103,11 @@ not_both after set same =
     omega arith
 
 -- the first reply is right
-first_right : (first second : CastReply) (after : List Ballot) → BallotOutcome example [] (lists first second) after → IsRight example [] after one_way first
+first_right : (first second : CastReply) (after : List Ballot) → BallotOutcome example [] (lists first second) after → IsRightReply example [] after one_way first
 first_right first second after outcome = outcome.replies 0 [] (omega arith) 0 (record { ballot = one_way; reply = first }) (omega arith)
 
 -- so is the second
-second_right : (first second : CastReply) (after : List Ballot) → BallotOutcome example [] (lists first second) after → IsRight example [] after other_way second
+second_right : (first second : CastReply) (after : List Ballot) → BallotOutcome example [] (lists first second) after → IsRightReply example [] after other_way second
 second_right first second after outcome = outcome.replies 1 [] (omega arith) 0 (record { ballot = one_way; reply = first }) (omega arith)
 
 -- the first is accepted

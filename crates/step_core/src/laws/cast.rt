@@ -6,7 +6,7 @@ ghost use Rattle.step_core.specs.CastKept.{IsKept};
 ghost use Rattle.step_core.specs.CastTables.{FitsIn, MayFind};
 ghost use Rattle.store_spec.specs.Act.{word_of};
 ghost use Rattle.store_spec.specs.CastInvariant.{CastInvariant, EachOnce, HasRoomFor, HoldSame, accepted_of, count_of, hands_of};
-ghost use Rattle.store_spec.specs.CastStep.{CastNote, CastRow, CastState, CastStep, CastView, Table, cast_act, cast_measure, claim_word, fresh_view, joined_view};
+ghost use Rattle.store_spec.specs.CastStep.{CastNote, CastRow, CastState, CastStep, CastView, Table, cast_act, cast_measure, claim_word, fresh_cast_view, joined_view};
 ghost use Rattle.store_spec.specs.CastStep.CastNote.{Claimed, Full, Placed, Quiet, Taken};
 ghost use Rattle.store_spec.specs.CastStep.CastState.{Carrying, Probing, Ready, Rest};
 ghost use Rattle.store_spec.specs.Layout.{IsOrdered, layout_of};
@@ -16,7 +16,7 @@ ghost use Rattle.store_spec.specs.Measure.{Falls};
 pub fn opening()
     ensures { (t : Table) (base cells : List ℕ) (views : List CastView)
         → IsOrdered t.home cells → length cells ≡ t.cells → HoldSame cells base → EachOnce base
-        → All (λ view. view ≡ fresh_view) views
+        → All (λ view. view ≡ fresh_cast_view) views
         → CastInvariant t base (cells ++ replicate t.claims 0) views }
 {}
 
@@ -96,7 +96,7 @@ pub fn any_step()
 /// A new tabulator comes last.
 pub fn a_seat_made()
     ensures { (t : Table) (base words : List ℕ) (views : List CastView)
-        → CastInvariant t base words views → CastInvariant t base words (views ++ fresh_view ∷ []) }
+        → CastInvariant t base words views → CastInvariant t base words (views ++ fresh_cast_view ∷ []) }
 {}
 
 /// A tabulator at rest takes in the lists of another at rest, which is as new from then on.
@@ -106,7 +106,7 @@ pub fn a_seat_taken_in()
         → slice_get views id ≡ Some view → slice_get views other ≡ Some gone
         → view.state ≡ Rest → gone.state ≡ Rest
         → CastInvariant t base words (slice_set (slice_set views id
-        (joined_view view gone)) other fresh_view) }
+        (joined_view view gone)) other fresh_cast_view) }
 {}
 
 /// A number stands at most once in all cells and hands, and exactly where it is of the base or accepted.

@@ -1,7 +1,8 @@
 //! A casting phase that is made step by step, over every list of steps.
 
 ghost use Rattle.std.specs.Prelude.{◌≡◌, ◌++◌, ◌∷◌, [], ℕ, All, List};
-ghost use Rattle.step_core.specs.Casting.{Casting, FallsAt, HasEnded, IsCasting, IsDone, IsDoneAt, MayOpen, Runs, Steps, answered_in, lists_in, opened};
+ghost use Rattle.step_core.specs.Casting.{Casting, HasEnded, IsDone, IsDoneAt, MayOpen, Runs, Steps, answered_in, lists_in, opened};
+ghost use Rattle.step_core.specs.CastingInvariant.{FallsAt, IsCasting};
 
 /// What holds of a phase at its opening holds after any list of steps of its tabulators.
 pub fn every_list_of_steps()

@@ -4,13 +4,14 @@
 ghost use Rattle.step_core.specs.WithdrawKept.{IsKept};
 ghost use Rattle.step_core.specs.WithdrawTables.{FitsIn, MayFind};
 ghost use Rattle.std.specs.Prelude.{◌≡◌, ◌≢◌, ℕ, ◌+◌, ◌<◌, ◌≤◌, ◌⊎◌, List, [], ◌∷◌, ◌++◌, All, AllPairs, Contains, Some, length, replicate, slice_get, slice_index, slice_set};
-ghost use Rattle.step_core.specs.Withdrawing.{HasEnded, IsDone, IsDoneAt, IsWithdrawing, Runs, Steps, Withdrawing, answered_in, lists_in, opened};
+ghost use Rattle.step_core.specs.Withdrawing.{HasEnded, IsDone, IsDoneAt, Runs, Steps, Withdrawing, answered_in, lists_in, opened};
+ghost use Rattle.step_core.specs.WithdrawingInvariant.{IsWithdrawing};
 ghost use Rattle.store_spec.specs.Act.{word_of};
 ghost use Rattle.store_spec.specs.Layout.{layout_of, numbers_in};
 ghost use Rattle.store_spec.specs.Measure.{Falls};
 ghost use Rattle.store_spec.specs.WithdrawInvariant.{IsBase, IsOf, WithdrawInvariant, begun_by, cell_words, times, times_begun};
 ghost use Rattle.store_spec.specs.WithdrawPhase.{without};
-ghost use Rattle.store_spec.specs.WithdrawStep.{FirstRow, Fits, IsSeated, WithdrawNote, WithdrawRow, WithdrawState, WithdrawStep, WithdrawView, fresh_view, number_of, withdraw_act, withdraw_measure};
+ghost use Rattle.store_spec.specs.WithdrawStep.{FirstRow, Fits, IsSeated, WithdrawNote, WithdrawRow, WithdrawState, WithdrawStep, WithdrawView, fresh_withdraw_view, withdraw_number, withdraw_act, withdraw_measure};
 ghost use Rattle.store_spec.specs.WithdrawStep.WithdrawNote.{Quiet, Gone, Begun, Done};
 ghost use Rattle.store_spec.specs.WithdrawStep.WithdrawState.{Rest, Chosen, Owing, Up, Down};
 
@@ -109,7 +110,7 @@ pub fn each_step()
 /// The invariant holds when a phase opens: no flag is set, and the withdrawers are new.
 pub fn opening()
     ensures { (home : ℕ → ℕ) (base : List ℕ) (views : List WithdrawView)
-        → IsBase home base → All (λ view. view ≡ fresh_view) views
+        → IsBase home base → All (λ view. view ≡ fresh_withdraw_view) views
         → WithdrawInvariant home base (base ++ replicate (length base) 0) views }
 {}
 
@@ -117,7 +118,7 @@ pub fn opening()
 pub fn seat_made()
     ensures { (home : ℕ → ℕ) (base words : List ℕ) (views : List WithdrawView)
         → WithdrawInvariant home base words views
-        → WithdrawInvariant home base words (views ++ fresh_view ∷ []) }
+        → WithdrawInvariant home base words (views ++ fresh_withdraw_view ∷ []) }
 {}
 
 /// A withdrawer at rest hands its lists to another at rest, and is as a new one then.
@@ -130,7 +131,7 @@ pub fn seat_taken_in()
         → WithdrawInvariant home base words
         (slice_set (slice_set views id
         (record { state = Rest; begun = view.begun ++ from.begun; gone = view.gone ++ from.gone }))
-        other fresh_view) }
+        other fresh_withdraw_view) }
 {}
 
 /// Once all are at rest, the cells are the layout of the base without the numbers whose removal was begun. Of these

@@ -1,3 +1,5 @@
+//! The generated script, line by line and in pieces.
+
 use ballot_record::{Contest, Election};
 use outside_io::Source;
 use script_lines::{GeneratedScript, large_line};

@@ -1,15 +1,8 @@
-use Rattle.std.proofs.Common.{◌≡◌, ℕ, ◌+◌, ◌-◌, ◌<◌, ◌≤◌, List, drop, get_or, sym, ap, ◌∙◌, arith}
-use Rattle.std.proofs.lemmas.List.{get_or-drop, get_or-take}
+use Rattle.std.proofs.Common.{◌≡◌, ◌+◌, ◌-◌, get_or, sym, ap, ◌∙◌}
 use Rattle.std.specs.Cmp.Lexicographic.{same_text}
 use Rattle.std.specs.List.{slice_range}
+use Rattle.body_store.proofs.Blocks.{in_range}
 use Rattle.body_store.proofs.changed.same_onward.Goals as goal
-
-in_range : (xs : List ℕ) (from end k : ℕ) → from ≤ k → k < end
-    → get_or (slice_range xs from end) (k - from) 0 ≡ get_or xs k 0
-in_range xs from end k after before =
-    get_or-take (end - from) (drop from xs) (k - from) 0 (omega arith)
-    ∙ get_or-drop from xs (k - from) 0
-    ∙ ap (λ n. get_or xs n 0) (omega arith)
 
 pub returns-then-eq-clause-same : goal.returns-then-eq-clause-same
 returns-then-eq-clause-same c k after before =

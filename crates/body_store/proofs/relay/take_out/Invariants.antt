@@ -4,7 +4,7 @@ use Rattle.body_store.specs.Moves.{IsLeftUpTo, IsRight, StayNoted}
 use Rattle.store_spec.specs.Election.{most_ballots}
 use Rattle.body_store.proofs.relay.take_out.Given as goal
 
--- what is known up to a cell, which changed
+-- what is known up to a cell that was left
 abbrev pub invariant-loop-cell : goal.invariant-loop-cell
 invariant-loop-cell g l = record {
   right : IsRight g.f l.cells l.front l.plan;
@@ -12,6 +12,7 @@ invariant-loop-cell g l = record {
   still : StayNoted l.cells l.initial.plan l.plan;
   short : length l.front + length l.plan.bytes.items ≤ (most_ballots + 1 + l.cell) * largest_cell;
   within : l.cell ≤ length l.cells;
+  some : l.cell < length l.cells → slice_index l.old_cells l.cell ≢ 0;
   changed : l.cell < length l.cells → slice_index l.old_cells l.cell ≢ slice_index l.cells l.cell;
 }
 

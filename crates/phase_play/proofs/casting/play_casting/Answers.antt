@@ -9,7 +9,7 @@ use Rattle.phase_play.proofs.Playing.{all_belong, all_there, all_trays, plays_ca
 use Rattle.phase_play.specs.Plays.{PlaysCasting}
 use Rattle.phase_play.proofs.casting.play_casting.Goals as goal
 use Rattle.store_spec.specs.Ballot.{Ballot}
-use Rattle.store_spec.specs.CastStep.{fresh_view}
+use Rattle.store_spec.specs.CastStep.{fresh_cast_view}
 use Rattle.word_rule.specs.CastSeats.{IsAtRest}
 
 abbrev ballots : ListedBallots → List Ballot
@@ -19,7 +19,7 @@ pub run_waiting-requires-clause-belong : goal.run_waiting-requires-clause-belong
 run_waiting-requires-clause-belong g c κs within =
     let phase = c.in-Ok.begun.0 in
     let lists = map ballots c.args.work.items in
-    all_belong IsAtRest fresh_view phase lists c.deref_mut.result.now (c.deref_mut.ensures.value ∙ c.in-Ok.ensures.workers)
+    all_belong IsAtRest fresh_cast_view phase lists c.deref_mut.result.now (c.deref_mut.ensures.value ∙ c.in-Ok.ensures.workers)
 
 pub close-requires-clause-all : goal.close-requires-clause-all
 close-requires-clause-all g c κs =
@@ -28,7 +28,7 @@ close-requires-clause-all g c κs =
     let held = c.in-Ok.begun.1 in
     let after = c.run_waiting.new.workers in
     let whole : take held.len (after ++ drop (length after) held.items) ≡ after = take_at after (drop (length after) held.items) held.len (omega (arith, c.run_waiting.ensures.as_many, c.deref_mut.ensures.len, held.ok)) in
-    all_there IsAtRest fresh_view phase lists c.deref_mut.result.now (c.deref_mut.ensures.value ∙ c.in-Ok.ensures.workers) after (take held.len (after ++ drop (length after) held.items)) c.run_waiting.ensures.as_many whole
+    all_there IsAtRest fresh_cast_view phase lists c.deref_mut.result.now (c.deref_mut.ensures.value ∙ c.in-Ok.ensures.workers) after (take held.len (after ++ drop (length after) held.items)) c.run_waiting.ensures.as_many whole
     (c.in-Ok.ensures.seats ∙ sym (length-map c.args.work.items ballots)) c.run_waiting.ensures.belong c.run_waiting.ensures.idle
 
 pub returns-in-Ok-close-clause-plays : goal.returns-in-Ok-close-clause-plays
@@ -40,7 +40,7 @@ returns-in-Ok-close-clause-plays g c =
     let ended = c.in-Ok-close.ended in
     let tabs = take held.len (after ++ drop (length after) held.items) in
     let whole : tabs ≡ after = take_at after (drop (length after) held.items) held.len (omega (arith, c.run_waiting.ensures.as_many, c.deref_mut.ensures.len, held.ok)) in
-    let trays = all_trays IsAtRest fresh_view phase lists c.deref_mut.result.now (c.deref_mut.ensures.value ∙ c.in-Ok.ensures.workers) after tabs c.run_waiting.ensures.as_many whole c.run_waiting.ensures.finished in
+    let trays = all_trays IsAtRest fresh_cast_view phase lists c.deref_mut.result.now (c.deref_mut.ensures.value ∙ c.in-Ok.ensures.workers) after tabs c.run_waiting.ensures.as_many whole c.run_waiting.ensures.finished in
     let plays = plays_casting c.args.closed.election phase.base (map (λ tab. tab.tray) tabs) (map (λ finals. finals.items) ended.1.items) lists ended.0.ballots
     (ap (λ (store : Contents). store.election) c.in-Ok.ensures.base) c.in-Ok-close.ensures.closes trays in
     subst (λ (base : Contents). PlaysCasting c.args.closed.election base.ballots lists (map (λ list. map reply_of list.items) ended.1.items) ended.0.ballots) c.in-Ok.ensures.base

@@ -4,7 +4,7 @@ use Rattle.std.proofs.lemmas.List.Kept.{AllPairs-cons}
 use Rattle.std.proofs.lemmas.List.Sorted.{IsPermutation-append_comm}
 use Rattle.std.specs.List.{All, AllPairs, Contains}
 use Rattle.store_spec.proofs.step_figures.example_outcome.Goals as goal
-use Rattle.store_spec.specs.Phase.{Answer, IsRight, MayPrecede}
+use Rattle.store_spec.specs.Phase.{Answer, IsRightlyMet, MayBeMetBefore}
 
 one : {X : Type 0} (R : X → X → Type 0) (x y : X) → R x y → AllPairs R (x ∷ y ∷ [])
 one R x y h = AllPairs-cons R x (y ∷ []) (All-cons (R x) y [] h (All-nil (R x)))
@@ -14,7 +14,7 @@ both : {X : Type 0} (P : X → Type 0) (x y : X) → P x → P y → All P (x �
 both P x y p q = All-cons P x (y ∷ []) p (All-cons P y [] q (All-nil P))
 
 abbrev Right : Answer → Type 0
-Right a = IsRight 2 (9 ∷ []) (1 ∷ 9 ∷ []) a.number a.met
+Right a = IsRightlyMet 2 (9 ∷ []) (1 ∷ 9 ∷ []) a.number a.met
 
 first : (x y : ℕ) → Contains (x ∷ y ∷ []) x
 first x y = (0, omega arith, refl)
@@ -37,6 +37,6 @@ returns c = record {
     answers = both (All Right) _ _
         (both Right _ _ (0, omega arith, refl) (not_in_one 9 1 (omega arith), first 1 9))
         (both Right _ _ (not_in_one 9 1 (omega arith), first 1 9) (not_in_two 1 9 5 (omega arith) (omega arith), refl));
-    in_order = both (AllPairs MayPrecede) _ _ (one MayPrecede _ _ (λ e. (omega arith, λ same. cc))) (one MayPrecede _ _ (λ e. absurd cc));
+    in_order = both (AllPairs MayBeMetBefore) _ _ (one MayBeMetBefore _ _ (λ e. (omega arith, λ same. cc))) (one MayBeMetBefore _ _ (λ e. absurd cc));
   };
 }

@@ -2,7 +2,7 @@ use Rattle.std.proofs.Common.{arith, refl, subst, sym, ◌∙◌}
 use Rattle.std.proofs.lemmas.List.{map-id}
 use Rattle.phase_insert.proofs.Opened.{may_hold}
 use Rattle.phase_insert.proofs.kind.CastingKind.begin.Goals as goal
-use Rattle.store_spec.specs.CastStep.{fresh_view}
+use Rattle.store_spec.specs.CastStep.{fresh_cast_view}
 use Rattle.word_rule.specs.Places.{AreAll}
 
 pub new-requires-clause-may_open : goal.new-requires-clause-may_open
@@ -15,4 +15,4 @@ returns-clause-words c =
     record { shape_is = told.shape_is; base_is = told.base_is ∙ c.cells.ensures.cells; seats_are = told.seats_are }
 
 pub returns-clause-seats : goal.returns-clause-seats
-returns-clause-seats c = subst (AreAll fresh_view c.in_ok-words.words) (sym (map-id c.in_ok-words.seats.items)) c.in_ok-words.ensures.seats
+returns-clause-seats c = subst (AreAll fresh_cast_view c.in_ok-words.words) (sym (map-id c.in_ok-words.seats.items)) c.in_ok-words.ensures.seats

@@ -20,21 +20,11 @@ passed : (trays given : List CastTray) (e own : Election) → given ≡ trays �
 passed trays given e own same same_e all =
     subst (λ (l : List CastTray). All (λ tray. tray.items.election ≡ own) l) (sym same) (subst (λ (e : Election). All (λ tray. tray.items.election ≡ e) trays) (sym same_e) all)
 
-pub accepted-requires : goal.accepted-requires
-accepted-requires c =
-    let base = c.args.closed.now in
-    let trays = c.args.trays.items in
-    record {
-      elections = passed trays c.deref.result.now base.election c.election.result.now c.deref.ensures.value c.election.ensures.election
-          c.requires.is_of;
-      paired = subst (All IsPaired) (sym c.deref.ensures.value) c.requires.paired;
-    }
-
 pub all_finals-requires-clause-elections : goal.all_finals-requires-clause-elections
 all_finals-requires-clause-elections c =
     let base = c.args.closed.now in
     let trays = c.args.trays.items in
-    passed trays c.deref-3.result.now base.election c.merge.new.self.election c.deref-3.ensures.value c.in_ok-merge.ensures.election
+    passed trays c.deref-3.result.now base.election c.merge_accepted.new.closed.election c.deref-3.ensures.value c.in_ok-merge_accepted.ensures.election
     c.requires.is_of
 
 pub all_finals-requires-clause-paired : goal.all_finals-requires-clause-paired
@@ -46,17 +36,24 @@ close-requires c =
     let seats = sym (map-id c.args.seats.items) ∙ left.seats_are in
     subst (AreWhole IsAtRest c.args.words) (sym seats) (whole c.args.closed.now c.args.words left.workers left.all left.told)
 
-pub merge-requires : goal.merge-requires
-merge-requires c =
+pub merge_accepted-requires : goal.merge_accepted-requires
+merge_accepted-requires c =
     let left = c.requires.left in
     let seats = sym (map-id c.args.seats.items) ∙ left.seats_are in
     let base = c.args.closed.now in
     let words = c.args.words in
-    let joined : c.in_ok-accepted.accepted.ballots ≡ all_accepted (map (λ (tab : TabulatorView). tab.tray) left.workers) =
-    c.in_ok-accepted.ensures.accepted ∙ ap (λ trays. all_accepted (map casts_of trays)) c.deref.ensures.value ∙ ap all_accepted left.trays_are in
+    let trays = c.deref-2.result.now in
+    let joined : all_accepted (map casts_of trays) ≡ all_accepted (map (λ (tab : TabulatorView). tab.tray) left.workers) =
+    ap (λ trays. all_accepted (map casts_of trays)) c.deref-2.ensures.value ∙ ap all_accepted left.trays_are in
     let may = may_join base words left.workers left.all c.requires.own c.requires.stored left.told (subst (AgreeOn words) seats c.in_ok-cells.ensures.lists)
-    base.election c.in_ok-accepted.accepted.ballots c.in_ok-cells.cells.items refl joined (c.in_ok-cells.ensures.cells ∙ ap (cells_after words) seats) in
-    record { election = c.in_ok-accepted.ensures.election ∙ c.election.ensures.election; listing = may.listing; within_limit = may.within_limit; layout = may.layout }
+    base.election (all_accepted (map casts_of trays)) c.in_ok-cells.cells.items refl joined (c.in_ok-cells.ensures.cells ∙ ap (cells_after words) seats) in
+    record {
+      elections = passed c.args.trays.items trays base.election base.election c.deref-2.ensures.value refl c.requires.is_of;
+      paired = subst (All IsPaired) (sym c.deref-2.ensures.value) c.requires.paired;
+      listing = may.listing;
+      within_limit = may.within_limit;
+      layout = may.layout;
+    }
 
 pub returns-clause-closes : goal.returns-clause-closes
 returns-clause-closes c =
@@ -65,14 +62,14 @@ returns-clause-closes c =
     let base = c.args.closed.now in
     let words = c.args.words in
     let tabs = left.workers in
-    let after = c.merge.new.self in
+    let after = c.merge_accepted.new.closed in
     let told = c.all_finals.new.lists in
     let rooms = c.in_ok-finals.finals in
-    let election : after.election ≡ base.election = c.in_ok-merge.ensures.election in
-    let joined : c.in_ok-accepted.accepted.ballots ≡ all_accepted (map (λ (tab : TabulatorView). tab.tray) tabs) =
-    c.in_ok-accepted.ensures.accepted ∙ ap (λ trays. all_accepted (map casts_of trays)) c.deref.ensures.value ∙ ap all_accepted left.trays_are in
-    let gains = subst (λ (bs : List Ballot). IsPermutation (base.ballots ++ bs) after.ballots) joined c.in_ok-merge.ensures.union in
-    let stored = c.in_ok-merge.ensures.stored in
+    let election : after.election ≡ base.election = c.in_ok-merge_accepted.ensures.election in
+    let joined : all_accepted (map casts_of c.deref-2.result.now) ≡ all_accepted (map (λ (tab : TabulatorView). tab.tray) tabs) =
+    ap (λ trays. all_accepted (map casts_of trays)) c.deref-2.ensures.value ∙ ap all_accepted left.trays_are in
+    let gains = subst (λ (bs : List Ballot). IsPermutation (base.ballots ++ bs) after.ballots) joined c.in_ok-merge_accepted.ensures.union in
+    let stored = c.in_ok-merge_accepted.ensures.stored in
     let size : rooms.len ≡ length told = omega arith in
     let written : take rooms.len (told ++ drop (length told) rooms.items) ≡ told =
     ap (λ n. take n (told ++ drop (length told) rooms.items)) size ∙ take-append_seam told (drop (length told) rooms.items) in

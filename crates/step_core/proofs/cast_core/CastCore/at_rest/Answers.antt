@@ -5,7 +5,8 @@ use Rattle.step_core.proofs.CastingLists.{all_answered}
 use Rattle.step_core.proofs.CoreKept.{done_seen}
 use Rattle.step_core.proofs.cast_core.CastCore.at_rest.Goals as goal
 use Rattle.step_core.specs.CastCore.{tab_of}
-use Rattle.step_core.specs.Casting.{IsCasting, IsDone}
+use Rattle.step_core.specs.Casting.{IsDone}
+use Rattle.step_core.specs.CastingInvariant.{IsCasting}
 use Rattle.step_core.specs.declared.tabulator.Tabulator.{Tabulator}
 
 pub returns-clause-done : goal.returns-clause-done

@@ -8,7 +8,8 @@ use Rattle.step_core.proofs.CastingLists.{opened_lists}
 use Rattle.step_core.proofs.CoreOpened.{few_words, opened_by, resized_is, sorted_is}
 use Rattle.step_core.proofs.cast_core.CastCore.new.Goals as goal
 use Rattle.step_core.proofs.cast_core.CastCore.new.Goals.{After-deref, In_ok-tabs}
-use Rattle.step_core.specs.Casting.{IsCasting, MayOpen, lists_in, opened_tabs}
+use Rattle.step_core.specs.Casting.{MayOpen, lists_in, opened_tabs}
+use Rattle.step_core.specs.CastingInvariant.{IsCasting}
 use Rattle.layout_def.proofs.Ascending.{length-ascending}
 use Rattle.store_spec.specs.Layout.{ascending}
 

@@ -7,7 +7,7 @@ use Rattle.step_core.proofs.WithdrawingLists.{steps_list}
 use Rattle.step_core.proofs.WithdrawCoreSteps.{core_done_from, core_step_to, may_step, tab_within}
 use Rattle.step_core.proofs.withdraw_core.WithdrawCore.step.Goals as goal
 use Rattle.step_core.specs.WithdrawCore.{HasReplyRoom, MayStep, base_of, tab_of}
-use Rattle.step_core.specs.Withdrawing.{IsWithdrawing}
+use Rattle.step_core.specs.WithdrawingInvariant.{IsWithdrawing}
 
 pub make_step-requires-clause-may_step : goal.make_step-requires-clause-may_step
 make_step-requires-clause-may_step c =

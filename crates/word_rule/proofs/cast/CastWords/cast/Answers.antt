@@ -2,7 +2,7 @@ use Rattle.std.proofs.Common.{◌≢◌, ℕ, sym, ap, ◌∙◌, subst}
 use Rattle.crossbeam_utils.specs.Padded.{padded_value}
 use Rattle.step_core.specs.CastTables.{note_of, state_of}
 use Rattle.step_core.specs.Shape.{table_of}
-use Rattle.store_spec.specs.CastStep.{CastState, CastView, view_after}
+use Rattle.store_spec.specs.CastStep.{CastState, CastView, cast_view_after}
 use Rattle.store_spec.specs.CastStep.CastState.{Carrying, Probing, Rest}
 use Rattle.word_rule.proofs.CastAnswers.{rest_again}
 use Rattle.word_rule.proofs.CastProbes.{placed_so, refused_so, rests_after}
@@ -31,7 +31,7 @@ returns-in_default c =
     record {
       words = claimed.ensures.about.belongs ∙ sym c.requires.belongs;
       answers = so.answers;
-      view = so.view ∙ ap (λ (p : Place CastView). view_after p.view c.args.number Rest (note_of claimed.result.1)) c.seat.view_is;
+      view = so.view ∙ ap (λ (p : Place CastView). cast_view_after p.view c.args.number Rest (note_of claimed.result.1)) c.seat.view_is;
       told_alike = subst (λ (p : Place CastView). IsToldAlike p.view c.args.number (note_of claimed.result.1)) c.seat.view_is claimed.ensures.told_alike;
       chain = subst (λ (p : Place CastView). CastsByRows (table_of c.args.self.now.shape) c.args.number p.view claimed.new.seat.me.0.view) c.seat.view_is claimed.ensures.chain;
     }
@@ -45,7 +45,7 @@ returns-in-Carrying c =
     record {
       words = c.place.ensures.at_rest.belongs ∙ sym c.requires.belongs;
       answers = so.answers;
-      view = so.view ∙ ap (λ (p : Place CastView). view_after p.view c.args.number Rest (note_of claimed.result.1)) c.seat.view_is;
+      view = so.view ∙ ap (λ (p : Place CastView). cast_view_after p.view c.args.number Rest (note_of claimed.result.1)) c.seat.view_is;
       told_alike = subst (λ (p : Place CastView). IsToldAlike p.view c.args.number (note_of claimed.result.1)) c.seat.view_is claimed.ensures.told_alike;
       chain = subst (λ (p : Place CastView). CastsByRows t c.args.number p.view c.place.new.seat.me.0.view) c.seat.view_is
           (led_on (MakesNextRow t) (MakesRow t (Probing c.args.number 0)) c.seat.inside.seat.me.0.view claimed.new.seat.me.0.view c.place.new.seat.me.0.view claimed.ensures.chain c.place.ensures.rows);

@@ -2,7 +2,7 @@ use Rattle.std.proofs.Common.{◌≡◌, ℕ, sym, ap, ◌∙◌, subst}
 use Rattle.atomic_table.specs.declared.shared.Seat.{Seat}
 use Rattle.step_core.specs.CastTables.{note_of, state_of}
 use Rattle.step_core.specs.Shape.{table_of}
-use Rattle.store_spec.specs.CastStep.{CastNote, CastState, CastView, Table, number_of}
+use Rattle.store_spec.specs.CastStep.{CastNote, CastState, CastView, Table, cast_number}
 use Rattle.store_spec.specs.CastStep.CastNote.{Quiet}
 use Rattle.store_spec.specs.CastStep.CastState.{Probing}
 use Rattle.word_rule.proofs.CastHands.{next_row}
@@ -93,5 +93,5 @@ returns-in_default-after c =
       told = was_told (table_of c.args.self.now.shape) c.args.number old last.new.seat.me.0.view (note_of last.result.1)
           (λ x k same. not_probing last.result.0 c.in_default-after.not-Probing x k (sym last.ensures.about.state_is ∙ same)) probes;
       told_alike = told_again (table_of c.args.self.now.shape) c.args.number old c.tries.seat.me.0.view (note_of last.result.1) i.probes
-          (subst (λ (s : CastState). IsToldAlike c.tries.seat.me.0.view (number_of s) (note_of last.result.1)) (sym i.about.state_is) last.ensures.told_alike);
+          (subst (λ (s : CastState). IsToldAlike c.tries.seat.me.0.view (cast_number s) (note_of last.result.1)) (sym i.about.state_is) last.ensures.told_alike);
     }

@@ -2,7 +2,7 @@ use Rattle.std.proofs.Common.{◌≡◌, ◌≢◌, ℕ, sym, ap, ◌∙◌, ari
 use Rattle.step_core.specs.CastTables.{note_of, state_of}
 use Rattle.step_core.specs.Shape.{table_of}
 use Rattle.step_core.specs.declared.cast.CastState.{CastState}
-use Rattle.store_spec.specs.CastStep.{number_of}
+use Rattle.store_spec.specs.CastStep.{cast_number}
 use Rattle.store_spec.specs.CastStep as definition
 use Rattle.store_spec.specs.CastStep.CastState.{Carrying, Ready, Rest}
 use Rattle.word_rule.proofs.CastHands.{HasMoved, has_moved, held_first}
@@ -24,17 +24,17 @@ cells-init c =
 carries : (number place : ℕ) (state : CastState) → state_of state ≡ Carrying number place → state_of state ≢ Rest
 carries number place state is rests = let clash : Carrying number place ≡ Rest = sym is ∙ rests in cc
 
-looked : (c : goal.After-step) → HasMoved (table_of c.args.self.now.shape) (number_of (state_of c.args.in_hand)) c.args.seat.now.me.0.view (state_of c.cells.state) (state_of c.step.result.0) c.step.new.seat.me.0.view
+looked : (c : goal.After-step) → HasMoved (table_of c.args.self.now.shape) (cast_number (state_of c.args.in_hand)) c.args.seat.now.me.0.view (state_of c.cells.state) (state_of c.step.result.0) c.step.new.seat.me.0.view
 looked c =
     let i = c.cells.invariant in
-    has_moved (table_of c.args.self.now.shape) (number_of (state_of c.args.in_hand)) c.args.seat.now.me.0.view c.cells.seat.me.0.view c.step.new.seat.me.0.view (state_of c.cells.state) (state_of c.step.result.0) (note_of c.step.result.1)
+    has_moved (table_of c.args.self.now.shape) (cast_number (state_of c.args.in_hand)) c.args.seat.now.me.0.view c.cells.seat.me.0.view c.step.new.seat.me.0.view (state_of c.cells.state) (state_of c.step.result.0) (note_of c.step.result.1)
     (carries c.in-Carrying.number c.in-Carrying.place c.cells.state (ap state_of c.in-Carrying.is)) i.held i.lists i.rows c.step.ensures.row c.step.ensures.about.state_is c.step.ensures.falls
 
-exchanged : (c : goal.After-step-in-Ready) → HasMoved (table_of c.args.self.now.shape) (number_of (state_of c.args.in_hand)) c.args.seat.now.me.0.view (state_of c.exchanges.state) (state_of c.step-in-Ready.result.0) c.step-in-Ready.new.seat.me.0.view
+exchanged : (c : goal.After-step-in-Ready) → HasMoved (table_of c.args.self.now.shape) (cast_number (state_of c.args.in_hand)) c.args.seat.now.me.0.view (state_of c.exchanges.state) (state_of c.step-in-Ready.result.0) c.step-in-Ready.new.seat.me.0.view
 exchanged c =
     let i = c.exchanges.invariant in
     let last = c.step-in-Ready in
-    has_moved (table_of c.args.self.now.shape) (number_of (state_of c.args.in_hand)) c.args.seat.now.me.0.view c.exchanges.seat.me.0.view last.new.seat.me.0.view (state_of c.exchanges.state) (state_of last.result.0) (note_of last.result.1)
+    has_moved (table_of c.args.self.now.shape) (cast_number (state_of c.args.in_hand)) c.args.seat.now.me.0.view c.exchanges.seat.me.0.view last.new.seat.me.0.view (state_of c.exchanges.state) (state_of last.result.0) (note_of last.result.1)
     (λ rests. let clash : Ready c.in-Ready.number c.in-Ready.place c.in-Ready.seen ≡ Rest = sym (ap state_of c.in-Ready.is) ∙ rests in cc)
     i.held i.lists i.rows last.ensures.row last.ensures.about.state_is last.ensures.falls
 
@@ -56,6 +56,6 @@ exchanges-preserved c = record {
 pub cells-smaller : goal.cells-smaller
 cells-smaller c =
     let i = c.cells.invariant in
-    let look = has_moved (table_of c.args.self.now.shape) (number_of (state_of c.args.in_hand)) c.args.seat.now.me.0.view c.cells.seat.me.0.view c.step.new.seat.me.0.view (state_of c.cells.state) (state_of c.step.result.0) (note_of c.step.result.1)
+    let look = has_moved (table_of c.args.self.now.shape) (cast_number (state_of c.args.in_hand)) c.args.seat.now.me.0.view c.cells.seat.me.0.view c.step.new.seat.me.0.view (state_of c.cells.state) (state_of c.step.result.0) (note_of c.step.result.1)
     (carries c.in-Carrying.number c.in-Carrying.place c.cells.state (ap state_of c.in-Carrying.is)) i.held i.lists i.rows c.step.ensures.row c.step.ensures.about.state_is c.step.ensures.falls in
     omega (arith, look.falls, c.exchanges.invariant.less)

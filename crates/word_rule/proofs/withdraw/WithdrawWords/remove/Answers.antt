@@ -1,7 +1,7 @@
 use Rattle.std.proofs.Common.{ap, subst, arith}
 use Rattle.step_core.specs.Shape.{homes_of}
 use Rattle.step_core.specs.WithdrawTables.{note_of, state_of}
-use Rattle.store_spec.specs.WithdrawStep.{WithdrawState, number_of}
+use Rattle.store_spec.specs.WithdrawStep.{WithdrawState, withdraw_number}
 use Rattle.word_rule.proofs.WithdrawWay.{Follows, HasMoved, has_chosen, has_moved}
 use Rattle.word_rule.proofs.withdraw.WithdrawWords.remove.Goals as goal
 use Rattle.word_rule.specs.Chain.Rows.{no_row}
@@ -16,10 +16,10 @@ walk-init c =
       walks = kept.walks;
     }
 
-walked : (c : goal.After-step) → HasMoved (homes_of c.args.self.now.shape) (number_of (state_of c.args.chosen)) c.args.self.now.shape.cells c.args.seat.now.me.0.view (state_of c.walk.state) (state_of c.step.result.0) c.step.new.seat.me.0.view
+walked : (c : goal.After-step) → HasMoved (homes_of c.args.self.now.shape) (withdraw_number (state_of c.args.chosen)) c.args.self.now.shape.cells c.args.seat.now.me.0.view (state_of c.walk.state) (state_of c.step.result.0) c.step.new.seat.me.0.view
 walked c =
     let i = c.walk.invariant in
-    has_moved (homes_of c.args.self.now.shape) (number_of (state_of c.args.chosen)) c.args.self.now.shape.cells c.args.seat.now.me.0.view c.walk.seat.me.0.view c.step.new.seat.me.0.view (state_of c.walk.state) (state_of c.step.result.0) (note_of c.step.result.1)
+    has_moved (homes_of c.args.self.now.shape) (withdraw_number (state_of c.args.chosen)) c.args.self.now.shape.cells c.args.seat.now.me.0.view c.walk.seat.me.0.view c.step.new.seat.me.0.view (state_of c.walk.state) (state_of c.step.result.0) (note_of c.step.result.1)
     i.way i.about.state_is c.step.ensures.about.state_is c.step.ensures.row c.step.ensures.falls
 
 pub walk-smaller : goal.walk-smaller
@@ -32,11 +32,11 @@ walk-preserved c = record {
   walks = subst (λ (s : WithdrawState). Follows s (state_of c.step.result.0)) (ap state_of c.in-Chosen.is) (walked c).follows;
 }
 
-looked : (c : goal.After-step-in-Owing) → HasMoved (homes_of c.args.self.now.shape) (number_of (state_of c.args.chosen)) c.args.self.now.shape.cells c.args.seat.now.me.0.view (state_of c.owed.state) (state_of c.step-in-Owing.result.0) c.step-in-Owing.new.seat.me.0.view
+looked : (c : goal.After-step-in-Owing) → HasMoved (homes_of c.args.self.now.shape) (withdraw_number (state_of c.args.chosen)) c.args.self.now.shape.cells c.args.seat.now.me.0.view (state_of c.owed.state) (state_of c.step-in-Owing.result.0) c.step-in-Owing.new.seat.me.0.view
 looked c =
     let i = c.owed.invariant in
     let last = c.step-in-Owing in
-    has_moved (homes_of c.args.self.now.shape) (number_of (state_of c.args.chosen)) c.args.self.now.shape.cells c.args.seat.now.me.0.view c.owed.seat.me.0.view last.new.seat.me.0.view (state_of c.owed.state) (state_of last.result.0) (note_of last.result.1)
+    has_moved (homes_of c.args.self.now.shape) (withdraw_number (state_of c.args.chosen)) c.args.self.now.shape.cells c.args.seat.now.me.0.view c.owed.seat.me.0.view last.new.seat.me.0.view (state_of c.owed.state) (state_of last.result.0) (note_of last.result.1)
     i.way i.about.state_is last.ensures.about.state_is last.ensures.row last.ensures.falls
 
 pub up-init : goal.up-init
@@ -47,11 +47,11 @@ up-init c = record {
   less = omega arith;
 }
 
-risen : (c : goal.After-step-in-Up) → HasMoved (homes_of c.args.self.now.shape) (number_of (state_of c.args.chosen)) c.args.self.now.shape.cells c.args.seat.now.me.0.view (state_of c.up.state) (state_of c.step-in-Up.result.0) c.step-in-Up.new.seat.me.0.view
+risen : (c : goal.After-step-in-Up) → HasMoved (homes_of c.args.self.now.shape) (withdraw_number (state_of c.args.chosen)) c.args.self.now.shape.cells c.args.seat.now.me.0.view (state_of c.up.state) (state_of c.step-in-Up.result.0) c.step-in-Up.new.seat.me.0.view
 risen c =
     let i = c.up.invariant in
     let last = c.step-in-Up in
-    has_moved (homes_of c.args.self.now.shape) (number_of (state_of c.args.chosen)) c.args.self.now.shape.cells c.args.seat.now.me.0.view c.up.seat.me.0.view last.new.seat.me.0.view (state_of c.up.state) (state_of last.result.0) (note_of last.result.1)
+    has_moved (homes_of c.args.self.now.shape) (withdraw_number (state_of c.args.chosen)) c.args.self.now.shape.cells c.args.seat.now.me.0.view c.up.seat.me.0.view last.new.seat.me.0.view (state_of c.up.state) (state_of last.result.0) (note_of last.result.1)
     i.way i.about.state_is last.ensures.about.state_is last.ensures.row last.ensures.falls
 
 pub up-smaller : goal.up-smaller
@@ -65,11 +65,11 @@ up-preserved c = record {
   less = omega (arith, (risen c).falls, c.up.invariant.less);
 }
 
-sunk : (c : goal.After-step-in-Down) → HasMoved (homes_of c.args.self.now.shape) (number_of (state_of c.args.chosen)) c.args.self.now.shape.cells c.args.seat.now.me.0.view (state_of c.down.state) (state_of c.step-in-Down.result.0) c.step-in-Down.new.seat.me.0.view
+sunk : (c : goal.After-step-in-Down) → HasMoved (homes_of c.args.self.now.shape) (withdraw_number (state_of c.args.chosen)) c.args.self.now.shape.cells c.args.seat.now.me.0.view (state_of c.down.state) (state_of c.step-in-Down.result.0) c.step-in-Down.new.seat.me.0.view
 sunk c =
     let i = c.down.invariant in
     let last = c.step-in-Down in
-    has_moved (homes_of c.args.self.now.shape) (number_of (state_of c.args.chosen)) c.args.self.now.shape.cells c.args.seat.now.me.0.view c.down.seat.me.0.view last.new.seat.me.0.view (state_of c.down.state) (state_of last.result.0) (note_of last.result.1)
+    has_moved (homes_of c.args.self.now.shape) (withdraw_number (state_of c.args.chosen)) c.args.self.now.shape.cells c.args.seat.now.me.0.view c.down.seat.me.0.view last.new.seat.me.0.view (state_of c.down.state) (state_of last.result.0) (note_of last.result.1)
     i.way i.about.state_is last.ensures.about.state_is last.ensures.row last.ensures.falls
 
 pub down-smaller : goal.down-smaller
@@ -87,6 +87,6 @@ pub owed-smaller : goal.owed-smaller
 owed-smaller c =
     let i = c.owed.invariant in
     let last = c.step-in-Owing in
-    let look = has_moved (homes_of c.args.self.now.shape) (number_of (state_of c.args.chosen)) c.args.self.now.shape.cells c.args.seat.now.me.0.view c.owed.seat.me.0.view last.new.seat.me.0.view (state_of c.owed.state) (state_of last.result.0) (note_of last.result.1)
+    let look = has_moved (homes_of c.args.self.now.shape) (withdraw_number (state_of c.args.chosen)) c.args.self.now.shape.cells c.args.seat.now.me.0.view c.owed.seat.me.0.view last.new.seat.me.0.view (state_of c.owed.state) (state_of last.result.0) (note_of last.result.1)
     i.way i.about.state_is last.ensures.about.state_is last.ensures.row last.ensures.falls in
     omega (arith, look.falls, c.up.invariant.less, c.down.invariant.less)

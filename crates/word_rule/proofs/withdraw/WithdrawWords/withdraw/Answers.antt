@@ -4,7 +4,7 @@ use Rattle.step_core.specs.WithdrawTables.{note_of, state_of}
 use Rattle.step_core.specs.declared.withdraw.WithdrawState.{WithdrawState}
 use Rattle.step_core.specs.declared.withdraw.WithdrawState.TheVariants as states
 use Rattle.store_spec.specs.WithdrawStep as definition
-use Rattle.store_spec.specs.WithdrawStep.{FirstRow, WithdrawNote, WithdrawView, view_after}
+use Rattle.store_spec.specs.WithdrawStep.{FirstRow, WithdrawNote, WithdrawView, withdraw_view_after}
 use Rattle.store_spec.specs.WithdrawStep.FirstRow.{chose, found_gone}
 use Rattle.store_spec.specs.WithdrawStep.WithdrawState.{Chosen}
 use Rattle.word_rule.proofs.Chains.{begun, led_on}
@@ -41,7 +41,7 @@ not_chosen (states.Up x bound q) other y p same = absurd cc
 not_chosen (states.Down x bound q c source) other y p same = absurd cc
 
 -- a first step that chooses nothing finds the number gone
-gone_by : (home : ℕ → ℕ) (x : ℕ) (before : WithdrawView) (found : ℕ) (new : definition.WithdrawState) (note : WithdrawNote) → FirstRow home x found new note → ((y p : ℕ) → new ≢ Chosen y p) → Removes x before note (view_after before x new note)
+gone_by : (home : ℕ → ℕ) (x : ℕ) (before : WithdrawView) (found : ℕ) (new : definition.WithdrawState) (note : WithdrawNote) → FirstRow home x found new note → ((y p : ℕ) → new ≢ Chosen y p) → Removes x before note (withdraw_view_after before x new note)
 gone_by home x before _ _ _ found_gone other = record { at_rest = refl; begun = refl; gone = refl }
 gone_by home x before _ _ _ chose other = absurd (other x (home x) refl)
 

@@ -1,5 +1,0 @@
-use Rattle.std.proofs.Common.{◌≡◌, length, map, take}
-use Rattle.phase_insert.proofs.tests.lengths.Given as goal
-
-abbrev pub invariant-loop-list : goal.invariant-loop-list
-invariant-loop-list g l = l.plan.items ≡ map (λ list. length list.ballots) (take l.list-index l.work)

@@ -1,9 +1,0 @@
-use Rattle.std.proofs.Common.{arith}
-use Rattle.std.specs.Prelude.{IsTrue}
-use Rattle.layout_def.proofs.Fronts.{holds_own}
-use Rattle.word_rule.proofs.cast.tests.is_new.Goals as goal
-
-pub returns-then-number-ne0-clause-new : goal.returns-then-number-ne0-clause-new
-returns-then-number-ne0-clause-new c = λ yes held.
-    let found : IsTrue c.is_among.result = c.is_among.ensures ((holds_own c.args.cells.now).each c.args.number held) in
-    grind arith
