@@ -66,6 +66,10 @@ held e bytes election fits long some_number short_number some_style known_style 
 pub valid_there : (e : Election) (bytes : List ℕ) (b : Ballot) → IsElection e → IsCellOf e bytes b → IsValid e (ballot_at e bytes)
 valid_there e bytes b election is = subst (IsValid e) (sym (ap (ballot_at e) is.1 ∙ cell_again e b election is.0)) is.0
 
+-- a cell whose ballot is valid, as it is spelled, holds it
+pub valid_cell : (e : Election) (bytes : List ℕ) (b : Ballot) → AreBytes bytes → length bytes ≡ cell_size e → b ≡ ballot_at e bytes → IsValid e b → IsCellOf e bytes b
+valid_cell e bytes b fits long read valid = subst (IsCellOf e bytes) (sym read) (subst (IsValid e) read valid, cell_spelled e bytes fits long)
+
 record_like : Ballot → Record
 record_like b = record { number = b.number; style = b.style; marks = b.marks }
 

@@ -2,6 +2,7 @@ pub mod BallotListKept
 pub mod BallotLists
 pub mod BallotNumbers
 pub mod BallotSets
+mod Barring
 pub mod BuildLaws
 pub mod CellCases
 mod Counts
@@ -20,6 +21,7 @@ pub mod LineNumbers
 mod LinePrints
 mod LineRuns
 mod LineSets
+mod LineTwo
 pub mod LineWhole
 pub mod Lookups
 pub mod MarkSets

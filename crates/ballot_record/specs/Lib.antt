@@ -1,3 +1,4 @@
+pub mod Barred
 pub mod Format
 pub mod BallotList
 pub mod BallotListKept

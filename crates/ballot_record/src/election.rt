@@ -235,20 +235,6 @@ impl Election {
         self.styles[style - 1]
     }
 
-    /// How many choices the contest at a place has, counted from 0: none where it is not among these.
-    pub(crate) fn choices_among(&self, contests: u32, place: usize) -> u8
-        requires within { place < MAX_CONTESTS }
-        requires known { AreTheirs self.now contests }
-        ensures { (style : ℕ) → AreOnStyle self.now style contests
-            → result ≡ choices_on self.now style (place + 1) }
-    {
-        if contests >> place & 1 == 1 {
-            self.contest(place + 1).choices
-        } else {
-            0
-        }
-    }
-
     /// How many choices a ballot of a style has in contest `k`: none where the contest is not on the style.
     pub fn choices_on(&self, style: u8, k: usize) -> u8
         ensures choices { result ≡ choices_on self.now style k }

@@ -9,14 +9,13 @@ ghost use Rattle.store_spec.specs.Ballot.{Ballot, IsValid, MARK_SETS};
 ghost use Rattle.store_spec.specs.Damage.{number_at};
 ghost use Rattle.store_spec.specs.Election.{IsElection, bank_size, cell_size, medium_size, set_width};
 ghost use Rattle.store_spec.specs.Image.{IsEmptyCell, IsCellOf, ballot_bytes, header_of};
-ghost use Rattle.ballot_record.specs.Format.{HaveChoices, IsSetWidth, ballot_at, largest_bank, largest_cell, number_size, sets_at};
-ghost use Rattle.ballot_record.specs.OnStyle.{AreOnStyle, AreTheirs};
+ghost use Rattle.ballot_record.specs.Format.{HaveAtMost, IsSetWidth, ballot_at, largest_bank, largest_cell, number_size, sets_at};
+ghost use Rattle.ballot_record.specs.Barred.{AreAllBehind, AreBarred};
 ghost use Rattle.ballot_record.specs.Record.{ballot};
 ghost use Rattle.ballot_record.specs.declared.record.Record as declared;
 
-use crate::record::has_choices;
 use crate::version::{MAX_SET_BYTES, SHORT_SET_BYTES, set_bytes};
-use crate::{Election, MAX_BITS, MAX_LIMIT, MAX_MARK_SETS, Record};
+use crate::{Barred, Election, MAX_BITS, MAX_CONTESTS, MAX_LIMIT, MAX_MARK_SETS, Record};
 use byteorder::{BigEndian, ByteOrder};
 
 /// How many bytes a header has.
@@ -186,30 +185,45 @@ fn are_zero(bytes: &[u8]) -> bool
     bytes == &ZEROS[..bytes.len()]
 }
 
-/// Whether each of these mark sets, of so many bytes, has only choices that its contest offers where these are the
-/// contests on the style.
-fn have_choices(bytes: &[u8], width: usize, election: &Election, contests: u32) -> bool
+/// Whether each of these mark sets, of so many bytes, has none of the choices that are barred. It does not stop at the
+/// first that has, so that several are judged at once.
+#[inline(always)]
+fn have_none_by(bytes: &[u8], width: usize, barred: &[u64]) -> bool
     requires width { IsSetWidth width }
-    requires long { length bytes.now ≡ width * length election.now.contests }
-    requires known { AreTheirs election.now contests }
-    ensures { (style : ℕ) → AreOnStyle election.now style contests
-        → IsTrue result ↔ HaveChoices election.now style width bytes.now }
+    requires long { length bytes.now ≡ width * length barred.now }
+    ensures { (choices : ℕ → ℕ) → AreAllBehind choices barred.now
+        → IsTrue result ↔ HaveAtMost choices width (length barred.now) bytes.now }
 {
+    let mut marked = 0;
     let mut rest = bytes;
-    for place in 0..election.contests() {
-        let (set, after) = take_set(rest, width);
-        if !has_choices(set, election, contests, place) {
-            return false;
-        }
+    for set in barred {
+        let (marks, after) = take_set(rest, width);
+        marked |= marks & *set;
         rest = after;
     }
-    true
+    marked == 0
 }
 
-/// Whether a cell has the bytes of a valid record under an election. They are judged where they stand.
+/// The same, by a loop for each width.
+fn have_none(bytes: &[u8], width: usize, barred: &[u64]) -> bool
+    requires width { IsSetWidth width }
+    requires long { length bytes.now ≡ width * length barred.now }
+    ensures { (choices : ℕ → ℕ) → AreAllBehind choices barred.now
+        → IsTrue result ↔ HaveAtMost choices width (length barred.now) bytes.now }
+{
+    if width == MAX_SET_BYTES {
+        have_none_by(bytes, MAX_SET_BYTES, barred)
+    } else {
+        have_none_by(bytes, SHORT_SET_BYTES, barred)
+    }
+}
+
+/// Whether a cell has the bytes of a valid record under an election, whose styles bar these choices. They are judged
+/// where they stand.
 #[tactic(auto, unfolding(store_spec::specs::Election::cell_size))]
-pub fn holds_ballot(bytes: &[u8], election: &Election) -> bool
-    requires { length bytes.now ≡ cell_size election.now }
+pub fn holds_ballot(bytes: &[u8], election: &Election, barred: &Barred) -> bool
+    requires long { length bytes.now ≡ cell_size election.now }
+    requires barred { AreBarred election.now barred.now }
     ensures held { IsTrue result ↔ ((b : Ballot) × IsCellOf election.now bytes.now b) }
     ensures valid { IsElection election.now }
 {
@@ -218,8 +232,8 @@ pub fn holds_ballot(bytes: &[u8], election: &Election) -> bool
         return false;
     }
     let (_, sets) = bytes.split_at(FRONT_BYTES);
-    let contests = election.contests_on(style);
-    have_choices(sets, election.set_bytes(), election, contests)
+    let row = &barred.rows[usize::from(style) - 1];
+    have_none(sets, election.set_bytes(), &row[..election.contests()])
 }
 
 /// What stands in a cell under an election: `Bad` is what no store writes.
@@ -232,8 +246,10 @@ pub fn take_cell(bytes: &[u8], election: &Election) -> CellRead
         ↔ (¬ IsEmptyCell election.now bytes.now
         × ((b : Ballot) → ¬ IsCellOf election.now bytes.now b)) }
 {
-    if holds_ballot(bytes, election) {
-        CellRead::Held(Record::of_cell(bytes, election))
+    prove!(election.contests() <= MAX_CONTESTS);
+    let record = Record::of_cell(bytes, election);
+    if record.valid(election) {
+        CellRead::Held(record)
     } else if are_zero(bytes) {
         CellRead::Empty
     } else {

@@ -1,6 +1,7 @@
 //! Elections, the ballots cast in them, and the cells and lines that hold a ballot.
 #![tactic(auto)]
 
+mod barred;
 mod contest;
 mod election;
 mod fault;
@@ -12,6 +13,7 @@ mod print;
 mod record;
 mod version;
 
+pub use barred::Barred;
 pub use contest::Contest;
 pub use election::{Election, MAX_BITS, MAX_LIMIT, MAX_STYLES};
 pub use fault::{LineFault, LineWhy};

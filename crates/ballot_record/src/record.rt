@@ -18,21 +18,27 @@ pub struct Record {
     pub marks: [u64; MAX_MARK_SETS],
 }
 
-/// Whether a mark set has only the first so many choices.
+/// Whether a mark set has only the first so many choices, of which there is one at least.
 fn is_within(set: u64, choices: u8) -> bool
+    requires some { 1 ≤ choices }
+    requires few { choices ≤ 64 }
     ensures { IsTrue result ↔ set < 2 ^ choices }
 {
-    choices >= 64 || set >> choices == 0
+    set >> (choices - 1) <= 1
 }
 
 /// Whether a mark set has only choices that the contest at a place offers, where these are the contests on the style.
-pub(crate) fn has_choices(set: u64, election: &Election, contests: u32, place: usize) -> bool
+fn has_choices(set: u64, election: &Election, contests: u32, place: usize) -> bool
     requires within { place < MAX_CONTESTS }
     requires known { AreTheirs election.now contests }
     ensures { (style : ℕ) → AreOnStyle election.now style contests
         → IsTrue result ↔ set < 2 ^ choices_on election.now style (place + 1) }
 {
-    set == 0 || is_within(set, election.choices_among(contests, place))
+    if contests >> place & 1 == 1 {
+        is_within(set, election.contest(place + 1).choices)
+    } else {
+        set == 0
+    }
 }
 
 impl Record {

@@ -70,53 +70,6 @@ stored_by_number e ballots election held =
       within_limit = moved.within_limit;
     }
 
-pub may_hold_by_number : (e : Election) (ballots : List Ballot)
-    → IsStored (record { election = e; ballots = by_number ballots }) → MayHold e ballots
-may_hold_by_number e ballots h =
-    may_hold-IsPermutation e (by_number ballots) ballots (IsPermutation-sym _ _ (by_number-IsPermutation ballots))
-    (may_hold_set e (by_number ballots) h.set h.within_limit)
-
-filter_contains : (test : Ballot → Bool) (xs : List Ballot) (b : Ballot) → Contains xs b → test b ≡ true
-    → Contains (filter test xs) b
-filter_contains test [] b c passes = absurd (omega (arith, c.1))
-filter_contains test (x ∷ xs) b (zero, lt, e) passes =
-    subst (λ (ys : List Ballot). Contains ys b)
-    (sym (cond-true (test x) (x ∷ filter test xs) (filter test xs) (ap test e ∙ passes))) (0, omega arith, e)
-filter_contains test (x ∷ xs) b (suc i, lt, e) passes =
-    let rest = filter_contains test xs b (i, omega arith, e) passes in
-    elim (cases_Bool (test x)) [
-      | inl keeps ↦ subst (λ (ys : List Ballot). Contains ys b)
-          (sym (cond-true (test x) (x ∷ filter test xs) (filter test xs) keeps)) (suc rest.0, omega (arith, rest.1), rest.2)
-      | inr drops ↦ subst (λ (ys : List Ballot). Contains ys b)
-          (sym (cond-false (test x) (x ∷ filter test xs) (filter test xs) drops)) rest
-    ]
-
--- what a filter keeps is the same, however the ballots are listed
-filter_among : (test : Ballot → Bool) (xs ys : List Ballot) → AreAmong xs ys
-    → AreAmong (filter test xs) (filter test ys)
-filter_among test xs ys among b c =
-    let was = All-contains (Contains xs) (filter test xs) b
-    (All-filter test (Contains xs) xs (All-contains_itself xs)) c in
-    let passes = All-contains (λ x. test x ≡ true) (filter test xs) b (filter_passes test xs) c in
-    filter_contains test ys b (among b was) passes
-
-pub without_by_number : (ballots : List Ballot) (numbers : List ℕ) → AreDistinct ballots
-    → by_number (ballots_without ballots numbers) ≡ ballots_without (by_number ballots) numbers
-without_by_number ballots numbers apart =
-    let test = λ (b : Ballot). not (list_any (λ number. number == b.number) numbers) in
-    let there = by_number-IsPermutation ballots in
-    let left = AllPairs-filter (λ a b. a.number ≢ b.number) test ballots apart in
-    let kept = by_number-IsPermutation (filter test ballots) in
-    let back = IsPermutation-sym (filter test ballots) (by_number (filter test ballots)) kept in
-    same_members (by_number (filter test ballots)) (filter test (by_number ballots))
-    (by_number-ascends (filter test ballots) left)
-    (AllPairs-filter (λ a b. a.number < b.number) test (by_number ballots) (by_number-ascends ballots apart))
-    (λ b c. filter_among test ballots (by_number ballots)
-    (λ x. Contains-permutation ballots (by_number ballots) x there) b (Contains-permutation _ _ b back c))
-    (λ b c. Contains-permutation _ _ b kept
-    (filter_among test (by_number ballots) ballots
-    (λ x. Contains-permutation (by_number ballots) ballots x (IsPermutation-sym _ _ there)) b c))
-
 pub may_hold_without : (e : Election) (ballots : List Ballot) (numbers : List ℕ) → MayHold e ballots
     → MayHold e (ballots_without ballots numbers)
 may_hold_without e ballots numbers held =

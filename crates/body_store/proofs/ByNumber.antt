@@ -69,39 +69,4 @@ by_number-is xs ys apart up p =
     same_in_order (by_number xs) ys (by_number-ascends xs apart) up
     (IsPermutation-trans (by_number xs) xs ys (IsPermutation-sym xs (by_number xs) (by_number-IsPermutation xs)) p)
 
-pub ballot_of-by_number : (ballots : List Ballot) (number : ℕ) → AreDistinct ballots
-    → ballot_of ballots number ≡ ballot_of (by_number ballots) number
-ballot_of-by_number ballots number apart =
-    let p = by_number-IsPermutation ballots in
-    ballot_of-same ballots (by_number ballots) number apart
-    (λ b. Contains-permutation ballots (by_number ballots) b p)
-    (λ b. Contains-permutation (by_number ballots) ballots b (IsPermutation-sym ballots (by_number ballots) p))
-
 -- ---- what a sort by the number of a ballot gives
-
-rises_mapped : {X : Type 0} (f : X → Ballot) (xs : List X) → IsNonDecreasingBy (λ x. (f x).number) xs
-    → IsNonDecreasing (numbers_of (map f xs))
-rises_mapped f [] up = λ i j d le lt. absurd (omega arith)
-rises_mapped f (x ∷ xs) up = λ i j d le lt.
-    let all = x ∷ xs in
-    let size : length (numbers_of (map f all)) ≡ length all = length-numbers_of (map f all) ∙ length-map all f in
-    let as_many = length-map all f in
-    let left : get_or (numbers_of (map f all)) i d ≡ (f (get_or all i x)).number =
-    number_at (map f all) i d (omega arith) ∙ ap (λ (b : Ballot). b.number)
-    (get_or-map f all i x no_ballot (omega arith)) in
-    let right : get_or (numbers_of (map f all)) j d ≡ (f (get_or all j x)).number =
-    number_at (map f all) j d (omega arith) ∙ ap (λ (b : Ballot). b.number)
-    (get_or-map f all j x no_ballot (omega arith)) in
-    let least = up i j x le (omega arith) in
-    omega arith
-
-pub sorted_is_by_number : {X : Type 0} (f : X → Ballot) (xs ys : List X) (ballots : List Ballot) → map f xs ≡ ballots
-    → IsPermutation xs ys → IsNonDecreasingBy (λ x. (f x).number) ys → AreDistinct ballots
-    → map f ys ≡ by_number ballots
-sorted_is_by_number f xs ys ballots same p up apart =
-    let moved : IsPermutation ballots (map f ys) = subst (λ (bs : List Ballot). IsPermutation bs (map f ys)) same
-    (IsPermutation-map f xs ys p) in
-    let distinct = Numbers.distinct-IsPermutation (numbers_of ballots) (numbers_of (map f ys))
-    (IsPermutation-map (λ b. b.number) ballots (map f ys) moved) (pairs_of_numbers (λ a b. a ≢ b) ballots apart) in
-    let rising = ascending_from_rising _ (rising_in_order (numbers_of (map f ys)) (rises_mapped f ys up) distinct) in
-    sym (by_number-is ballots (map f ys) apart (pairs_of_ballots (λ a b. a < b) (map f ys) rising) moved)

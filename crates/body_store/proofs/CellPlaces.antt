@@ -27,16 +27,3 @@ stands_once home cells i j ordered some same = ⊎_elim
     (cases_order i j)
 
 -- ---- numbers in the order of their cells
-
-pub filled_more : (cells : List ℕ) (k : ℕ) → k < length cells → get_or cells k 0 ≢ 0
-    → length (numbers_in (take (k + 1) cells)) ≡ length (numbers_in (take k cells)) + 1
-filled_more cells k lt some =
-    length-filter_more (λ cell. not (cell == 0)) cells k 0 lt
-    ∙ ap (λ n. length (numbers_in (take k cells)) + n) (cond-true _ 1 0 (ap not (ne_eqb (get_or cells k 0) 0 some)))
-
-pub filled_same : (cells : List ℕ) (k : ℕ) → k < length cells → get_or cells k 0 ≡ 0
-    → length (numbers_in (take (k + 1) cells)) ≡ length (numbers_in (take k cells))
-filled_same cells k lt none =
-    length-filter_more (λ cell. not (cell == 0)) cells k 0 lt
-    ∙ ap (λ n. length (numbers_in (take k cells)) + n) (cond-false _ 1 0 (ap not (eq-eqb (get_or cells k 0) 0 none)))
-    ∙ omega arith

@@ -30,9 +30,6 @@ use Rattle.store_spec.specs.Home.{home_in}
 use Rattle.store_spec.specs.Image.{IsCellOf, cell_bytes, cells_of, header_of}
 use Rattle.store_spec.specs.Layout.{IsLayout, ascending, numbers_in}
 
-pub kept_set : (a : Inside) → IsKept a → MayHold a.election.value (contents_of a).ballots
-kept_set a kept = may_hold_set a.election.value (contents_of a).ballots kept.stored.set kept.stored.within_limit
-
 -- what is shown is held
 pub shown_held : (e : Election) (ballots : List Ballot) (bytes numbers : List ℕ) → Shows e ballots bytes numbers → MayHold e ballots
 shown_held e ballots bytes numbers shown = record { listing = shown.listing; within_limit = shown.within_limit }

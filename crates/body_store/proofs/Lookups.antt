@@ -12,7 +12,6 @@ use Rattle.ballot_record.specs.declared.record.Record.{Record}
 use Rattle.ballot_record.specs.Record.{ballot}
 use Rattle.ballot_record.proofs.BallotNumbers.{ballot_with, contains_number}
 use Rattle.ballot_record.proofs.Lookups.{found_in, found_once, option_cases}
-use Rattle.body_store.proofs.Numbers.{number_of_record}
 use Rattle.body_store.specs.ByNumber.{AreNumbered}
 use Rattle.body_store.specs.Contents.{ballots_of, ballots_without}
 use Rattle.layout_def.proofs.OrderedCells.{contains_from_place}
@@ -31,16 +30,6 @@ not_found (y ∷ xs) x none =
     ap (λ b. b || list_any (λ n. n == x) xs) (ne_eqb y x (none 0 (omega arith)))
     ∙ not_found xs x (λ k lt. none (suc k) (omega arith))
 
-pub any_from_search : (xs : List ℕ) (x : ℕ) (r : Result ℕ ℕ)
-    → MatchResult r (λ i. (i < length xs) × (get_or xs i 0 ≡ x))
-    (λ i. (i ≤ length xs) × ((k : ℕ) → k < i → get_or xs k 0 < x) ×
-    ((k : ℕ) → i ≤ k → k < length xs → x < get_or xs k 0)) → is_ok r ≡ list_any (λ n. n == x) xs
-any_from_search xs x (Ok i) h = sym (is_among xs x i h.0 h.1)
-any_from_search xs x (Err i) h = sym (not_found xs x (λ k lt. ⊎_elim
-    (λ (before : k < i). let less = h.1 k before in λ e. omega arith)
-    (λ (after : i ≤ k). let more = h.2 k after lt in λ e. omega arith)
-    (cases_lt k i)))
-
 -- a number that stands in a cell is none of those that stand in none
 pub not_gone : (cells gone : List ℕ) (number : ℕ) (found : Option ℕ)
     → IfSome found (λ cell. (cell < length cells) × (get_or cells cell 0 ≡ number)) → is_some found ≡ true
@@ -52,15 +41,6 @@ not_gone cells gone number None there is some none = absurd (true≢false (sym i
 
 -- ---- the ballot with a number
 
-pub record_found : (records : List Record) (place number : ℕ) (d : Record) → AreNumbered (ballots_of records)
-    → place < length records → get_or (numbers_of (ballots_of records)) place 0 ≡ number
-    → Some (ballot (get_or records place d)) ≡ ballot_of (ballots_of records) number
-record_found records place number d are lt same =
-    let b = ballot (get_or records place d) in
-    let there : get_or (ballots_of records) place b ≡ b = get_or-map ballot records place d b lt in
-    sym (found_once (ballots_of records) number b are.distinct
-    (place, omega (arith, length-map records ballot), there) (sym (number_of_record records place d lt) ∙ same))
-
 pub none_found : (ballots : List Ballot) (number : ℕ) → ¬ Contains (numbers_of ballots) number
     → None ≡ ballot_of ballots number
 none_found ballots number none = ⊎_elim
@@ -68,12 +48,6 @@ none_found ballots number none = ⊎_elim
     (λ some. let found = found_in ballots number some.0 some.1 in absurd
     (none (contains_number ballots some.0 number found.0 found.1)))
     (option_cases (ballot_of ballots number))
-
--- no ballot has the number 0
-pub none_of_zero : (ballots : List Ballot) → AreNumbered ballots → None ≡ ballot_of ballots 0
-none_of_zero ballots are = none_found ballots 0 (λ c.
-    let b = ballot_with ballots 0 c in
-    All-contains (λ b. b.number ≢ 0) ballots b.0 are.some b.1 b.2)
 
 pub cmp_equal : (a n : ℕ) → nat_cmp a n ≡ Equal → a ≡ n
 cmp_equal a n e = grind (arith, nat_tests)
@@ -100,21 +74,6 @@ kept_more records rest i r numbers more so_far other =
     ∙ ap (λ bs. bs ++ ballot r ∷ []) so_far
     ∙ ap (λ bs. ballots_without (ballots_of (take i records)) numbers ++ bs)
     (sym (cond-true (test (ballot r)) (ballot r ∷ []) [] (ap not other)))
-    ∙ sym (filter-append test (ballots_of (take i records)) (ballot r ∷ []))
-    ∙ ap (filter test) (sym (map_push ballot (take i records) r))
-    ∙ ap (λ rs. ballots_without (ballots_of rs) numbers) (sym more)
-
-pub dropped_more : (records rest : List Record) (i : ℕ) (r : Record) (numbers : List ℕ)
-    → take (i + 1) records ≡ take i records ++ r ∷ []
-    → ballots_of rest ≡ ballots_without (ballots_of (take i records)) numbers
-    → list_any (λ n. n == r.number) numbers ≡ true
-    → ballots_of rest ≡ ballots_without (ballots_of (take (i + 1) records)) numbers
-dropped_more records rest i r numbers more so_far other =
-    let test = λ (b : Ballot). not (list_any (λ number. number == b.number) numbers) in
-    so_far
-    ∙ sym (append-nil (ballots_without (ballots_of (take i records)) numbers))
-    ∙ ap (λ bs. ballots_without (ballots_of (take i records)) numbers ++ bs)
-    (sym (cond-false (test (ballot r)) (ballot r ∷ []) [] (ap not other)))
     ∙ sym (filter-append test (ballots_of (take i records)) (ballot r ∷ []))
     ∙ ap (filter test) (sym (map_push ballot (take i records) r))
     ∙ ap (λ rs. ballots_without (ballots_of rs) numbers) (sym more)

@@ -79,9 +79,6 @@ number_from e more change bytes numbers cells close shown laid cell some =
 pub laid_ordered : (e : Election) (rest : List Ballot) (cells : List ℕ) → IsElection e → MayHold e rest → cells ≡ cells_of e rest → IsOrdered (home_in e) cells
 laid_ordered e rest cells election held laid = subst (λ (ns : List ℕ). IsOrdered (home_in e) ns) (sym laid) (held_layout e rest election held).ordered
 
-pub laid_once : (e : Election) (rest : List Ballot) (cells : List ℕ) → IsElection e → MayHold e rest → cells ≡ cells_of e rest → (i j : ℕ) → get_or cells i 0 ≢ 0 → get_or cells i 0 ≡ get_or cells j 0 → i ≡ j
-laid_once e rest cells election held laid i j = stands_once (home_in e) cells i j (laid_ordered e rest cells election held laid)
-
 pub laid_size : (e : Election) (rest : List Ballot) (cells : List ℕ) → IsElection e → MayHold e rest → cells ≡ cells_of e rest → length cells ≡ cell_count e
 laid_size e rest cells election held laid = ap length laid ∙ (held_layout e rest election held).size
 

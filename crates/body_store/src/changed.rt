@@ -1,6 +1,6 @@
 //! Which cells changed, and which were left.
 
-ghost use Rattle.std.specs.Prelude.{◌≡◌, ◌≢◌, ◌⊎◌, ℕ, ◌+◌, ◌<◌, ◌≤◌, false, true, All, length, slice_index};
+ghost use Rattle.std.specs.Prelude.{◌≡◌, ◌≢◌, ◌⊎◌, ℕ, ◌+◌, ◌<◌, ◌≤◌, false, true, length, slice_index};
 
 /// How many cells are compared at once with those of before.
 const BLOCK: usize = 64;
@@ -34,10 +34,27 @@ fn same_onward(old_cells: &[u64], cells: &[u64], cell: usize) -> usize
         → slice_index old_cells.now k ≡ slice_index cells.now k }
 {
     let end = cell + BLOCK;
-    if cell % BLOCK == 0 && end <= cells.len() && old_cells[cell..end] == cells[cell..end] {
+    if cell % BLOCK == 0
+        && end <= cells.len()
+        && are_same(&old_cells[cell..end], &cells[cell..end])
+    {
         return BLOCK;
     }
     1
+}
+
+/// These cells hold the same numbers as before. It does not stop at the first that does not, so that many are compared
+/// at once.
+fn are_same(old_cells: &[u64], cells: &[u64]) -> bool
+    requires { length old_cells.now ≡ length cells.now }
+    ensures { result ≡ true → ((k : ℕ) → k < length cells.now
+        → slice_index old_cells.now k ≡ slice_index cells.now k) }
+{
+    let mut same = true;
+    for cell in 0..cells.len() {
+        same &= old_cells[cell] == cells[cell];
+    }
+    same
 }
 
 /// The first cell from one on that was left by the number that stood in it, or past the last.
@@ -87,23 +104,23 @@ fn none_left_onward(old_cells: &[u64], cells: &[u64], cell: usize) -> usize
         ⊎ (slice_index old_cells.now k ≡ slice_index cells.now k) }
 {
     let end = cell + BLOCK;
-    if cell % BLOCK == 0 && end <= cells.len() && are_empty(&old_cells[cell..end]) {
-        return BLOCK;
+    if cell % BLOCK != 0 || end > cells.len() {
+        return 1;
     }
-    if old_cells[cell] == cells[cell] {
-        return same_onward(old_cells, cells, cell);
+    let before = &old_cells[cell..end];
+    if are_same(before, &cells[cell..end]) || are_empty(before) {
+        return BLOCK;
     }
     1
 }
 
-/// No number stands in these cells.
+/// No number stands in these cells. It does not stop at the first that does, either.
 fn are_empty(cells: &[u64]) -> bool
-    ensures { result ≡ true → All (λ number. number ≡ 0) cells.now }
+    ensures { result ≡ true → ((k : ℕ) → k < length cells.now → slice_index cells.now k ≡ 0) }
 {
-    for number in cells {
-        if *number != 0 {
-            return false;
-        }
+    let mut empty = true;
+    for cell in cells {
+        empty &= *cell == 0;
     }
-    true
+    empty
 }

@@ -125,13 +125,6 @@ judged_front e numbers reaches bank election first short within =
           begins_fewer e count place bank (omega (arith, fewer)) (begins_read e bank place numbers ballots election (omega (arith, few)) read);
     }
 
-pub no_front : (e : Election) (bank : List ℕ) → length bank < header_size → length bank ≤ bank_size e → IsFront e bank
-no_front e bank less within = record {
-  within = within;
-  header = λ whole. absurd (omega (arith, less, whole));
-  cells = λ count le. absurd (omega (arith, less, le));
-}
-
 -- all cells of a bank that was judged whole were read
 pub judged_whole : (e : Election) (numbers reaches bank : List ℕ) → IsElection e → AreFirst e numbers reaches bank → length bank < end_of e numbers + cell_size e → length bank ≡ bank_size e → Shows e (ballots_at e numbers bank) bank numbers
 judged_whole e numbers reaches bank election first short whole =

@@ -1,5 +1,6 @@
 -- The first cells of a bank, as they are kept once they were judged.
 use Rattle.std.specs.Prelude.{◌≡◌, ℕ, ◌+◌, ◌-◌, ◌*◌, ◌<◌, ◌≤◌, List, [], ◌++◌, All, drop, flat_map, length, take, vec_capacity}
+use Rattle.ballot_record.specs.Barred.{AreBarred}
 use Rattle.body_store.specs.Held.{spelled_in}
 use Rattle.image_builder.specs.Feeding.{Completes}
 use Rattle.image_builder.specs.Reaches.{AreReaches}
@@ -52,17 +53,19 @@ IsRead e cells bank = AreFirst e (numbers_read cells) cells.reaches.items bank
 abbrev pub end_read : Election → CellsRead → ℕ
 end_read e cells = end_of e (numbers_read cells)
 
--- room for the number of each cell of a bank, and for a reach for each ballot that a store may hold
-pub record HasSpace (e : Election) (cells : CellsRead) : Type 0 where
+-- room for the number of each cell of a bank, and for a reach for each ballot that a store may hold; and what the styles
+-- bar
+pub record IsEquipped (e : Election) (cells : CellsRead) : Type 0 where
   pub numbers : cell_count e ≤ vec_capacity cells.numbers
   pub reaches : e.limit ≤ vec_capacity cells.reaches
+  pub barred : AreBarred e cells.barred
 
 -- all that is whole in the first bytes of a bank was judged, and is right
 pub record AreJudged (e : Election) (cells : CellsRead) (bank : List ℕ) : Type 0 where
   pub waits : length bank < header_size → (numbers_read cells ≡ []) × (cells.reaches.items ≡ [])
   pub first : header_size ≤ length bank → IsRead e cells bank
   pub short : header_size ≤ length bank → length bank < end_read e cells + cell_size e
-  pub wide : HasSpace e cells
+  pub wide : IsEquipped e cells
 
 -- The last of these bytes makes whole what tells the fault, and every bank that begins with them is refused so.
 pub record IsRefusedAt (e : Election) (bytes : List ℕ) (fault : ImageFault) : Type 0 where

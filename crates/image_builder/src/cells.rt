@@ -1,7 +1,7 @@
 //! The cells of a bank, judged in their order where they stand.
 
 ghost use Rattle.body_store.specs.Contents.{IsStored};
-ghost use Rattle.image_builder.specs.Cells.{AreJudged, HasSpace, IsRead, IsRefusedAt, end_read, numbers_read};
+ghost use Rattle.image_builder.specs.Cells.{AreJudged, IsEquipped, IsRead, IsRefusedAt, end_read, numbers_read};
 ghost use Rattle.image_builder.specs.Feeding.{IsFront, IsRefusedPiece};
 ghost use Rattle.image_builder.specs.Reaches.{AreReaches, IsReach};
 ghost use Rattle.std.specs.Prelude.{◌≡◌, ◌+◌, ◌-◌, ◌*◌, ◌<◌, ◌≤◌, ◌↔◌, ◌++◌, ◌∷◌, [], ℕ, List, false, drop, length, take, vec_capacity, vec_len, IfOk, IfErr, IfSome, IsSome, IsTrue, OnOk};
@@ -12,7 +12,7 @@ ghost use Rattle.store_spec.specs.Layout.{MayStand};
 
 use crate::read::{ImageFault, check_header};
 use crate::zeros::is_empty;
-use ballot_record::{Election, HEADER_BYTES, MAX_CONTESTS, holds_ballot, number_of};
+use ballot_record::{Barred, Election, HEADER_BYTES, MAX_CONTESTS, holds_ballot, number_of};
 use body_store::Closed;
 use outside_io::Memory;
 use probe_order::Order;
@@ -22,11 +22,12 @@ use std::alloc::Global;
 const BLOCK: usize = 16;
 
 /// The cells that were judged: the number in each, or 0 where it is empty, and for each number how far back its cell
-/// reaches. The bytes stay with the caller.
+/// reaches; and what the election's styles bar. The bytes stay with the caller.
 #[derive(Drop)]
 pub struct CellsRead {
     pub numbers: Vec<u64>,
     pub reaches: Vec<u32>,
+    pub barred: Barred,
 }
 
 impl CellsRead {
@@ -40,6 +41,7 @@ impl CellsRead {
         Ok(CellsRead {
             numbers: Vec::with_capacity(alloc, election.cells())?,
             reaches: Vec::with_capacity(alloc, election.limit() as usize)?,
+            barred: Barred::new(alloc, election)?,
         })
     }
 
@@ -93,12 +95,12 @@ fn read_whole_cells(
 ) -> Result<(), ImageFault>
     requires election { IsElection election.now }
     requires read { IsRead election.now cells.old bank.now }
-    requires wide { HasSpace election.now cells.old }
+    requires wide { IsEquipped election.now cells.old }
     requires within { length bank.now ≤ bank_size election.now }
     ensures read { OnOk result (IsRead election.now cells.new bank.now) }
     ensures short { OnOk result
         (length bank.now < end_read election.now cells.new + cell_size election.now) }
-    ensures wide { OnOk result (HasSpace election.now cells.new) }
+    ensures wide { OnOk result (IsEquipped election.now cells.new) }
     ensures refused { IfErr result
         (IsRefusedPiece election.now (take (end_read election.now cells.old) bank.now)
         (drop (end_read election.now cells.old) bank.now)) }
@@ -106,7 +108,7 @@ fn read_whole_cells(
     let size = election.cell_bytes();
     let mut at = pass_empty(cells, bank, election);
     while bank.len() - at >= size {
-        read_cell(cells, bank, at, election)?;
+        read_cell(cells, bank, at, size, election)?;
         at += size;
     }
     Ok(())
@@ -118,10 +120,10 @@ fn read_whole_cells(
 fn pass_empty(cells: &mut CellsRead, bank: &[u8], election: &Election) -> usize
     requires election { IsElection election.now }
     requires read { IsRead election.now cells.old bank.now }
-    requires wide { HasSpace election.now cells.old }
+    requires wide { IsEquipped election.now cells.old }
     requires within { length bank.now ≤ bank_size election.now }
     ensures read { IsRead election.now cells.new bank.now }
-    ensures wide { HasSpace election.now cells.new }
+    ensures wide { IsEquipped election.now cells.new }
     ensures end { result ≡ end_read election.now cells.new }
     ensures onward { end_read election.now cells.old ≤ result }
 {
@@ -136,30 +138,31 @@ fn pass_empty(cells: &mut CellsRead, bank: &[u8], election: &Election) -> usize
     at
 }
 
-/// Reads one cell more, which begins at this byte. Most cells are empty, and judged with no call.
+/// Reads one cell more, which begins at this byte and has so many. Most cells are empty, and judged with no call.
 #[tactic(auto, using(ballot_record::proofs::CellFormat::number_fits))]
 #[inline(always)]
 fn read_cell(
     cells: &mut CellsRead,
     bank: &[u8],
     at: usize,
+    size: usize,
     election: &Election,
 ) -> Result<(), ImageFault>
+    requires size { size ≡ cell_size election.now }
     requires election { IsElection election.now }
     requires read { IsRead election.now cells.old bank.now }
-    requires wide { HasSpace election.now cells.old }
+    requires wide { IsEquipped election.now cells.old }
     requires at { at ≡ end_read election.now cells.old }
     requires whole { at + cell_size election.now ≤ length bank.now }
     requires within { length bank.now ≤ bank_size election.now }
     ensures read { OnOk result (IsRead election.now cells.new bank.now) }
-    ensures wide { OnOk result (HasSpace election.now cells.new) }
+    ensures wide { OnOk result (IsEquipped election.now cells.new) }
     ensures end { OnOk result
         (end_read election.now cells.new ≡ end_read election.now cells.old + cell_size election.now) }
     ensures refused { IfErr result
         (IsRefusedAt election.now (take (at + cell_size election.now) bank.now)) }
 {
-    let bytes = &bank[at..at + election.cell_bytes()];
-    if is_empty(bytes) {
+    if is_empty(&bank[at..at + size]) {
         cells.numbers.push_reserved(0);
         return Ok(());
     }
@@ -177,12 +180,12 @@ fn read_right_cell(cells: &mut CellsRead, bank: &[u8], at: usize, election: &Ele
     requires some { ¬ IsEmptyCell election.now (take (cell_size election.now) (drop at bank.now)) }
     requires election { IsElection election.now }
     requires read { IsRead election.now cells.old bank.now }
-    requires wide { HasSpace election.now cells.old }
+    requires wide { IsEquipped election.now cells.old }
     requires at { at ≡ end_read election.now cells.old }
     requires whole { at + cell_size election.now ≤ length bank.now }
     requires within { length bank.now ≤ bank_size election.now }
     ensures read { IsTrue result → IsRead election.now cells.new bank.now }
-    ensures wide { IsTrue result → HasSpace election.now cells.new }
+    ensures wide { IsTrue result → IsEquipped election.now cells.new }
     ensures end { IsTrue result
         → end_read election.now cells.new ≡ end_read election.now cells.old + cell_size election.now }
     ensures refused { (result ≡ false) → IsRefusedAt election.now
@@ -190,7 +193,9 @@ fn read_right_cell(cells: &mut CellsRead, bank: &[u8], at: usize, election: &Ele
         (ImageFault.Damaged (length (numbers_read cells.old))) }
 {
     let bytes = &bank[at..at + election.cell_bytes()];
-    if !holds_ballot(bytes, election) || cells.reaches.len() >= election.limit() as usize {
+    if !holds_ballot(bytes, election, &cells.barred)
+        || cells.reaches.len() >= election.limit() as usize
+    {
         return false;
     }
     let number = number_of(bytes);

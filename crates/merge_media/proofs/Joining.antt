@@ -10,16 +10,6 @@ use Rattle.merge_media.proofs.Standing.{disputed_within, joined_same, none_stand
 use Rattle.merge_media.specs.Union.{Agree, IsDisputed, IsJoinedOf, IsLeastDisputed, IsUnion, StandsInOne, least_with}
 use Rattle.store_spec.specs.Ballot.{Ballot}
 
--- of no sets nothing is kept
-pub joined_none : IsJoinedOf [] [] None
-joined_none = record {
-  ascending = λ i j d less within. absurd (omega arith);
-  only = λ b c. absurd (omega (arith, c.1));
-  numbers = λ b stands. absurd (none_stands b stands);
-  agreed = λ b stands. absurd (none_stands b stands);
-  least = λ n d. none_stands d.one d.one_stands;
-}
-
 -- a set of which no ballot came yet
 pub joined_begins : (sets : List (List Ballot)) (ballots : List Ballot) (dispute : Option ℕ) → IsJoinedOf sets ballots dispute
     → IsJoinedOf ([] ∷ sets) ballots dispute

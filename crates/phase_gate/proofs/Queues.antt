@@ -63,16 +63,6 @@ pub casts_into : (phase : Phase) (old new : List (List Ballot)) (tab : ℕ) (b :
 casts_into phase old new tab b place is waits =
     subst (λ p. CastsInto p tab b place (Casts new)) (sym is) (waits_in Casts old new tab b place waits)
 
--- so many empty lists, each seen through a map
-map_empty : {X Y : Type 0} (f : X → Y) (count : ℕ) → map (map f) (replicate count []) ≡ replicate count []
-map_empty f zero = refl
-map_empty f (suc count) = ap (λ rest. [] ∷ rest) (map_empty f count)
-
--- empty lists are seen as empty lists
-pub empty_as : {V X Y : Type 0} (f : X → Y) (items : V → List X) (lists : List V) (count : ℕ)
-    → map items lists ≡ replicate count [] → map (λ v. map f (items v)) lists ≡ replicate count []
-empty_as f items lists count empty = sym (map-map (map f) items lists) ∙ ap (map (map f)) empty ∙ map_empty f count
-
 -- what is done with an item in the phase that it belongs to
 waits_does : {X : Type 0} (n : ℕ) (set : List Ballot) (of : List (List X) → Phase) (lists : List (List X)) (tab : ℕ)
     (x : X) (place : Queued) (now : Phase) (effect : Effect) → WaitsIn of lists tab x place now
@@ -121,12 +111,6 @@ item_does closes e n set tab (items.Find k) (Casts lists) place now effect into 
     other_does n set (Casts lists) place now effect into is
 item_does closes e n set tab (items.Find k) (Withdraws lists) place now effect into is =
     other_does n set (Withdraws lists) place now effect into is
-
--- lists that stay are seen as the same ones
-pub lists_unchanged : {V X Y : Type 0} (f : X → Y) (items : V → List X) (new old : List V)
-    → map items new ≡ map items old → map (λ v. map f (items v)) new ≡ map (λ v. map f (items v)) old
-lists_unchanged f items new old same =
-    sym (map-map (map f) items new) ∙ ap (map (map f)) same ∙ map-map (map f) items old
 
 -- what holds in any case does so on a failure
 pub on_any_err : {T E P : Type 0} (r : Result T E) → P → OnErr r P

@@ -18,14 +18,6 @@ use Rattle.store_spec.specs.Session.{Phase, opened, queued}
 use Rattle.store_spec.specs.Session.Phase.{Closed, Casts, Withdraws, Finds}
 use Rattle.step_core.proofs.Sets.{All-from_map}
 
--- lists that are seen as others are as many
-pub are_lists : {V X : Type 0} (f : V → X) (lists shown : List V) → shown ≡ lists → AreLists (map f lists)
-    → AreLists shown
-are_lists f lists shown same are = record {
-  some = omega (arith, length-map lists f, ap length same, are.some);
-  few = omega (arith, length-map lists f, ap length same, are.few);
-}
-
 -- the ballots that wait are valid
 pub all_valid : {V : Type 0} (e : Election) (f : V → List Ballot) (lists shown : List V) → shown ≡ lists
     → All (All (IsValid e)) (map f lists) → All (λ v. All (IsValid e) (f v)) shown

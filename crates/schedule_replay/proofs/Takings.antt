@@ -332,8 +332,3 @@ pub list_extended : (lists : List (Vec ℕ Global)) (i : ℕ) (list : Vec ℕ Gl
 list_extended lists i list numbers now within at is =
     is ∙ ap (λ ns. list.items ++ ns) (take_all (length numbers - 1) (drop 1 numbers) (omega (arith, length-drop 1 numbers)))
     ∙ ap (λ ns. ns ++ drop 1 numbers) (ap (λ (l : Vec ℕ Global). l.items) at ∙ sym (list_before lists i list within))
-
-pub lists_pushed : (old now : Script) (n : ℕ) (before : List (List ℕ)) (lists : List (Vec ℕ Global)) (list : Vec ℕ Global) → lists_of old ≡ before ++ replicate n [] → lists ≡ old.lists.items ++ list ∷ [] → list.items ≡ [] → map (λ (l : Vec ℕ Global). l.items) lists ≡ before ++ replicate (n + 1) []
-lists_pushed old now n before lists list is pushed empty =
-    ap (map (λ (l : Vec ℕ Global). l.items)) pushed ∙ map-append (λ (l : Vec ℕ Global). l.items) old.lists.items (list ∷ []) ∙ ap (λ ls. ls ++ list.items ∷ []) is ∙ ap (λ l. (before ++ replicate n []) ++ l ∷ []) empty
-    ∙ append_assoc before (replicate n []) ([] ∷ []) ∙ ap (λ ls. before ++ ls) (replicate-append-replicate n 1 [])

@@ -61,16 +61,6 @@ one_more P n front here k less = elim (cases_eq k n) [
   | inr other ↦ front k (omega arith) other
 ]
 
-pub none_added : (e : Election) (ballots : List Ballot) (before : Tally) → AddedTo e ballots 0 before before
-none_added e ballots before = record {
-  choices = λ k c none within. absurd (omega arith);
-  under = λ k none. absurd (omega arith);
-  over = λ k none. absurd (omega arith);
-  rest_choices = λ k past. refl;
-  rest_under = λ k past. refl;
-  rest_over = λ k past. refl;
-}
-
 -- the word of a style tells whether a contest is on it
 bit_of : (e : Election) (style word place : ℕ) → ((k : ℕ) → 1 ≤ k → is_on_style e style k ≡ eqb (bit_at word (k - 1)) 1)
     → is_on_style e style (place + 1) ≡ eqb (bit_and (word / 2 ^ place) 1) 1

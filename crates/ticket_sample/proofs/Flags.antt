@@ -25,20 +25,6 @@ unset_among (b ∷ ballots) (true ∷ flags) x c = further b x ballots (unset_am
 unset_among (b ∷ ballots) (false ∷ flags) x (zero, lt, is) = (zero, omega arith, is)
 unset_among (b ∷ ballots) (false ∷ flags) x (suc i, lt, is) = further b x ballots (unset_among ballots flags x (i, omega arith, is))
 
-pub unset_ascend : (ballots : List Ballot) (flags : List Bool) → Ascend ballots → Ascend (unset ballots flags)
-unset_ascend [] flags up = up
-unset_ascend (b ∷ ballots) [] up = λ i j d less within. absurd (omega (arith, within))
-unset_ascend (b ∷ ballots) (true ∷ flags) up = unset_ascend ballots flags (behind b ballots up)
-unset_ascend (b ∷ ballots) (false ∷ flags) up = AllPairs-cons (λ x y. x.number < y.number) b (unset ballots flags)
-    (λ k d within. first_less (get_or (unset ballots flags) k d) (unset_among ballots flags (get_or (unset ballots flags) k d) (Contains-get_or (unset ballots flags) k d within)))
-    (unset_ascend ballots flags (behind b ballots up))
-  where
-    first_less : (x : Ballot) → Contains ballots x → b.number < x.number
-    first_less x c =
-        let less = up 0 (suc c.0) x (omega arith) (omega (arith, c.1)) in
-        let at : (get_or ballots c.0 x).number ≡ x.number = ap (λ (b : Ballot). b.number) c.2 in
-        omega (arith, less, at)
-
 -- the first number is none of those behind it
 first_alone : (b : Ballot) (ballots : List Ballot) (flags : List Bool) → Ascend (b ∷ ballots) → ¬ Contains (numbers_of (unset ballots flags)) b.number
 first_alone b ballots flags up c =

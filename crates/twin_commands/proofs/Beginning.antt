@@ -34,11 +34,3 @@ synced_begins model store sink start mid election stored medium same told settle
     (started model.calls model.may_leave mid (HoldsTheSame e bytes) (λ c left.
     let is : c ≡ bytes = settled-only model.calls model.may_leave model.seen mid bytes c settled (same ∙ sees) left in
     subst (HoldsTheSame e bytes) (sym is) (λ held holds. holds))))
-
--- a disk on which no call is made holds what it held
-pub still_holds : {T : Type 0} (model : DiskModel T) (e : Election) (set : List Ballot) (disk : T) → IsElection e → IsMediumNow model e set disk → (bytes : List ℕ) → model.seen disk ≡ Some bytes → LeavesOnly model.calls model.may_leave disk disk (λ image. HoldsSet e image set)
-still_holds model e set disk election medium bytes sees =
-    started model.calls model.may_leave disk (λ image. HoldsSet e image set)
-    (λ c left.
-    let is : c ≡ bytes = settled-only model.calls model.may_leave model.seen disk bytes c medium.settled sees left in
-    subst (λ x. HoldsSet e x set) (sym is) (medium_holds e bytes set election (told_holds (λ x. IsMediumOf e x set) bytes sees medium.medium)))

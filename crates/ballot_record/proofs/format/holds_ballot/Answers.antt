@@ -1,7 +1,8 @@
-use Rattle.std.proofs.Common.{◌≡◌, List, ℕ, drop, ap, refl, subst, sym, ◌∙◌, arith}
+use Rattle.std.proofs.Common.{◌≡◌, ◌-◌, List, ℕ, Some, ap, slice_get, sym, ◌∙◌, arith}
+use Rattle.std.proofs.lemmas.Option.{slice_get-get_or}
+use Rattle.ballot_record.proofs.Barring.{judged}
 use Rattle.ballot_record.proofs.FormatAnswers.{held, have_from, valid_there}
-use Rattle.ballot_record.specs.Format.{HaveChoices, ballot_at}
-use Rattle.store_spec.specs.Election.{set_width}
+use Rattle.ballot_record.specs.Format.{ballot_at}
 use Rattle.ballot_record.proofs.format.holds_ballot.Goals as goal
 use Rattle.ballot_record.proofs.format.holds_ballot.Goals.{then-from-styles-via-then-from-styles, then-from-styles-via-else-from-styles+then-style-eq0, then-from-styles-via-else-from-styles+else-style-eq0+then-number_of-eq0}
 
@@ -11,17 +12,20 @@ returns-clause-held c =
     let bytes = c.args.bytes.now in
     let election = c.styles.ensures.valid in
     let style = (ballot_at e bytes).style in
-    let told = c.have_choices.ensures style c.contests_on-contests.ensures.these in (
+    let place = c.from-2.result - 1 in
+    let row = c.index-row.result.now in
+    let rows = c.args.barred.now.rows.items in
+    let there : slice_get rows place ≡ Some row =
+    slice_get-get_or rows place row (omega (arith, c.requires.barred.count, c.styles.ensures.count)) ∙ ap (λ row. Some row) (sym c.index-row.ensures) in
+    let barred = c.requires.barred.each place row there in
+    let told = judged e style place c.set_bytes.result c.contests.result row c.split_at.result.1.now bytes c.have_none.result election (omega arith) barred.0 barred.1
+    c.contests.ensures.count c.set_bytes.ensures.width c.split_at.ensures.back c.have_none.ensures in (
       λ yes. (
         ballot_at e bytes,
-        held e bytes election (λ i. omega (arith, c.type_inv.bytes i)) c.requires
-            (omega arith) (omega arith) (omega arith) (omega arith)
-            (subst (λ (sets : List ℕ). HaveChoices e style (set_width e) sets) c.split_at.ensures.back (subst (λ width. HaveChoices e style width c.split_at.result.1.now) c.set_bytes.ensures.width (told.0 yes))),
+        held e bytes election (λ i. omega (arith, c.type_inv.bytes i)) c.requires.long
+            (omega arith) (omega arith) (omega arith) (omega arith) (told.0 yes),
       ),
-      λ some.
-          told.1 (subst (λ width. HaveChoices e style width c.split_at.result.1.now) (sym c.set_bytes.ensures.width)
-          (subst (λ (sets : List ℕ). HaveChoices e style (set_width e) sets) (sym c.split_at.ensures.back)
-          (have_from e style bytes election (valid_there e bytes some.0 election some.1).marked))),
+      λ some. told.1 (have_from e style bytes election (valid_there e bytes some.0 election some.1).marked),
     )
 
 pub returns-then-from-styles-clause-held : goal.returns-then-from-styles-clause-held

@@ -1,7 +1,6 @@
-use Rattle.std.proofs.Common.{◌≡◌, take}
-use Rattle.std.specs.List.{All}
+use Rattle.std.proofs.Common.{◌≡◌, ℕ, ◌<◌, true, slice_index}
 use Rattle.body_store.proofs.changed.are_empty.Given as goal
 
 -- the cells so far are empty
-abbrev pub invariant-loop-number : goal.invariant-loop-number
-invariant-loop-number l = All (λ number. number ≡ 0) (take l.number-index l.cells)
+abbrev pub invariant-loop-cell : goal.invariant-loop-cell
+invariant-loop-cell l = l.empty ≡ true → ((k : ℕ) → k < l.cell-index → slice_index l.cells k ≡ 0)

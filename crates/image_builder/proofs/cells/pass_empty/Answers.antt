@@ -45,7 +45,7 @@ loop-at-preserved c =
     let now : length c.extend_from_slice.new.self.items ≡ length numbers + 16 = ap length put ∙ long in
     record {
       read = subst (λ (ns : List ℕ). AreFirst e ns reaches bank) (sym put) next;
-      wide = record { numbers = omega (arith, wide.numbers, c.extend_from_slice.ensures.capacity); reaches = wide.reaches };
+      wide = record { numbers = omega (arith, wide.numbers, c.extend_from_slice.ensures.capacity); reaches = wide.reaches; barred = wide.barred };
       end = omega (arith, l.invariant.end, some, sum, ap (λ n. n * cell_size e) now);
       onward = omega (arith, l.invariant.onward);
     }

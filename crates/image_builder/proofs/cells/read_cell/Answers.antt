@@ -8,6 +8,11 @@ use Rattle.image_builder.proofs.cells.read_cell.Goals as goal
 use Rattle.image_builder.specs.Cells.{AreFirst, ballots_at, numbers_read}
 use Rattle.store_spec.specs.Election.{cell_size}
 
+pub push_reserved-requires : goal.push_reserved-requires
+push_reserved-requires c =
+    let is = one_is c.args.election.now (numbers_read c.args.cells.now) c.args.cells.now.reaches.items c.args.bank.now c.args.at c.args.size c.requires.read c.requires.at c.requires.whole c.requires.within c.requires.size in
+    omega (arith, is.room, c.requires.wide.numbers)
+
 pub returns-then-is_empty-clause-read : goal.returns-then-is_empty-clause-read
 returns-then-is_empty-clause-read c =
     let e = c.args.election.now in
@@ -15,8 +20,8 @@ returns-then-is_empty-clause-read c =
     let numbers = numbers_read c.args.cells.now in
     let reaches = c.args.cells.now.reaches.items in
     let ballots = ballots_at e numbers bank in
-    let bytes = take (c.args.at + c.cell_bytes.result - c.args.at) (drop c.args.at bank) in
-    let is = one_is e numbers reaches bank c.args.at c.cell_bytes.result c.requires.read c.requires.at c.requires.whole c.requires.within c.cell_bytes.ensures.size in
+    let bytes = take (c.args.at + c.args.size - c.args.at) (drop c.args.at bank) in
+    let is = one_is e numbers reaches bank c.args.at c.args.size c.requires.read c.requires.at c.requires.whole c.requires.within c.requires.size in
     let long : length bytes ≡ cell_size e = omega (arith, is.long) in
     let next = empty_next e numbers reaches ballots bytes c.requires.election c.requires.read.cells long (c.is_empty.ensures.0 c.if-is_empty.true ∙ ap (λ n. replicate n 0) long) in
     subst (λ (ns : List ℕ). AreFirst e ns reaches bank) (sym c.push_reserved.ensures.items)
@@ -25,7 +30,7 @@ returns-then-is_empty-clause-read c =
 pub overflow_cast-result : goal.overflow_cast-result
 overflow_cast-result c =
     let e = c.args.election.now in
-    let is = one_is e (numbers_read c.args.cells.now) c.args.cells.now.reaches.items c.args.bank.now c.args.at c.cell_bytes.result c.requires.read c.requires.at c.requires.whole c.requires.within c.cell_bytes.ensures.size in
+    let is = one_is e (numbers_read c.args.cells.now) c.args.cells.now.reaches.items c.args.bank.now c.args.at c.args.size c.requires.read c.requires.at c.requires.whole c.requires.within c.requires.size in
     omega (arith, is.room, few_cells e c.requires.election, c.len-place.ensures)
 
 pub read_right_cell-requires-clause-some : goal.read_right_cell-requires-clause-some
@@ -33,8 +38,8 @@ read_right_cell-requires-clause-some c zeros =
     let e = c.args.election.now in
     let bank = c.args.bank.now in
     let at = c.args.at in
-    let bytes = take (at + c.cell_bytes.result - at) (drop at bank) in
-    let is = one_is e (numbers_read c.args.cells.now) c.args.cells.now.reaches.items bank at c.cell_bytes.result c.requires.read c.requires.at c.requires.whole c.requires.within c.cell_bytes.ensures.size in
-    let size : at + c.cell_bytes.result - at ≡ cell_size e = omega (arith, c.cell_bytes.ensures.size) in
+    let bytes = take (at + c.args.size - at) (drop at bank) in
+    let is = one_is e (numbers_read c.args.cells.now) c.args.cells.now.reaches.items bank at c.args.size c.requires.read c.requires.at c.requires.whole c.requires.within c.requires.size in
+    let size : at + c.args.size - at ≡ cell_size e = omega (arith, c.requires.size) in
     let long : length bytes ≡ cell_size e = omega (arith, is.long) in
     false≢true (sym c.if-is_empty.false ∙ c.is_empty.ensures.1 (ap (λ n. take n (drop at bank)) size ∙ zeros ∙ sym (ap (λ n. replicate n 0) long)))
