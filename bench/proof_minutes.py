@@ -5,7 +5,7 @@
 
 Start it beside `rt ci` in that repository, on a machine that has kept nothing of it, and end it with Ctrl-C (or
 SIGTERM): then it prints the minutes. It looks at all processes four times a second, by /proc; what lives shorter is
-not counted.
+not counted. With names of crates, or `--anew`, `rt ci` works in a copy, which is looked at too, whosever it is.
 """
 import os
 import re
@@ -17,6 +17,7 @@ from pathlib import Path
 
 TICKS = os.sysconf("SC_CLK_TCK")
 EDITS = os.path.join(tempfile.gettempdir(), "rt-edit-")
+COPIES = re.compile(re.escape(os.path.join(tempfile.gettempdir(), "rt-copy-")) + r"[^/]+/repo/crates/([^/]+)")
 
 
 def status(process):
@@ -30,6 +31,9 @@ def work_of(process, crates):
     folder = os.readlink(f"/proc/{process}/cwd")
     if folder.startswith(crates + "/"):
         return folder[len(crates) + 1:].split("/")[0], False
+    copied = COPIES.match(folder)
+    if copied:
+        return copied[1], False
     if folder.startswith(EDITS):
         words = Path("/proc", process, "cmdline").read_text().replace("\0", " ")
         named = re.search(r"--crate-name (\w+)", words)

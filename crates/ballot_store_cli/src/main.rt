@@ -3,17 +3,12 @@
 
 ghost use Rattle.std.specs.Prelude.{◌≡◌, ◌-◌, IfOk, length, vec_len};
 
-mod command;
-mod election;
 mod help;
-pub mod laws;
-mod run;
 mod streams;
 
 use crash_disk::{FileDisk, FileLock};
 use outside_io::{FileSource, Memory, NoTurns, StdinSource, StdoutSink};
-pub use run::run;
-pub use run_outcome::{Status, Which};
+use run_command::{Status, Which, run};
 use std::alloc::Global;
 use std::io::IsTerminal;
 use std::os::unix::fs::FileExt;
@@ -101,6 +96,3 @@ fn main(rt: HostRuntime) -> ExitCode {
     }
     ExitCode::from(status.number())
 }
-
-#[cfg(test)]
-mod tests;

@@ -5,8 +5,8 @@ use Rattle.std.proofs.lemmas.List.Elements.{All-head, All-tail}
 use Rattle.std.proofs.lemmas.Option.{get_or_from_slice_get}
 use Rattle.std.specs.List.{filter, find}
 use Rattle.std.specs.Prelude.{◌==◌}
-use Rattle.part_play.proofs.Numbers.{goes_within}
 use Rattle.part_play.specs.Plays.{AreSharesOf, PlaysFindingInParts, is_present_in}
+use Rattle.partition_store.proofs.Shares.{each_in_part}
 use Rattle.phase_find.specs.Present.{is_present}
 use Rattle.phase_play.proofs.Closing.{closes_finding}
 use Rattle.phase_play.proofs.Playing.{plays_finding}
@@ -26,7 +26,7 @@ find_passing : {X : Type 0} (test found : X → Bool) → ((x : X) → found x �
 find_passing test found passes [] = refl
 find_passing test found passes (x ∷ xs) = one_passing test found x xs (test x) (found x) refl refl (passes x) (find_passing test found passes xs)
 
-part_has : (bits : ℕ) (set : List Ballot) (number : ℕ) → is_present (share bits (part_of bits number) set) number ≡ is_present set number
+pub part_has : (bits : ℕ) (set : List Ballot) (number : ℕ) → is_present (share bits (part_of bits number) set) number ≡ is_present set number
 part_has bits set number =
     ap is_some (find_passing (λ (b : Ballot). part_of bits b.number == part_of bits number) (λ (b : Ballot). b.number == number)
     (λ b is. eq-eqb (part_of bits b.number) (part_of bits number) (ap (part_of bits) (eqb-true b.number number is))) set)
@@ -34,10 +34,10 @@ part_has bits set number =
 in_part : (bits : ℕ) (set : List Ballot) (parts : List (List Ballot)) → 1 ≤ bits → bits ≤ 3 → AreSharesOf bits set parts → (number : ℕ) → number < 2 ^ 64 → is_present_in bits parts number ≡ is_present set number
 in_part bits set parts some few shares number short =
     let part = part_of bits number in
-    ap (λ (s : List Ballot). is_present s number) (get_or_from_slice_get parts part (share bits part set) [] (shares.each part (goes_within bits number some few short)))
+    ap (λ (s : List Ballot). is_present s number) (get_or_from_slice_get parts part (share bits part set) [] (shares.each part (each_in_part bits number (record { some = some; few = few }) short)))
     ∙ part_has bits set number
 
-map_alike : {X Y : Type 0} (f g : X → Y) (P : X → Type 0) → ((x : X) → P x → f x ≡ g x) → (xs : List X) → All P xs → map f xs ≡ map g xs
+pub map_alike : {X Y : Type 0} (f g : X → Y) (P : X → Type 0) → ((x : X) → P x → f x ≡ g x) → (xs : List X) → All P xs → map f xs ≡ map g xs
 map_alike f g P same [] all = refl
 map_alike f g P same (x ∷ xs) all = ap₂ (λ y ys. y ∷ ys) (same x (All-head P x xs all)) (map_alike f g P same xs (All-tail P x xs all))
 

@@ -1,7 +1,8 @@
 pub mod Beside
-mod Found
+pub mod Found
 mod Numbers
 mod Playing
+mod Ready
 pub mod Shares
 mod Stages
 mod Told

@@ -1,17 +1,8 @@
--- Numbers of 64 bits, and the parts where they go.
-use Rattle.std.proofs.Common.{◌≡◌, ◌+◌, ◌/◌, ◌^◌, ◌<◌, ◌≤◌, ℕ, zero, suc, All, List, Some, arith, length, slice_get, subst, sym, take}
+-- Numbers of 64 bits, and how many parts there are.
+use Rattle.std.proofs.Common.{◌≡◌, ◌+◌, ◌^◌, ◌<◌, ◌≤◌, ℕ, zero, suc, All, List, Some, arith, length, slice_get, subst, sym, take}
 use Rattle.std.proofs.lemmas.List.Elements.{All-push}
 use Rattle.phase_kind.proofs.Counts.{something_there}
 use Rattle.phase_kind.proofs.Trays.{take_next}
-use Rattle.store_spec.specs.Parts.{part_of}
-
--- a number of 64 bits goes to one of the parts
-pub goes_within : (bits number : ℕ) → 1 ≤ bits → bits ≤ 3 → number < 2 ^ 64 → part_of bits number < 2 ^ bits
-goes_within zero number some few short = absurd (omega (arith, some))
-goes_within (suc zero) number some few short = let lt : number < 18446744073709551616 = short in let here : number / 9223372036854775808 < 2 = omega (arith, lt) in here
-goes_within (suc (suc zero)) number some few short = let lt : number < 18446744073709551616 = short in let here : number / 4611686018427387904 < 4 = omega (arith, lt) in here
-goes_within (suc (suc (suc zero))) number some few short = let lt : number < 18446744073709551616 = short in let here : number / 2305843009213693952 < 8 = omega (arith, lt) in here
-goes_within (suc (suc (suc (suc n)))) number some few short = absurd (omega (arith, few))
 
 -- there are 8 parts at most
 pub few_parts : (bits : ℕ) → bits ≤ 3 → 2 ^ bits ≤ 8

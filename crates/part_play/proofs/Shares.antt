@@ -9,8 +9,8 @@ use Rattle.std.specs.List.{Contains, filter, list_any}
 use Rattle.std.specs.Prelude.{◌==◌}
 use Rattle.ballot_record.proofs.BallotSets.{same_members}
 use Rattle.part_play.proofs.Beside.{filter_mapped}
-use Rattle.part_play.proofs.Numbers.{goes_within}
 use Rattle.part_play.specs.Plays.{AreSharesOf, HoldTheirOwn, PlaysCastingInParts, PlaysWithdrawingInParts}
+use Rattle.partition_store.proofs.Shares.{each_in_part}
 use Rattle.phase_delete.proofs.Left.{left_alike}
 use Rattle.phase_kind.proofs.Counts.{something_there}
 use Rattle.phase_play.proofs.Rows.{map_twice}
@@ -71,7 +71,7 @@ module _ (e : Election) (bits : ℕ) (some : 1 ≤ bits) (few : bits ≤ 3) wher
   among xs ys set same b c =
       let valid = All-contains (IsValid e) xs b set.valid c in
       let part = part_of bits b.number in
-      let below = goes_within bits b.number some few valid.short_number in
+      let below = each_in_part bits b.number (record { some = some; few = few }) valid.short_number in
       let here = contains-filter (belongs bits part) xs b c (eq-eqb part part refl) in
       (from_filter (belongs bits part) ys b (subst (λ (l : List Ballot). Contains l b) (same part below) here)).0
 

@@ -12,7 +12,7 @@ use Rattle.part_play.specs.Several.{AreAllShared, AreReady, HasEnded, HaveBegun,
 use Rattle.phase_kind.proofs.Counts.{something_there}
 use Rattle.phase_kind.proofs.Planned.{column_belongs, holds_at, length-column, mapped_at, new_in_team, new_teams, row_at, same_at_each, zipped_at, zipped_there}
 use Rattle.phase_kind.proofs.Shared.{goes_within}
-use Rattle.phase_kind.proofs.Trays.{firsts_of-zip, seconds_of-zip, zip_more}
+use Rattle.phase_kind.proofs.Trays.{zip_more}
 use Rattle.phase_kind.specs.Phase.{Phase}
 use Rattle.phase_kind.specs.Table.{IsTurned}
 use Rattle.phase_kind.specs.Team.{AreSharedOut, GoesWithin, HaveFinished, IsTeam, those_of}
@@ -32,13 +32,6 @@ pub zip_maps : {A B C D : Type 0} (f : A → C) (g : B → D) (xs : List A) (ys 
 zip_maps f g [] ys = refl
 zip_maps f g (x ∷ xs) [] = refl
 zip_maps f g (x ∷ xs) (y ∷ ys) = ap (λ l. (f x, g y) ∷ l) (zip_maps f g xs ys)
-
--- the two sides of what a loop over two lists took
-pub firsts : {X Y Z : Type 0} (f : Z → X) (g : Z → Y) (zs : List Z) (xs : List X) (ys : List Y) → map (λ z. (f z, g z)) zs ≡ zip xs ys → length ys ≡ length xs → map f zs ≡ xs
-firsts {X} {Y} f g zs xs ys both same = sym (map-map (λ (p : X × Y). p.0) (λ z. (f z, g z)) zs) ∙ ap (map (λ (p : X × Y). p.0)) both ∙ firsts_of-zip xs ys same
-
-pub seconds : {X Y Z : Type 0} (f : Z → X) (g : Z → Y) (zs : List Z) (xs : List X) (ys : List Y) → map (λ z. (f z, g z)) zs ≡ zip xs ys → length ys ≡ length xs → map g zs ≡ ys
-seconds {X} {Y} f g zs xs ys both same = sym (map-map (λ (p : X × Y). p.1) (λ z. (f z, g z)) zs) ∙ ap (map (λ (p : X × Y). p.1)) both ∙ seconds_of-zip xs ys same
 
 -- what stands where such a loop is
 pub taken_there : {X Y : Type 0} (xs : List X) (ys : List Y) (place : ℕ) (x : X) (y : Y) → place < length (zip xs ys) → (x, y) ≡ get_or (zip xs ys) place (x, y) → slice_get (zip xs ys) place ≡ Some (x, y)
@@ -73,23 +66,21 @@ module _ {I : Type 0} (goes_to : I → ℕ) (places : ℕ) where
     orders_are = ap₂ (λ (l : List (List ℕ)) (o : List ℕ). l ++ o ∷ []) shared.orders_are is ∙ sym (map_push (map goes_to) work list);
   }
 
-  -- the same, where a loop took them
-  pub next_shared : {L Y O : Type 0} (items : L → List I) (lists_in : Y → List (List I)) (order_in : O → List ℕ) (yielded : List L) (list : L) (rows rows_now : List Y) (orders orders_now : List O) (row : Y) (order : O)
-      → AreAllShared goes_to places (map items yielded) (map lists_in rows) (map order_in orders) → rows_now ≡ rows ++ row ∷ [] → orders_now ≡ orders ++ order ∷ []
-      → AreSharedOut goes_to places (items list) (lists_in row) → order_in order ≡ map goes_to (items list)
-      → AreAllShared goes_to places (map items (yielded ++ list ∷ [])) (map lists_in rows_now) (map order_in orders_now)
-  next_shared items lists_in order_in yielded list rows rows_now orders orders_now row order shared pushed more one is =
-      let work_is = map_push items yielded list in
+  -- the same, where they are pushed
+  pub next_shared : {Y O : Type 0} (lists_in : Y → List (List I)) (order_in : O → List ℕ) (work : List (List I)) (list : List I) (rows rows_now : List Y) (orders orders_now : List O) (row : Y) (order : O)
+      → AreAllShared goes_to places work (map lists_in rows) (map order_in orders) → rows_now ≡ rows ++ row ∷ [] → orders_now ≡ orders ++ order ∷ []
+      → AreSharedOut goes_to places list (lists_in row) → order_in order ≡ map goes_to list
+      → AreAllShared goes_to places (work ++ list ∷ []) (map lists_in rows_now) (map order_in orders_now)
+  next_shared lists_in order_in work list rows rows_now orders orders_now row order shared pushed more one is =
       let rows_are = ap (map lists_in) pushed ∙ map_push lists_in rows row in
       let orders_are = ap (map order_in) more ∙ map_push order_in orders order in
-      subst (λ (w : List (List I)). AreAllShared goes_to places w (map lists_in rows_now) (map order_in orders_now)) (sym work_is)
-      (subst (λ (r : List (List (List I))). AreAllShared goes_to places (map items yielded ++ items list ∷ []) r (map order_in orders_now)) (sym rows_are)
-      (subst (λ (o : List (List ℕ)). AreAllShared goes_to places (map items yielded ++ items list ∷ []) (map lists_in rows ++ lists_in row ∷ []) o) (sym orders_are)
-      (one_shared (map items yielded) (map lists_in rows) (map order_in orders) (items list) (lists_in row) (order_in order) shared one is)))
+      subst (λ (r : List (List (List I))). AreAllShared goes_to places (work ++ list ∷ []) r (map order_in orders_now)) (sym rows_are)
+      (subst (λ (o : List (List ℕ)). AreAllShared goes_to places (work ++ list ∷ []) (map lists_in rows ++ lists_in row ∷ []) o) (sym orders_are)
+      (one_shared work (map lists_in rows) (map order_in orders) list (lists_in row) (order_in order) shared one is))
 
   -- each list is shared out to as many as there are places
-  pub shared_long : (work : List (List I)) (rows : List (List (List I))) (orders : List (List ℕ)) → AreAllShared goes_to places work rows orders → All (λ row. length row ≡ places) rows
-  shared_long work rows orders shared k d within =
+  pub rows_shared : (work : List (List I)) (rows : List (List (List I))) (orders : List (List ℕ)) → AreAllShared goes_to places work rows orders → All (λ row. length row ≡ places) rows
+  rows_shared work rows orders shared k d within =
       let row = get_or rows k d in
       let list = something_there work k (omega (arith, within, shared.as_many)) in
       (holds_at Shared (zip work rows) k (list.0, row) shared.each (zipped_there work rows k list.0 row list.1 (slice_get-get_or rows k d within))).as_many
@@ -159,20 +150,16 @@ one_begun {V} {I} {R} fresh stores plans phases rows store plan phase row begun 
       ∙ ap (map (new_row fresh)) (sym (zip_more phases plans phase plan (as_many_plans fresh stores plans phases rows begun)));
 }
 
--- the same, where a loop took them
-pub next_begun : {V I R Y T : Type 0} (fresh : V) (store_in : Y → Contents) (plan_in : Y → List (List I)) (workers_of : T → List (WorkerView V I R)) (yielded : List Y) (y : Y) (phases phases_now : List Phase) (rows rows_now : List T) (phase : Phase) (row : T)
-    → HaveBegun fresh (map store_in yielded) (map plan_in yielded) phases (map workers_of rows) → phases_now ≡ phases ++ phase ∷ [] → rows_now ≡ rows ++ row ∷ []
-    → phase.base ≡ store_in y → phase.words.seats ≡ length (plan_in y) → workers_of row ≡ map (worker_with fresh phase) (plan_in y)
-    → HaveBegun fresh (map store_in (yielded ++ y ∷ [])) (map plan_in (yielded ++ y ∷ [])) phases_now (map workers_of rows_now)
-next_begun {V} {I} {R} fresh store_in plan_in workers_of yielded y phases phases_now rows rows_now phase row begun pushed more base seats is =
-    let stores_are = map_push store_in yielded y in
-    let plans_are = map_push plan_in yielded y in
+-- the same, where they are pushed
+pub next_begun : {V I R T : Type 0} (fresh : V) (workers_of : T → List (WorkerView V I R)) (stores : List Contents) (store : Contents) (plans : List (List (List I))) (plan : List (List I)) (phases phases_now : List Phase) (rows rows_now : List T) (phase : Phase) (row : T)
+    → HaveBegun fresh stores plans phases (map workers_of rows) → phases_now ≡ phases ++ phase ∷ [] → rows_now ≡ rows ++ row ∷ []
+    → phase.base ≡ store → phase.words.seats ≡ length plan → workers_of row ≡ map (worker_with fresh phase) plan
+    → HaveBegun fresh (stores ++ store ∷ []) (plans ++ plan ∷ []) phases_now (map workers_of rows_now)
+next_begun {V} {I} {R} fresh workers_of stores store plans plan phases phases_now rows rows_now phase row begun pushed more base seats is =
     let rows_are = ap (map workers_of) more ∙ map_push workers_of rows row in
-    subst (λ (s : List Contents). HaveBegun fresh s (map plan_in (yielded ++ y ∷ [])) phases_now (map workers_of rows_now)) (sym stores_are)
-    (subst (λ (p : List (List (List I))). HaveBegun fresh (map store_in yielded ++ store_in y ∷ []) p phases_now (map workers_of rows_now)) (sym plans_are)
-    (subst (λ (p : List Phase). HaveBegun fresh (map store_in yielded ++ store_in y ∷ []) (map plan_in yielded ++ plan_in y ∷ []) p (map workers_of rows_now)) (sym pushed)
-    (subst (λ (r : List (List (WorkerView V I R))). HaveBegun fresh (map store_in yielded ++ store_in y ∷ []) (map plan_in yielded ++ plan_in y ∷ []) (phases ++ phase ∷ []) r) (sym rows_are)
-    (one_begun fresh (map store_in yielded) (map plan_in yielded) phases (map workers_of rows) (store_in y) (plan_in y) phase (workers_of row) begun base seats is))))
+    subst (λ (p : List Phase). HaveBegun fresh (stores ++ store ∷ []) (plans ++ plan ∷ []) p (map workers_of rows_now)) (sym pushed)
+    (subst (λ (r : List (List (WorkerView V I R))). HaveBegun fresh (stores ++ store ∷ []) (plans ++ plan ∷ []) (phases ++ phase ∷ []) r) (sym rows_are)
+    (one_begun fresh stores plans phases (map workers_of rows) store plan phase (workers_of row) begun base seats is))
 
 -- as many workers in each row as it has lists
 pub rows_long : {V I R : Type 0} (fresh : V) (stores : List Contents) (plans : List (List (List I))) (phases : List Phase) (rows : List (List (WorkerView V I R))) (n : ℕ) → HaveBegun fresh stores plans phases rows → All (λ plan. length plan ≡ n) plans → All (λ row. length row ≡ n) rows
@@ -324,19 +311,15 @@ module _ {V I R F : Type 0} (closes : Contents → List (List (Told I R)) → Li
         each = subst (All Ends) (sym one_more) (All-push Ends (zip (zip phases columns) (zip stores told)) ((phase, column), (store, finals)) ended.each one);
       }
 
-  -- the same, where a loop took them
-  pub next_ended : {Y T : Type 0} (phase_in : Y → Phase) (workers_in : Y → List (WorkerView V I R)) (finals_in : T → List (List F)) (yielded : List Y) (y : Y) (stores stores_now : List Contents) (told told_now : List T) (store : Contents) (finals : T)
-      → HaveEnded closes (map phase_in yielded) (map workers_in yielded) stores (map finals_in told) → stores_now ≡ stores ++ store ∷ [] → told_now ≡ told ++ finals ∷ [] → HasEnded closes (phase_in y) (workers_in y) store (finals_in finals)
-      → HaveEnded closes (map phase_in (yielded ++ y ∷ [])) (map workers_in (yielded ++ y ∷ [])) stores_now (map finals_in told_now)
-  next_ended phase_in workers_in finals_in yielded y stores stores_now told told_now store finals ended pushed more one =
-      let phases_are = map_push phase_in yielded y in
-      let columns_are = map_push workers_in yielded y in
+  -- the same, where they are pushed
+  pub next_ended : {T : Type 0} (finals_in : T → List (List F)) (phases : List Phase) (phase : Phase) (columns : List (List (WorkerView V I R))) (column : List (WorkerView V I R)) (stores stores_now : List Contents) (told told_now : List T) (store : Contents) (finals : T)
+      → HaveEnded closes phases columns stores (map finals_in told) → length columns ≡ length phases → stores_now ≡ stores ++ store ∷ [] → told_now ≡ told ++ finals ∷ [] → HasEnded closes phase column store (finals_in finals)
+      → HaveEnded closes (phases ++ phase ∷ []) (columns ++ column ∷ []) stores_now (map finals_in told_now)
+  next_ended finals_in phases phase columns column stores stores_now told told_now store finals ended same pushed more one =
       let told_are = ap (map finals_in) more ∙ map_push finals_in told finals in
-      subst (λ (p : List Phase). HaveEnded closes p (map workers_in (yielded ++ y ∷ [])) stores_now (map finals_in told_now)) (sym phases_are)
-      (subst (λ (w : List (List (WorkerView V I R))). HaveEnded closes (map phase_in yielded ++ phase_in y ∷ []) w stores_now (map finals_in told_now)) (sym columns_are)
-      (subst (λ (s : List Contents). HaveEnded closes (map phase_in yielded ++ phase_in y ∷ []) (map workers_in yielded ++ workers_in y ∷ []) s (map finals_in told_now)) (sym pushed)
-      (subst (λ (t : List (List (List F))). HaveEnded closes (map phase_in yielded ++ phase_in y ∷ []) (map workers_in yielded ++ workers_in y ∷ []) (stores ++ store ∷ []) t) (sym told_are)
-      (one_ended (map phase_in yielded) (map workers_in yielded) stores (map finals_in told) (phase_in y) (workers_in y) store (finals_in finals) ended (length-map yielded workers_in ∙ sym (length-map yielded phase_in)) one))))
+      subst (λ (s : List Contents). HaveEnded closes (phases ++ phase ∷ []) (columns ++ column ∷ []) s (map finals_in told_now)) (sym pushed)
+      (subst (λ (t : List (List (List F))). HaveEnded closes (phases ++ phase ∷ []) (columns ++ column ∷ []) (stores ++ store ∷ []) t) (sym told_are)
+      (one_ended phases columns stores (map finals_in told) phase column store (finals_in finals) ended same one))
 
   -- each phase is closed over the items that went there
   pub all_closed : {T : Type 0} (goes_to : I → ℕ) (workers_of : T → List (WorkerView V I R)) (rests : V → Type 0) (phases : List Phase) (before after : List T) (orders : List (List ℕ)) (work : List (List I)) (columns : List (List (WorkerView V I R))) (stores : List Contents) (told : List (List (List F)))

@@ -49,6 +49,15 @@ fn held<T: Turns>(
     is_held(store, number)
 }
 
+/// A place for each of so many answers.
+fn places_of(alloc: Global, count: usize) -> Result<Vec<bool>, Memory>
+    ensures { IfOk result (λ answers. vec_len answers ≡ count) }
+{
+    let mut answers = Vec::with_capacity(alloc, count.saturating_add(APART))?;
+    answers.resize(count, false)?;
+    Ok(answers)
+}
+
 /// A place for the answer to each number of each list, so that no worker takes memory.
 fn places(alloc: Global, work: &[Vec<u64>]) -> Result<Vec<Vec<bool>>, Memory>
     ensures { IfOk result
@@ -56,9 +65,7 @@ fn places(alloc: Global, work: &[Vec<u64>]) -> Result<Vec<Vec<bool>>, Memory>
 {
     let mut found = Vec::with_capacity(alloc, work.len())?;
     for list in work {
-        let mut answers = Vec::with_capacity(alloc, list.len() + APART)?;
-        answers.resize(list.len(), false)?;
-        found.push(answers)?;
+        found.push(places_of(alloc, list.len())?)?;
     }
     Ok(found)
 }

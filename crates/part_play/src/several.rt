@@ -1,15 +1,68 @@
 //! A phase of each of several stores, all open at once, from its begin to its close.
 
+ghost use Rattle.body_store.specs.Contents.{Contents};
 ghost use Rattle.part_play.specs.Several.{AnswersEach, AreAllShared, AreAllTold, AreByPlaces, AreReady, HasPlayed, HaveBegun, HaveClosed, HaveEnded, HaveWork};
+ghost use Rattle.phase_kind.specs.Phase.{Phase};
 ghost use Rattle.phase_kind.specs.Team.{AreByPlace, AreInOrder, GoesWithin};
-ghost use Rattle.phase_kind.specs.Worker.{AreAll};
-ghost use Rattle.std.specs.Prelude.{◌≡◌, ◌≤◌, ℕ, All, IfOk, List, length, map, zip};
+ghost use Rattle.phase_kind.specs.Worker.{AreAll, WorkerView};
+ghost use Rattle.std.specs.Prelude.{◌≡◌, ◌≤◌, ◌++◌, ◌∷◌, ℕ, [], All, IfOk, List, OnOk, length, map, zip};
 
 use body_store::Closed;
 use outside_io::{Memory, Turns};
 use phase_kind::{Kind, PhaseOf, Spread, Worker, in_order, run_several, share_out, turned};
 use std::alloc::Global;
 use std::thread::Threads;
+
+/// Two empty lists, each with room for so many entries.
+fn two_lists<A: Drop, B: Drop>(alloc: Global, places: usize) -> Result<(Vec<A>, Vec<B>), Memory>
+    ensures first { IfOk result (λ lists. lists.0.items ≡ []) }
+    ensures second { IfOk result (λ lists. lists.1.items ≡ []) }
+{
+    let first = Vec::with_capacity(alloc, places)?;
+    let second = Vec::with_capacity(alloc, places)?;
+    Ok((first, second))
+}
+
+/// One entry more in each of two lists.
+fn push_both<A: Drop, B: Drop>(
+    firsts: &mut Vec<A>,
+    first: A,
+    seconds: &mut Vec<B>,
+    second: B,
+) -> Result<(), Memory>
+    ensures first { OnOk result (firsts.new.items ≡ firsts.old.items ++ first ∷ []) }
+    ensures second { OnOk result (seconds.new.items ≡ seconds.old.items ++ second ∷ []) }
+{
+    firsts.push(first)?;
+    seconds.push(second)?;
+    Ok(())
+}
+
+/// One list more shared out among stores, and its order.
+fn share_one<S: Spread, K: Kind>(
+    alloc: Global,
+    stores: &[Closed],
+    spread: &S,
+    list: &K::List,
+    rows: &mut Vec<Vec<K::List>>,
+    orders: &mut Vec<Vec<u8>>,
+) -> Result<(), Memory>
+    requires within { GoesWithin (λ x. S.to spread.now (K.number x)) (length stores.now) (K.items list.now) }
+    requires is_of { All (λ store. K.is_of store list.now) stores.now }
+    ensures shared { OnOk result ((work : List (List K.Item))
+        → AreAllShared (λ x. S.to spread.now (K.number x)) (length stores.now) work
+        (map (λ row. map K.items row.items) rows.old.items) (map (λ order. order.items) orders.old.items)
+        → AreAllShared (λ x. S.to spread.now (K.number x)) (length stores.now)
+        (work ++ K.items list.now ∷ []) (map (λ row. map K.items row.items) rows.new.items)
+        (map (λ order. order.items) orders.new.items)) }
+    ensures is_of { OnOk result (
+        All (λ row. All (λ at. K.is_of at.0 at.1) (zip stores.now row.items)) rows.old.items
+        → All (λ row. All (λ at. K.is_of at.0 at.1) (zip stores.now row.items)) rows.new.items) }
+{
+    let (row, order) = share_out::<S, K>(alloc, stores, spread, list)?;
+    push_both(rows, row, orders, order)?;
+    Ok(())
+}
 
 /// All lists shared out among stores, one after another: each is given up before the next is looked at.
 fn all_shared<S: Spread, K: Kind>(
@@ -27,14 +80,35 @@ fn all_shared<S: Spread, K: Kind>(
     ensures is_of { IfOk result (λ out. All (λ row. All (λ at. K.is_of at.0 at.1) (zip stores.now row.items))
         out.0.items) }
 {
-    let mut rows = Vec::with_capacity(alloc, work.len())?;
-    let mut orders = Vec::with_capacity(alloc, work.len())?;
+    let (mut rows, mut orders) = two_lists(alloc, work.len())?;
     for list in work {
-        let (row, order) = share_out::<S, K>(alloc, stores, spread, &list)?;
-        rows.push(row)?;
-        orders.push(order)?;
+        share_one::<S, K>(alloc, stores, spread, &list, &mut rows, &mut orders)?;
     }
     Ok((rows, orders))
+}
+
+/// The phase of one store more begins, with a worker for each of its lists.
+fn begin_one<K: Kind>(
+    alloc: Global,
+    store: Closed,
+    lists: Vec<K::List>,
+    phases: &mut Vec<PhaseOf<K>>,
+    rows: &mut Vec<Vec<Worker<K>>>,
+) -> Result<(), Memory>
+    requires some { 1 ≤ length lists.items }
+    requires few { length lists.items ≤ 64 }
+    requires is_of { All (λ list. K.is_of store list) lists.items }
+    ensures { OnOk result ((stores : List Contents) (plans : List (List (List K.Item)))
+        → HaveBegun K.fresh stores plans phases.old.items (map (λ row. row.items) rows.old.items)
+        → HaveBegun K.fresh (stores ++ store ∷ []) (plans ++ map K.items lists.items ∷ []) phases.new.items
+        (map (λ row. row.items) rows.new.items)) }
+{
+    let (phase, workers) = match PhaseOf::begin_with(alloc, store, lists) {
+        Ok(begun) => begun,
+        Err((_, memory)) => return Err(memory),
+    };
+    push_both(phases, phase, rows, workers)?;
+    Ok(())
 }
 
 /// A phase of each store, with a worker for each of its lists.
@@ -50,15 +124,14 @@ fn begun<K: Kind>(
     ensures { IfOk result (λ made. HaveBegun K.fresh stores.items
         (map (λ row. map K.items row.items) lists.items) made.0.items (map (λ row. row.items) made.1.items)) }
 {
-    let mut phases = Vec::with_capacity(alloc, stores.len())?;
-    let mut rows = Vec::with_capacity(alloc, stores.len())?;
-    for (store, row) in stores.into_iter().zip(lists) {
-        let (phase, workers) = match PhaseOf::begin_with(alloc, store, row) {
-            Ok(begun) => begun,
-            Err((_, memory)) => return Err(memory),
+    let (mut phases, mut rows) = two_lists(alloc, stores.len())?;
+    let mut rest = lists.into_iter();
+    for store in stores {
+        let row = match rest.next() {
+            Some(row) => row,
+            None => unreachable!(),
         };
-        phases.push(phase)?;
-        rows.push(workers)?;
+        begin_one::<K>(alloc, store, row, &mut phases, &mut rows)?;
     }
     Ok((phases, rows))
 }
@@ -75,8 +148,8 @@ fn ready<S: Spread, K: Kind>(
     requires within { All (λ list. GoesWithin (λ x. S.to spread.now (K.number x)) (length stores.items)
         (K.items list)) work.items }
     requires is_of { All (λ list. All (λ store. K.is_of store list) stores.items) work.items }
-    ensures ready { IfOk result (λ made. AreReady stores.items made.0.items (map (λ team. team.items) made.1.items)
-        (map (λ order. order.items) made.2.items)) }
+    ensures ready { IfOk result (λ made. AreReady stores.items made.0.items
+        (map (λ team. team.items) made.1.items) (map (λ order. order.items) made.2.items)) }
     ensures work { IfOk result (λ made. HaveWork (λ x. S.to spread.now (K.number x)) (map K.items work.items)
         (map (λ team. team.items) made.1.items)) }
     ensures orders { IfOk result (λ made. map (λ order. order.items) made.2.items
@@ -87,6 +160,33 @@ fn ready<S: Spread, K: Kind>(
     let (phases, rows) = begun::<K>(alloc, stores, lists)?;
     let teams = turned(alloc, orders.len(), rows)?;
     Ok((phases, teams, orders))
+}
+
+/// One phase more is closed: the store after it, and its final replies, list by list.
+fn close_one<K: Kind>(
+    alloc: Global,
+    phase: PhaseOf<K>,
+    workers: Vec<Worker<K>>,
+    stores: &mut Vec<Closed>,
+    told: &mut Vec<Vec<Vec<K::Final>>>,
+) -> Result<(), Memory>
+where
+    K::Final: Drop,
+    requires all { length workers.items ≡ phase.words.seats }
+    requires belong { All (λ worker. worker.phase ≡ phase) workers.items }
+    requires idle { All (λ worker. worker.waiting ≡ []) workers.items }
+    ensures { OnOk result ((phases : List Phase) (columns : List (List (WorkerView K.Sight K.Item K.Reply)))
+        → length columns ≡ length phases → HaveEnded K.closes phases columns stores.old.items
+        (map (λ finals. map (λ list. list.items) finals.items) told.old.items)
+        → HaveEnded K.closes (phases ++ phase ∷ []) (columns ++ workers.items ∷ []) stores.new.items
+        (map (λ finals. map (λ list. list.items) finals.items) told.new.items)) }
+{
+    let (store, finals) = match phase.close(alloc, workers) {
+        Ok(ended) => ended,
+        Err((_, memory)) => return Err(memory),
+    };
+    push_both(stores, store, told, finals)?;
+    Ok(())
 }
 
 /// All phases closed: the store after each, and its final replies, list by list.
@@ -103,15 +203,14 @@ where
         (map (λ column. column.items) columns.items) ended.0.items
         (map (λ finals. map (λ list. list.items) finals.items) ended.1.items)) }
 {
-    let mut stores = Vec::with_capacity(alloc, phases.len())?;
-    let mut told = Vec::with_capacity(alloc, phases.len())?;
-    for (phase, column) in phases.into_iter().zip(columns) {
-        let (store, finals) = match phase.close(alloc, column) {
-            Ok(ended) => ended,
-            Err((_, memory)) => return Err(memory),
+    let (mut stores, mut told) = two_lists(alloc, phases.len())?;
+    let mut rest = columns.into_iter();
+    for phase in phases {
+        let column = match rest.next() {
+            Some(column) => column,
+            None => unreachable!(),
         };
-        stores.push(store)?;
-        told.push(finals)?;
+        close_one::<K>(alloc, phase, column, &mut stores, &mut told)?;
     }
     Ok((stores, told))
 }

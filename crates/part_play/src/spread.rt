@@ -4,6 +4,7 @@ ghost use Rattle.phase_kind.specs.Team.{GoesWithin};
 ghost use Rattle.std.specs.Prelude.{◌≡◌, ◌≤◌, ◌<◌, ◌^◌, All, length};
 ghost use Rattle.store_spec.specs.Parts as parts;
 
+use partition_store::part_of;
 use phase_kind::{Kind, Spread};
 use std::marker::Model;
 
@@ -51,15 +52,6 @@ impl Spread for ByParts {
     fn place(&self, number: u64) -> usize {
         part_of(self.bits, number)
     }
-}
-
-/// The part of a number, counted from 0: its top bits.
-fn part_of(bits: u8, number: u64) -> usize
-    requires some { 1 ≤ bits }
-    requires few { bits ≤ 3 }
-    ensures { result ≡ parts.part_of bits number }
-{
-    (number >> (64 - bits)) as usize
 }
 
 /// Numbers have 64 bits.

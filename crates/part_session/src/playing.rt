@@ -1,6 +1,6 @@
 //! A phase of a store in parts, played to its close.
 
-ghost use Rattle.partition_store.specs.Parted.{IsParted, joined};
+ghost use Rattle.partition_store.specs.Parted.{joined};
 ghost use Rattle.phase_gate.specs.Replies.{ClosesBy, words_of};
 ghost use Rattle.phase_gate.specs.Standing.{MayWait};
 ghost use Rattle.phase_gate.specs.Work.{AreOf, phase_of};
@@ -33,7 +33,6 @@ fn cast<R: Threads + Sync, T: Turns>(
     requires elections { All (λ list. list.election ≡ store.election) lists.items }
     ensures election { IfOk result (λ played. played.0.election ≡ store.election) }
     ensures bits { IfOk result (λ played. played.0.bits ≡ store.bits) }
-    ensures parted { IfOk result (λ played. IsParted played.0) }
     ensures closes { IfOk result (λ played. ClosesBy (of_parts store.bits store.election) (joined store.sets)
         (phases.Casts (map (λ list. list.ballots) lists.items))
         (closing (words_of (replies.Cast played.1)) (joined played.0.sets))) }
@@ -59,7 +58,6 @@ fn withdraw<R: Threads + Sync, T: Turns>(
     requires few_lists { length lists.items ≤ 64 }
     ensures election { IfOk result (λ played. played.0.election ≡ store.election) }
     ensures bits { IfOk result (λ played. played.0.bits ≡ store.bits) }
-    ensures parted { IfOk result (λ played. IsParted played.0) }
     ensures closes { IfOk result (λ played. ClosesBy (of_parts store.bits store.election) (joined store.sets)
         (phases.Withdraws (map (λ list. list.items) lists.items))
         (closing (words_of (replies.Withdrawn played.1)) (joined played.0.sets))) }
@@ -82,7 +80,6 @@ fn find<R: Threads + Sync, T: Turns>(
     turns: &T,
 ) -> Result<(PartStore, Vec<Vec<bool>>), Memory>
     ensures store { IfOk result (λ found. found.0 ≡ store) }
-    ensures parted { IfOk result (λ found. IsParted found.0) }
     ensures closes { IfOk result (λ found. ClosesBy (of_parts store.bits store.election) (joined store.sets)
         (phases.Finds (map (λ list. list.items) lists.now))
         (closing (words_of (replies.Found found.1)) (joined store.sets))) }

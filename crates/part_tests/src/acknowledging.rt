@@ -8,7 +8,7 @@ ghost use Rattle.store_spec.specs.Ballot.{Ballot};
 ghost use Rattle.store_spec.specs.Disk.{disk_model};
 ghost use Rattle.store_spec.specs.Election.{example};
 
-use crate::media::{EMPTY, HIGH, LOW, Set, disk_of, held, medium_of, opened, opening_calls};
+use crate::media::{EMPTY, HIGH, LOW, Set, held, medium_of, opened, opening_calls, two_disks};
 use any_store::{Disks, Store};
 use crash_disk::{Disk, MemoryDisk};
 use image_builder::Scratch;
@@ -17,6 +17,7 @@ use parted_store::{Parts, PartsOf, Two};
 use std::alloc::Global;
 use std::process::Abort;
 use std::test::Fail;
+use std::thread::Threads;
 
 /// Acknowledges a store on disks, and answers the part that failed. Whoever lends them gets each back as its own calls
 /// left it.
@@ -49,8 +50,7 @@ fn three_ballots(
 ) -> Result<PartsOf<Two>, Fail>
     ensures { IfOk result (λ store. store.store.election ≡ example) }
 {
-    let mut first = disk_of(rt, alloc, LOW, 0)?;
-    let mut more = [disk_of(rt, alloc, HIGH, 0)?];
+    let (mut first, mut more) = two_disks(rt, alloc, LOW, HIGH, (0, 0))?;
     opened(alloc, &mut first, &mut more, scratch)
 }
 
@@ -104,18 +104,30 @@ fn assert_left(
     Ok(())
 }
 
-/// Acknowledges three ballots on two empty media of which these calls are to fail; none does at 0. It answers the part
-/// that failed, and how many calls each disk had seen.
+/// Acknowledges three ballots on two empty media, and answers the part that failed.
+fn renewed_on(
+    rt: &impl Abort,
+    alloc: Global,
+    first: &mut MemoryDisk,
+    more: &mut [MemoryDisk],
+) -> Result<Option<usize>, Fail>
+    requires { length more.old ≡ 1 }
+    ensures { length more.new ≡ length more.old }
+{
+    let mut scratch = Scratch::new(alloc)?;
+    let store = three_ballots(rt, alloc, &mut scratch)?;
+    open_and_renew(alloc, &store, first, more, &mut scratch)
+}
+
+/// The same on media of which these calls are to fail; none does at 0. It answers the part that failed, and how many
+/// calls each disk had seen.
 fn renewed_with(
     rt: &impl Abort,
     alloc: Global,
     failing: (u64, u64),
 ) -> Result<(Option<usize>, (u64, u64)), Fail> {
-    let mut scratch = Scratch::new(alloc)?;
-    let store = three_ballots(rt, alloc, &mut scratch)?;
-    let mut first = disk_of(rt, alloc, EMPTY, failing.0)?;
-    let mut more = [disk_of(rt, alloc, EMPTY, failing.1)?];
-    let failed = open_and_renew(alloc, &store, &mut first, &mut more, &mut scratch)?;
+    let (mut first, mut more) = two_disks(rt, alloc, EMPTY, EMPTY, failing)?;
+    let failed = renewed_on(rt, alloc, &mut first, &mut more)?;
     let calls = (first.calls(), more[0].calls());
     assert_left(rt, alloc, failed, &mut first, &mut more)?;
     Ok((failed, calls))
@@ -151,17 +163,30 @@ const TALLY: &str = "tally 3\n\
     choice 2 2 0\n\
     choice 2 3 0\n";
 
+fn assert_exports(rt: &impl Abort, alloc: Global, store: &PartsOf<Two>) -> Result<(), Fail> {
+    let mut lines = MemorySink::new(alloc, 65536, Vec::new(alloc))?;
+    store.export(alloc, &mut lines)?;
+    assert!(rt; lines.bytes() == EXPORT.as_bytes());
+    Ok(())
+}
+
+fn assert_tallies<R: Threads + Sync + Abort>(
+    rt: &R,
+    alloc: Global,
+    store: &PartsOf<Two>,
+) -> Result<(), Fail> {
+    let mut counts = MemorySink::new(alloc, 65536, Vec::new(alloc))?;
+    store.tally(rt, alloc, &mut counts)?;
+    assert!(rt; counts.bytes() == TALLY.as_bytes());
+    Ok(())
+}
+
 #[test]
 fn reports_on_two_parts(rt: HostRuntime) -> Result<(), Fail> {
     let alloc = rt.alloc();
     let mut scratch = Scratch::new(alloc)?;
     let store = three_ballots(&rt, alloc, &mut scratch)?;
     assert!(rt; store.len() == 3);
-    let mut lines = MemorySink::new(alloc, 65536, Vec::new(alloc))?;
-    store.export(alloc, &mut lines)?;
-    assert!(rt; lines.bytes() == EXPORT.as_bytes());
-    let mut counts = MemorySink::new(alloc, 65536, Vec::new(alloc))?;
-    store.tally(&rt, alloc, &mut counts)?;
-    assert!(rt; counts.bytes() == TALLY.as_bytes());
-    Ok(())
+    assert_exports(&rt, alloc, &store)?;
+    assert_tallies(&rt, alloc, &store)
 }

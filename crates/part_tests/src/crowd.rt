@@ -71,10 +71,10 @@ fn crowd(
 
 /// Each part has the 300 ballots that belong there.
 fn assert_full(rt: &impl Abort, stores: &[Closed]) {
-    assert_eq!(rt; stores.len(), 2);
+    assert!(rt; stores.len() == 2);
     for (place, store) in stores.iter().enumerate() {
         let own = if place == 0 { 0 } else { SECOND };
-        assert_eq!(rt; store.len(), 300);
+        assert!(rt; store.len() == 300);
         for number in 1..=300 {
             assert!(rt; store.record_of(number | own).is_some());
         }
@@ -83,15 +83,29 @@ fn assert_full(rt: &impl Abort, stores: &[Closed]) {
 
 /// In the order of a list each ballot is accepted once, and where it comes again at once it is a duplicate.
 fn assert_told(rt: &impl Abort, list: &BallotList, told: &[Final]) {
-    assert_eq!(rt; told.len(), list.len());
+    assert!(rt; told.len() == list.len());
     let mut last = 0;
     for (place, reply) in told.iter().enumerate() {
         assert!(rt; place < list.len());
         let number = list.number(place);
         let wanted = if number == last { Duplicate } else { Accepted };
-        assert_eq!(rt; *reply, wanted);
+        assert!(rt; *reply == wanted);
         last = number;
     }
+}
+
+/// The replies to both lists.
+fn assert_all_told(
+    rt: &impl Abort,
+    alloc: Global,
+    election: &Election,
+    replies: &[Vec<Final>],
+) -> Result<(), Memory> {
+    assert!(rt; replies.len() == 2);
+    for (rest, told) in replies.iter().enumerate() {
+        assert_told(rt, &crowd(rt, alloc, election, rest as u64)?, told);
+    }
+    Ok(())
 }
 
 /// Two tabulators wait for each other, and then cast their lists into both parts.
@@ -107,11 +121,7 @@ fn race<R: Threads + Sync + Abort>(
     ]?;
     let (stores, replies) = casts(rt, alloc, election, work, meeting)?;
     assert_full(rt, &stores);
-    assert_eq!(rt; replies.len(), 2);
-    for (rest, told) in replies.iter().enumerate() {
-        assert_told(rt, &crowd(rt, alloc, election, rest as u64)?, told);
-    }
-    Ok(())
+    assert_all_told(rt, alloc, election, &replies)
 }
 
 #[test]
@@ -122,6 +132,6 @@ fn two_tabulators_in_two_crowds(rt: HostRuntime) -> Result<(), Fail> {
     for _ in 0..200 {
         race(&rt, alloc, &election, &meeting)?;
     }
-    assert_eq!(rt; meeting.met(), 400);
+    assert!(rt; meeting.met() == 400);
     Ok(())
 }

@@ -105,6 +105,19 @@ pub(crate) fn disk_of(
     Ok(MemoryDisk::new(alloc, bytes, failing, ROOM)?)
 }
 
+/// Two disks with such media, of which these calls are to fail; none does at 0.
+pub(crate) fn two_disks(
+    rt: &impl Abort,
+    alloc: Global,
+    one: Edit,
+    other: Edit,
+    failing: (u64, u64),
+) -> Result<(MemoryDisk, [MemoryDisk; 1]), Fail> {
+    let first = disk_of(rt, alloc, one, failing.0)?;
+    let more = [disk_of(rt, alloc, other, failing.1)?];
+    Ok((first, more))
+}
+
 /// Opens the store in two parts whose media two disks have.
 pub(crate) fn opened<A: Disk, B: Disk>(
     alloc: Global,
@@ -137,8 +150,7 @@ pub(crate) fn held(
 
 /// How many calls an opening makes on the disk of each of two empty parts.
 pub(crate) fn opening_calls(rt: &impl Abort, alloc: Global) -> Result<(u64, u64), Fail> {
-    let mut first = disk_of(rt, alloc, EMPTY, 0)?;
-    let mut more = [disk_of(rt, alloc, EMPTY, 0)?];
+    let (mut first, mut more) = two_disks(rt, alloc, EMPTY, EMPTY, (0, 0))?;
     held(alloc, &mut first, &mut more)?;
     Ok((first.calls(), more[0].calls()))
 }

@@ -3,7 +3,7 @@
 ghost use Rattle.std.specs.Prelude.{length};
 ghost use Rattle.partition_store.specs.Parted.{AreFurther};
 
-use crate::media::{EMPTY, Edit, HIGH, LOW, Set, WHOLE, disk_of};
+use crate::media::{EMPTY, Edit, HIGH, LOW, Set, WHOLE, disk_of, two_disks};
 use ballot_record::Election;
 use crash_disk::{Disk, MemoryDisk};
 use image_builder::Scratch;
@@ -45,6 +45,20 @@ fn answer_of(alloc: Global, first: &mut MemoryDisk, more: &mut [MemoryDisk]) -> 
         Ok(store) => Ok(Ok(store.len())),
         Err(fault) => Ok(Err(fault)),
     }
+}
+
+/// The opening of the store whose parts these disks have answers this.
+fn assert_answer(
+    rt: &impl Abort,
+    alloc: Global,
+    first: &mut MemoryDisk,
+    more: &mut [MemoryDisk],
+    wanted: Answer,
+) -> Result<(), Fail>
+    requires { AreFurther (length more.old) }
+{
+    assert!(rt; answer_of(alloc, first, more)? == wanted);
+    Ok(())
 }
 
 /// Two media, and what their opening is to answer.
@@ -113,22 +127,38 @@ const ROWS: [Row; 11] = [
     ),
 ];
 
+/// Media of each kind.
+fn rows() -> [Row; 11] {
+    ROWS
+}
+
+/// Two disks have these media still.
+fn assert_unchanged(
+    rt: &impl Abort,
+    alloc: Global,
+    row: Row,
+    first: &[u8],
+    other: &[u8],
+) -> Result<(), Fail> {
+    let (one, two) = two_disks(rt, alloc, row.0, row.1, (0, 0))?;
+    assert!(rt; first == one.bytes());
+    assert!(rt; other == two[0].bytes());
+    Ok(())
+}
+
 /// Opens two media. Where they are refused, both stay as they were.
 fn assert_row(rt: &impl Abort, alloc: Global, row: Row) -> Result<(), Fail> {
-    let mut first = disk_of(rt, alloc, row.0, 0)?;
-    let mut more = [disk_of(rt, alloc, row.1, 0)?];
-    assert!(rt; answer_of(alloc, &mut first, &mut more)? == row.2);
+    let (mut first, mut more) = two_disks(rt, alloc, row.0, row.1, (0, 0))?;
+    assert_answer(rt, alloc, &mut first, &mut more, row.2)?;
     if row.2.is_err() {
-        let (one, two) = (disk_of(rt, alloc, row.0, 0)?, disk_of(rt, alloc, row.1, 0)?);
-        assert!(rt; first.bytes() == one.bytes());
-        assert!(rt; more[0].bytes() == two.bytes());
+        assert_unchanged(rt, alloc, row, first.bytes(), more[0].bytes())?;
     }
     Ok(())
 }
 
 #[test]
 fn each_kind_of_media(rt: HostRuntime) -> Result<(), Fail> {
-    for row in ROWS {
+    for row in rows() {
         assert_row(&rt, rt.alloc(), row)?;
     }
     Ok(())
@@ -142,11 +172,11 @@ fn calls_of(
     failing: (u64, u64),
     wanted: Answer,
 ) -> Result<(u64, u64), Fail> {
-    let mut first = disk_of(rt, alloc, (Set::Low, TORN), failing.0)?;
-    let mut more = [disk_of(rt, alloc, (Set::High, TORN), failing.1)?];
-    assert!(rt; answer_of(alloc, &mut first, &mut more)? == wanted);
+    let (low, high) = ((Set::Low, TORN), (Set::High, TORN));
+    let (mut first, mut more) = two_disks(rt, alloc, low, high, failing)?;
+    assert_answer(rt, alloc, &mut first, &mut more, wanted)?;
     let calls = (first.calls(), more[0].calls());
-    assert!(rt; answer_of(alloc, &mut first, &mut more)? == Ok(3));
+    assert_answer(rt, alloc, &mut first, &mut more, Ok(3))?;
     Ok(calls)
 }
 

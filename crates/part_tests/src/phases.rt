@@ -9,7 +9,6 @@ use fake_turns::Meeting;
 use outside_io::{Memory, NoTurns, Turns};
 use part_play::{ByParts, Final, play_casting, play_finding, play_withdrawing};
 use std::alloc::Global;
-use std::fmt::Debug;
 use std::process::Abort;
 use std::test::Fail;
 use std::thread::Threads;
@@ -94,18 +93,19 @@ fn finds<R: Threads + Sync>(
     Ok(found)
 }
 
-fn same<T: PartialEq + Debug>(rt: &impl Abort, lists: &[Vec<T>], wanted: &[&[T]]) {
-    assert_eq!(rt; lists.len(), wanted.len());
+/// The replies are these.
+fn same<T: PartialEq>(rt: &impl Abort, lists: &[Vec<T>], wanted: &[&[T]]) {
+    assert!(rt; lists.len() == wanted.len());
     for (list, other) in lists.iter().zip(wanted) {
-        assert_eq!(rt; list.as_slice(), *other);
+        assert!(rt; list.as_slice() == *other);
     }
 }
 
 /// So many ballots are in the parts.
 fn hold(rt: &impl Abort, stores: &[Closed], wanted: &[usize]) {
-    assert_eq!(rt; stores.len(), wanted.len());
+    assert!(rt; stores.len() == wanted.len());
     for (store, count) in stores.iter().zip(wanted) {
-        assert_eq!(rt; store.len(), *count);
+        assert!(rt; store.len() == *count);
     }
 }
 
@@ -180,7 +180,7 @@ fn race<R: Threads + Sync + Abort>(rt: &R, alloc: Global, meeting: &Meeting) -> 
         cast(alloc, &election, &[9, 14, 17, 22, 23, u64::MAX - 1])?,
     ]?;
     let (stores, replies) = casts(rt, alloc, &election, work, meeting)?;
-    assert_eq!(rt; refused(&replies), 1);
+    assert!(rt; refused(&replies) == 1);
     hold(rt, &stores, &[8, 2]);
     Ok(())
 }
@@ -192,6 +192,6 @@ fn two_lists_and_the_last_room_of_a_part(rt: HostRuntime) -> Result<(), Fail> {
     for _ in 0..50 {
         race(&rt, alloc, &meeting)?;
     }
-    assert_eq!(rt; meeting.met(), 100);
+    assert!(rt; meeting.met() == 100);
     Ok(())
 }

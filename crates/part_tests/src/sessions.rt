@@ -5,7 +5,7 @@ ghost use Rattle.any_store.specs.Checkpointed.{AreMedia};
 ghost use Rattle.std.specs.Prelude.{◌≡◌, List, length};
 ghost use Rattle.store_spec.specs.Ballot.{Ballot};
 
-use crate::media::{EMPTY, disk_of, held, opened, opening_calls};
+use crate::media::{EMPTY, held, opened, opening_calls, two_disks};
 use any_store::Disks;
 use crash_disk::{Disk, MemoryDisk};
 use fake_turns::Meeting;
@@ -193,8 +193,7 @@ fn session_with<R: Threads + Sync + Abort, T: Turns>(
     turns: &T,
     out: &mut MemorySink,
 ) -> Result<Ended, Fail> {
-    let mut first = disk_of(rt, alloc, EMPTY, failing.0)?;
-    let mut more = [disk_of(rt, alloc, EMPTY, failing.1)?];
+    let (mut first, mut more) = two_disks(rt, alloc, EMPTY, EMPTY, failing)?;
     let failed = open_and_play(rt, alloc, &mut first, &mut more, script, turns, out)?;
     let calls = (first.calls(), more[0].calls());
     let held = held(alloc, &mut first, &mut more)?;
@@ -247,6 +246,12 @@ fn three_with<R: Threads + Sync + Abort>(
     session_with(rt, alloc, failing, SCRIPT, &NoTurns, &mut out)
 }
 
+/// The checkpoint of this part failed, and the disks hold what they held before it or what it was to leave.
+fn assert_failed(rt: &impl Abort, ended: &Ended, part: usize, before: usize, after: usize) {
+    assert!(rt; ended.failed == Some(part));
+    assert!(rt; ended.held == before || ended.held == after);
+}
+
 #[test]
 fn each_call_of_a_checkpoint_fails_in_turn(rt: HostRuntime) -> Result<(), Fail> {
     let alloc = rt.alloc();
@@ -254,12 +259,12 @@ fn each_call_of_a_checkpoint_fails_in_turn(rt: HostRuntime) -> Result<(), Fail> 
     let calls = three_with(&rt, alloc, (0, 0))?.calls;
     for call in opened.0..calls.0 {
         let ended = three_with(&rt, alloc, (call.saturating_add(1), 0))?;
-        assert!(rt; ended.failed == Some(0) && (ended.held == 0 || ended.held == 2));
+        assert_failed(&rt, &ended, 0, 0, 2);
         assert!(rt; ended.calls.1 == opened.1);
     }
     for call in opened.1..calls.1 {
         let ended = three_with(&rt, alloc, (0, call.saturating_add(1)))?;
-        assert!(rt; ended.failed == Some(1) && (ended.held == 2 || ended.held == 3));
+        assert_failed(&rt, &ended, 1, 2, 3);
         assert!(rt; ended.calls.0 == calls.0);
     }
     Ok(())

@@ -2,7 +2,9 @@ pub mod Columns
 pub mod Counts
 pub mod Listed
 pub mod Planned
+pub mod Queued
 pub mod Sent
 pub mod Shared
+pub mod Taken
 pub mod Teams
 pub mod Trays

@@ -1,13 +1,13 @@
 -- What workers have answered, item by item.
-use Rattle.std.proofs.Common.{◌≡◌, ◌+◌, ◌<◌, ◌++◌, ◌∙◌, [], ◌∷◌, ℕ, ◌-◌, All, List, Some, ap, append-nil, append_assoc, arith, drop, get_or, length, length-append, map, refl, subst, sym, take}
+use Rattle.std.proofs.Common.{◌≡◌, ◌<◌, ◌++◌, ◌∙◌, [], ◌∷◌, ℕ, ◌-◌, All, List, ap, append-nil, append_assoc, arith, drop, get_or, length, map, refl, subst, sym}
 use Rattle.std.proofs.lemmas.List.{get_or_default, map_push}
 use Rattle.std.proofs.lemmas.List.Elements.{All-head, All-tail}
 use Rattle.std.proofs.lemmas.Slice.Zip.{get_or-zip, length-zip}
-use Rattle.std.specs.List.{slice_get, zip}
-use Rattle.phase_kind.proofs.Trays.{none_told, take_next, told_of}
+use Rattle.std.specs.List.{zip}
+use Rattle.phase_kind.proofs.Trays.{none_told, told_of}
 use Rattle.phase_kind.specs.Phase.{Phase}
 use Rattle.phase_kind.specs.Told.{Told, told_in}
-use Rattle.phase_kind.specs.Worker.{HasAnswered, HasFinished, WorkerView, worker_with}
+use Rattle.phase_kind.specs.Worker.{HasFinished, WorkerView, worker_with}
 
 -- nothing is left
 none_left : {X : Type 0} (xs : List X) → length xs ≡ 0 → xs ≡ []
@@ -29,39 +29,6 @@ begun_with {V} {I} {R} fresh view phase given items list replies places phase_is
     ∙ ap (made phase fresh 0 []) waiting
 
 module _ {V I R : Type 0} (rests : V → Type 0) where
-  -- no item
-  pub none_answered : (worker : WorkerView V I R) → rests worker.seat → worker.waiting ≡ [] → HasAnswered rests worker [] worker
-  none_answered worker at_rest idle = record {
-    phase = refl;
-    at_rest = at_rest;
-    room = omega arith;
-    told = [];
-    tray = sym (append-nil worker.tray);
-    items = refl;
-    idle = idle;
-  }
-
-  -- one item more
-  pub joined : (before worker now : WorkerView V I R) (listed : List I) (item : I) (reply : R) → HasAnswered rests before listed worker → now.phase ≡ worker.phase → rests now.seat → now.room + 1 ≡ worker.room → now.tray ≡ worker.tray ++ told_of item reply ∷ [] → now.waiting ≡ []
-      → HasAnswered rests before (listed ++ item ∷ []) now
-  joined before worker now listed item reply h phase at_rest room is idle = record {
-    phase = phase ∙ h.phase;
-    at_rest = at_rest;
-    room = omega (arith, h.room, room, length-append listed (item ∷ []));
-    told = h.told ++ told_of item reply ∷ [];
-    tray = is ∙ ap (λ l. l ++ told_of item reply ∷ []) h.tray ∙ append_assoc before.tray h.told (told_of item reply ∷ []);
-    items = map_push (λ (t : Told I R). t.item) h.told (told_of item reply) ∙ ap (λ l. l ++ item ∷ []) h.items;
-    idle = idle;
-  }
-
-  -- a list up to one item more
-  pub one_more : (before worker now : WorkerView V I R) (list : List I) (place : ℕ) (item : I) (reply : R) → HasAnswered rests before (take place list) worker → now.phase ≡ worker.phase → rests now.seat → now.room + 1 ≡ worker.room → slice_get list place ≡ Some item → now.tray ≡ worker.tray ++ told_of item reply ∷ [] → now.waiting ≡ []
-      → HasAnswered rests before (take (place + 1) list) now
-  one_more before worker now list place item reply h phase at_rest room there is idle =
-      subst (λ (l : List I). HasAnswered rests before l now) {x = take place list ++ item ∷ []} {y = take (place + 1) list} (sym (take_next list place item there)) (joined before worker now (take place list) item reply h phase at_rest room is idle)
-
-  -- ---- what waits
-
   -- The worker has answered the first of those that waited, and the others still wait.
   pub record IsUnderWay (before now : WorkerView V I R) : Type 0 where
     pub phase : now.phase ≡ before.phase

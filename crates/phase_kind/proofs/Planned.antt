@@ -1,5 +1,5 @@
 -- Teams of workers that began with the shares of their lists, and what is left of them for each phase.
-use Rattle.std.proofs.Common.{◌≡◌, ◌≤◌, ◌<◌, ◌∙◌, ℕ, zero, suc, All, List, [], ◌∷◌, Option, Some, None, ap, ap₂, arith, get_or, length, map, refl, slice_get, subst, sym, zip}
+use Rattle.std.proofs.Common.{◌≡◌, ◌∙◌, ℕ, zero, suc, All, List, [], ◌∷◌, Option, Some, None, ap, ap₂, arith, get_or, length, map, refl, slice_get, subst, sym, zip}
 use Rattle.std.proofs.lemmas.List.{length-map}
 use Rattle.std.proofs.lemmas.Option.{get_or_from_slice_get, none-some, same_Some, slice_get-get_or, slice_get-map, slice_get_within}
 use Rattle.std.proofs.lemmas.Slice.Zip.{length-zip}

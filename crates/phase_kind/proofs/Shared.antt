@@ -3,14 +3,15 @@ use Rattle.std.proofs.Common.{⊎_elim, ◌≡◌, ◌≢◌, ◌+◌, ◌≤◌
 use Rattle.std.proofs.lemmas.Bool.{cases_eq}
 use Rattle.std.proofs.lemmas.List.{length-map, length-set, length-take-le, map-append}
 use Rattle.std.proofs.lemmas.List.Elements.{All-map, filter-append}
-use Rattle.std.proofs.lemmas.Option.{slice_get-get_or, slice_get_within}
+use Rattle.std.proofs.lemmas.Option.{none-some, same_Some, slice_get-get_or, slice_get_within}
 use Rattle.std.specs.List.{filter}
 use Rattle.std.specs.Prelude.{◌==◌}
-use Rattle.phase_kind.proofs.Counts.{fewer_there, other_test, same_test, something_there}
+use Rattle.phase_kind.proofs.Counts.{fewer_there, other_test, same_test}
 use Rattle.phase_kind.proofs.Planned.{holds_at, mapped_at, zipped_at, zipped_there}
+use Rattle.phase_kind.proofs.Taken.{seam}
 use Rattle.phase_kind.proofs.Teams.{elsewhere, set_there}
 use Rattle.phase_kind.proofs.Trays.{take_next, zip_none, zip_onto}
-use Rattle.phase_kind.specs.Team.{AreFilled, AreSharedOut, GoesWithin, replies_to, those_of}
+use Rattle.phase_kind.specs.Team.{AreFilled, AreNew, AreSharedOut, GoesWithin, replies_to, those_of}
 
 module _ {I : Type 0} where
   abbrev sent : ℕ → List ℕ → List I → List I
@@ -58,14 +59,28 @@ module _ {I : Type 0} where
       by true rest = ap (λ l. x ∷ l) rest
       by false rest = rest
 
--- what is new of a list beside its store and its share
-pub new_each : {C L : Type 0} (New : (C × ℕ) × L → Type 0) (stores : List C) (shares : List ℕ) (lists : List L) → length shares ≡ length stores → length lists ≡ length stores → All New (zip (zip stores shares) lists) → (place : ℕ) (list : L) → slice_get lists place ≡ Some list
-    → (store : C) × (share : ℕ) × (slice_get stores place ≡ Some store) × (slice_get shares place ≡ Some share) × New ((store, share), list)
-new_each New stores shares lists same as_many new place list there =
-    let within = slice_get_within lists place list there in
-    let store = something_there stores place (omega (arith, within, as_many)) in
-    let share = something_there shares place (omega (arith, within, as_many, same)) in
-    (store.0, share.0, store.1, share.1, holds_at New (zip (zip stores shares) lists) place ((store.0, share.0), list) new (zipped_there (zip stores shares) lists place (store.0, share.0) list (zipped_there stores shares place store.0 share.0 store.1 share.1) there))
+-- what stands before the last of a list
+in_front : {X : Type 0} (xs : List X) (x y : X) (place : ℕ) → place ≢ length xs → slice_get (xs ++ x ∷ []) place ≡ Some y → slice_get xs place ≡ Some y
+in_front [] x y zero other there = absurd (other refl)
+in_front [] x y (suc place) other there = absurd (none-some y there)
+in_front (z ∷ xs) x y zero other there = there
+in_front (z ∷ xs) x y (suc place) other there = in_front xs x y place (λ e. other (ap (λ n. suc n) e)) there
+
+-- one new list more
+pub one_new : {C I L : Type 0} (is_of : C → L → Type 0) (items : L → List I) (room : L → ℕ) (stores : List C) (shares : List ℕ) (lists : List L) (list : L) (store : C) (share : ℕ) → AreNew is_of items room stores shares lists → slice_get stores (length lists) ≡ Some store → slice_get shares (length lists) ≡ Some share
+    → is_of store list → items list ≡ [] → room list ≡ share → AreNew is_of items room stores shares (lists ++ list ∷ [])
+one_new {C} {I} {L} is_of items room stores shares lists list store share new its_store its_share of empty has_room place s n l at_s at_n at_l =
+    ⊎_elim
+    (λ (same : place ≡ length lists).
+    let the_list : list ≡ l = same_Some list l (sym (seam lists [] list) ∙ ap (slice_get (lists ++ list ∷ [])) (sym same) ∙ at_l) in
+    let the_store : store ≡ s = same_Some store s (sym its_store ∙ ap (slice_get stores) (sym same) ∙ at_s) in
+    let the_share : share ≡ n = same_Some share n (sym its_share ∙ ap (slice_get shares) (sym same) ∙ at_n) in (
+      subst (λ (x : L). is_of s x) the_list (subst (λ (c : C). is_of c list) the_store of),
+      ap items (sym the_list) ∙ empty,
+      ap room (sym the_list) ∙ has_room ∙ the_share,
+    ))
+    (λ (other : place ≢ length lists). new place s n l at_s at_n (in_front lists list l place other at_l))
+    (cases_eq place (length lists))
 
 -- what holds of all pairs, where one side of one of them changes
 pub each_set : {A B : Type 0} (P : A × B → Type 0) (xs : List A) (ys : List B) (at : ℕ) (was now : B) → All P (zip xs ys) → ((a : A) → P (a, was) → P (a, now)) → slice_get ys at ≡ Some was → All P (zip xs (slice_set ys at now))

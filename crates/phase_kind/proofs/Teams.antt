@@ -1,5 +1,5 @@
 -- What a team has done, entry by entry of its order.
-use Rattle.std.proofs.Common.{⊎_elim, ◌≡◌, ◌≢◌, ◌+◌, ◌≤◌, ◌<◌, ◌++◌, ◌∙◌, ℕ, zero, suc, All, List, [], ◌∷◌, Some, ap, arith, get_or, length, length-append, map, refl, slice_get, slice_set, subst, sym, take}
+use Rattle.std.proofs.Common.{⊎_elim, ◌≡◌, ◌≢◌, ◌+◌, ◌≤◌, ◌<◌, ◌++◌, ◌∙◌, ℕ, zero, suc, All, List, [], ◌∷◌, Some, ap, arith, get_or, length, length-append, refl, slice_get, slice_set, subst, sym, take}
 use Rattle.std.proofs.Math.Seq.{map-set_same}
 use Rattle.std.proofs.lemmas.Bool.{cases_eq}
 use Rattle.std.proofs.lemmas.List.{get_or-map, get_or-set_other, get_or-set_same, length-map, length-set, take_all}
@@ -28,6 +28,10 @@ module _ {V I R : Type 0} where
   pub belongs_at : (phases : List Phase) (team : List (WorkerView V I R)) (place : ℕ) (worker : WorkerView V I R) (phase : Phase) → IsTeam phases team → place < length team → (get_or team place worker).phase ≡ get_or phases place phase
   belongs_at phases team place worker phase is within =
       sym (get_or-map (λ (w : WorkerView V I R). w.phase) team place worker phase within) ∙ ap (λ l. get_or l place phase) is
+
+  -- there are as many phases
+  pub as_many_phases : (phases : List Phase) (team : List (WorkerView V I R)) → IsTeam phases team → length phases ≡ length team
+  as_many_phases phases team is = sym (ap length is) ∙ length-map team (λ (w : WorkerView V I R). w.phase)
 
   -- a team stays one
   pub still_team : (phases : List Phase) (team : List (WorkerView V I R)) (place : ℕ) (worker now : WorkerView V I R) → IsTeam phases team → now.phase ≡ (get_or team place worker).phase → IsTeam phases (slice_set team place now)

@@ -1,9 +1,8 @@
 -- Items beside their replies.
-use Rattle.std.proofs.Common.{◌≡◌, zero, suc, ◌+◌, ◌<◌, ◌≤◌, List, [], ◌∷◌, ◌++◌, Some, append-nil, drop, get_or, length, map, length-append, take, refl, sym, ap, ap₂, ◌∙◌, subst, arith, ℕ}
+use Rattle.std.proofs.Common.{◌≡◌, zero, suc, ◌+◌, ◌<◌, ◌≤◌, List, [], ◌∷◌, ◌++◌, Some, append-nil, drop, get_or, length, map, take, refl, sym, ap, ap₂, ◌∙◌, subst, arith, ℕ}
 use Rattle.std.proofs.lemmas.List.{drop_all, length-drop, length-map, map_push, take_more}
 use Rattle.std.proofs.lemmas.List.Elements.{All-cons, All-head, All-nil, All-tail}
 use Rattle.std.proofs.lemmas.Option.{get_or_from_slice_get, none-some, same_Some, slice_get-map, slice_get_within}
-use Rattle.std.proofs.lemmas.Simd.{map-map}
 use Rattle.std.specs.List.{All, slice_get, zip}
 use Rattle.std.specs.Option.{option_map}
 use Rattle.phase_kind.specs.Phase.{Phase}
@@ -28,6 +27,12 @@ pub zip_onto : {X Y : Type 0} (xs : List X) (ys : List Y) (x : X) (y : Y) → sl
 zip_onto [] ys x y there = absurd (none-some x there)
 zip_onto (a ∷ xs) [] x y there = ap₂ (λ b l. (b, y) ∷ l) (same_Some a x there) (zip_none xs)
 zip_onto (a ∷ xs) (b ∷ ys) x y there = ap (λ l. (a, b) ∷ l) (zip_onto xs ys x y there)
+
+-- one element more comes before what stands there
+pub zip_under : {X Y : Type 0} (xs : List X) (ys : List Y) (x : X) (y : Y) → slice_get ys (length xs) ≡ Some y → zip (xs ++ x ∷ []) ys ≡ zip xs ys ++ (x, y) ∷ []
+zip_under xs [] x y there = absurd (none-some y there)
+zip_under [] (b ∷ ys) x y there = ap (λ z. (x, z) ∷ []) (same_Some b y there)
+zip_under (a ∷ xs) (b ∷ ys) x y there = ap (λ l. (a, b) ∷ l) (zip_under xs ys x y there)
 
 -- the first elements of rows
 pub firsts_of-zip : {X Y : Type 0} (xs : List X) (ys : List Y) → length ys ≡ length xs → map (λ p. p.0) (zip xs ys) ≡ xs

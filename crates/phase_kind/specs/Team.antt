@@ -1,5 +1,5 @@
 -- A team has a worker of each of several phases, among whom its list was shared out by where each item goes.
-use Rattle.std.specs.Prelude.{◌≡◌, ◌==◌, ◌+◌, ◌<◌, ℕ, List, length, map, zip, filter, All, Some, slice_get}
+use Rattle.std.specs.Prelude.{◌≡◌, ◌==◌, ◌+◌, ◌<◌, ℕ, List, [], length, map, zip, filter, All, Some, slice_get}
 use Rattle.phase_kind.specs.Phase.{Phase}
 use Rattle.phase_kind.specs.Worker.{HasFinished, WorkerView}
 
@@ -24,6 +24,11 @@ pub record AreSharedOut {I : Type 0} (goes_to : I → ℕ) (places : ℕ) (list 
 pub record AreShares {I : Type 0} (goes_to : I → ℕ) (places : ℕ) (list : List I) (shares : List ℕ) : Type 0 where
   pub as_many : length shares ≡ places
   pub each : (place share : ℕ) → slice_get shares place ≡ Some share → share ≡ length (those_of goes_to place list)
+
+-- an empty list of each store, with room for its share
+abbrev pub AreNew : {C I L : Type 0} → (C → L → Type 0) → (L → List I) → (L → ℕ) → List C → List ℕ → List L → Type 0
+AreNew {C} {I} {L} is_of items room stores shares lists =
+    (place : ℕ) (store : C) (share : ℕ) (list : L) → slice_get stores place ≡ Some store → slice_get shares place ≡ Some share → slice_get lists place ≡ Some list → is_of store list × (items list ≡ []) × (room list ≡ share)
 
 -- Lists, one for each of so many places. Each has got those of the first items of a list that went there by an order, and
 -- has room for all that the order sends there.

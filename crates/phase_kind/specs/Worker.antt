@@ -1,5 +1,6 @@
 -- A worker, as callers see it, how it is kept, and what workers have done once each has answered its list.
 use Rattle.std.specs.Prelude.{◌≡◌, ◌+◌, ◌≤◌, ℕ, List, [], ◌++◌, length, map, All}
+use Rattle.body_store.specs.Contents.{Contents}
 use Rattle.phase_kind.specs.Phase.{Phase}
 use Rattle.phase_kind.specs.Told.{Told}
 use Rattle.word_rule.specs.Places.{Place}
@@ -37,6 +38,23 @@ pub record AreLeft {V I R : Type 0} (tells : Phase → V → List (Told I R) →
   pub seats_are : seats ≡ map seat_of workers
   pub trays_are : trays ≡ map (λ worker. worker.tray) workers
   pub told : All (λ worker. tells worker.phase worker.seat worker.tray) workers
+
+-- What is left of workers: a seat and a tray of each. Each tray is of the worker's store, paired, and tells of its seat.
+pub record AreParts {V I R S T : Type 0} (standing : S → Place V) (told : T → List (Told I R)) (is_of : Contents → T → Type 0) (is_paired : T → Type 0) (tells : Phase → V → List (Told I R) → Type 0)
+    (workers : List (WorkerView V I R)) (seats : List S) (trays : List T) : Type 0 where
+  pub seats_are : map standing seats ≡ map seat_of workers
+  pub trays_are : map told trays ≡ map (λ worker. worker.tray) workers
+  pub of_base : (phase : Phase) → All (λ worker. worker.phase ≡ phase) workers → All (is_of phase.base) trays
+  pub paired : All is_paired trays
+  pub all_told : All (λ worker. tells worker.phase worker.seat worker.tray) workers
+
+-- the items of a list have joined those that wait for a worker
+pub record HasQueued {V I R : Type 0} (before : WorkerView V I R) (list : List I) (after : WorkerView V I R) : Type 0 where
+  pub phase : after.phase ≡ before.phase
+  pub seat : after.seat ≡ before.seat
+  pub room : after.room + length list ≡ before.room
+  pub tray : after.tray ≡ before.tray
+  pub waiting : after.waiting ≡ before.waiting ++ list
 
 -- The worker has answered a list: it is at rest, the list's items stand in their order behind what its tray held, each
 -- with its reply, the tray has so much less room, and nothing waits.

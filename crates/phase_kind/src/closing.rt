@@ -1,11 +1,11 @@
 //! The two ends of a phase: its workers at their seats, and what is left of them.
 
 ghost use Rattle.phase_kind.specs.Told.{told_in};
-ghost use Rattle.phase_kind.specs.Worker.{new_worker, seat_of, worker_with};
-ghost use Rattle.std.specs.Prelude.{◌≡◌, ◌≤◌, [], All, IfOk, length, map};
+ghost use Rattle.phase_kind.specs.Worker.{AreParts, new_worker, seat_of, worker_with};
+ghost use Rattle.std.specs.Prelude.{◌≡◌, ◌<◌, ◌≤◌, ◌++◌, [], ◌∷◌, All, IfOk, length, map, slice_index_or};
 ghost use Rattle.word_rule.specs.Places.{AreAll as AreSeats};
 ghost use Rattle.word_rule.specs.Seats.{SharedWords};
-ghost use Rattle.phase_kind.specs.Phase.{IsPhase, Phase};
+ghost use Rattle.phase_kind.specs.Phase.{IsPhase};
 
 use crate::{Kind, Tray, Worker};
 use body_store::Closed;
@@ -88,10 +88,30 @@ fn seated<K: Kind>(
         → workers.items ≡ map (new_worker K.fresh (record { base = closed.now; words = words })) plan.now) }
 {
     let mut workers = Vec::with_capacity(alloc, plan.len())?;
-    for (seat, room) in seats.into_iter().zip(plan) {
-        workers.push(Worker::new(alloc, closed, seat, *room)?)?;
+    for seat in seats {
+        seat_one(alloc, closed, seat, plan, &mut workers)?;
     }
     Ok(workers)
+}
+
+/// One worker more, at a new seat, with a tray as the plan says.
+fn seat_one<K: Kind>(
+    alloc: Global,
+    closed: &Closed,
+    seat: K::Seat,
+    plan: &[u32],
+    workers: &mut Vec<Worker<K>>,
+) -> Result<(), Memory>
+    requires new { (K.standing seat).view ≡ K.fresh }
+    requires within { length workers.old.items < length plan.now }
+    ensures { IfOk result (λ _. (d : _) → workers.new.items ≡ workers.old.items ++ new_worker K.fresh
+        (record { base = closed.now; words = (K.standing seat).words })
+        (slice_index_or plan.now (length workers.old.items) d) ∷ []) }
+{
+    let room = plan[workers.len()];
+    let worker = Worker::new(alloc, closed, seat, room)?;
+    workers.push(worker)?;
+    Ok(())
 }
 
 /// A worker at each of new seats of some words, in whose tray a list waits.
@@ -110,10 +130,33 @@ fn seated_with<K: Kind>(
         (map K.items work.items)) }
 {
     let mut workers = Vec::with_capacity(alloc, work.len())?;
-    for (seat, list) in seats.into_iter().zip(work) {
-        workers.push(Worker::with_list(alloc, closed, seat, list)?)?;
+    let mut rest = work.into_iter();
+    for seat in seats {
+        let list = match rest.next() {
+            Some(list) => list,
+            None => unreachable!(),
+        };
+        seat_one_with(alloc, closed, seat, list, &mut workers)?;
     }
     Ok(workers)
+}
+
+/// One worker more, at a new seat, in whose tray a list waits.
+fn seat_one_with<K: Kind>(
+    alloc: Global,
+    closed: &Closed,
+    seat: K::Seat,
+    list: K::List,
+    workers: &mut Vec<Worker<K>>,
+) -> Result<(), Memory>
+    requires new { (K.standing seat).view ≡ K.fresh }
+    requires is_of { K.is_of closed.now list }
+    ensures { IfOk result (λ _. workers.new.items ≡ workers.old.items ++ worker_with K.fresh
+        (record { base = closed.now; words = (K.standing seat).words }) (K.items list) ∷ []) }
+{
+    let worker = Worker::with_list(alloc, closed, seat, list)?;
+    workers.push(worker)?;
+    Ok(())
 }
 
 /// The seats of workers for which nothing waits, and their trays.
@@ -122,25 +165,39 @@ pub fn taken_apart<K: Kind>(
     workers: Vec<Worker<K>>,
 ) -> Result<(Vec<K::Seat>, Vec<Tray<K::List, K::Reply>>), Memory>
     requires { All (λ worker. worker.waiting ≡ []) workers.items }
-    ensures seats { IfOk result
-        (λ parts. map K.standing parts.0.items ≡ map seat_of workers.items) }
-    ensures trays { IfOk result
-        (λ parts. map (λ tray. told_in (K.items tray.items) tray.replies.items) parts.1.items
-        ≡ map (λ worker. worker.tray) workers.items) }
-    ensures is_of { IfOk result (λ parts. (phase : Phase)
-        → All (λ worker. worker.phase ≡ phase) workers.items
-        → All (λ tray. K.is_of phase.base tray.items) parts.1.items) }
-    ensures paired { IfOk result
-        (λ parts. All (λ tray. length (K.items tray.items) ≡ length tray.replies.items) parts.1.items) }
-    ensures told { IfOk result
-        (λ _. All (λ worker. K.tells worker.phase worker.seat worker.tray) workers.items) }
+    ensures { IfOk result (λ parts. AreParts K.standing
+        (λ tray. told_in (K.items tray.items) tray.replies.items) (λ base tray. K.is_of base tray.items)
+        (λ tray. length (K.items tray.items) ≡ length tray.replies.items) K.tells
+        workers.items parts.0.items parts.1.items) }
 {
     let mut seats = Vec::with_capacity(alloc, workers.len())?;
     let mut trays = Vec::with_capacity(alloc, workers.len())?;
     for worker in workers {
-        let (seat, tray) = worker.into_parts();
-        seats.push(seat)?;
-        trays.push(tray)?;
+        take_apart(worker, &mut seats, &mut trays)?;
     }
     Ok((seats, trays))
+}
+
+/// The seat of one worker more, for which nothing waits, and its tray.
+fn take_apart<K: Kind>(
+    worker: Worker<K>,
+    seats: &mut Vec<K::Seat>,
+    trays: &mut Vec<Tray<K::List, K::Reply>>,
+) -> Result<(), Memory>
+    requires idle { worker.waiting ≡ [] }
+    requires paired { All (λ tray. length (K.items tray.items) ≡ length tray.replies.items) trays.old.items }
+    ensures seats { IfOk result (λ _. map K.standing seats.new.items
+        ≡ map K.standing seats.old.items ++ seat_of worker ∷ []) }
+    ensures trays { IfOk result (λ _. map (λ tray. told_in (K.items tray.items) tray.replies.items) trays.new.items
+        ≡ map (λ tray. told_in (K.items tray.items) tray.replies.items) trays.old.items ++ worker.tray ∷ []) }
+    ensures is_of { IfOk result (λ _. All (λ tray. K.is_of worker.phase.base tray.items) trays.old.items
+        → All (λ tray. K.is_of worker.phase.base tray.items) trays.new.items) }
+    ensures paired { IfOk result
+        (λ _. All (λ tray. length (K.items tray.items) ≡ length tray.replies.items) trays.new.items) }
+    ensures told { IfOk result (λ _. K.tells worker.phase worker.seat worker.tray) }
+{
+    let (seat, tray) = worker.into_parts();
+    seats.push(seat)?;
+    trays.push(tray)?;
+    Ok(())
 }

@@ -18,7 +18,7 @@ use step_core::Shape;
 
 /// What a kind of phase is: its shared words, how one item of a list is answered from a seat, what a tray tells of its
 /// seat, and what a close tells.
-pub trait Kind: Drop + Send + Sync {
+pub trait Kind: Drop + Sync {
     ghost use Rattle.std.specs.Prelude.{ℕ, List};
     ghost use Rattle.body_store.specs.Contents.{Contents};
     ghost use Rattle.phase_kind.specs.Phase.{Phase};
@@ -31,7 +31,7 @@ pub trait Kind: Drop + Send + Sync {
     type Sight;
 
     /// The shared words of a phase.
-    type Words: Drop + Send + Sync;
+    type Words: Drop + Sync;
 
     /// A seat at them.
     type Seat: Drop + Send;

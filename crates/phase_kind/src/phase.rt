@@ -94,7 +94,14 @@ impl<K: Kind> PhaseOf<K> {
 
     /// One look at the cell at which the search for a number begins. It promises nothing of the answer.
     pub fn peek(&self, number: u64) -> u64 {
-        K::peek(&self.words, self.shape.order.home(number))
+        K::peek(&self.words, self.home(number))
+    }
+
+    /// The cell at which the search for a number begins.
+    fn home(&self, number: u64) -> usize
+        ensures { result < self.now.words.shape.cells }
+    {
+        self.shape.order.home(number)
     }
 
     /// Answers from a seat the item at a place of a list.

@@ -1,7 +1,7 @@
 //! A phase's workers, all at once.
 
-ghost use Rattle.phase_kind.specs.Worker.{HasAnswered, HasFinished};
-ghost use Rattle.std.specs.Prelude.{◌≡◌, ◌+◌, ◌<◌, ◌≤◌, ◌++◌, [], ◌∷◌, All, Some, length, slice_get, slice_index_or, zip};
+ghost use Rattle.phase_kind.specs.Worker.{HasAnswered, HasFinished, HasQueued};
+ghost use Rattle.std.specs.Prelude.{◌≡◌, ◌<◌, ◌≤◌, ◌++◌, [], ◌∷◌, ℕ, All, length, slice_index_or, zip};
 
 use crate::{Kind, PhaseOf, Worker};
 use outside_io::Turns;
@@ -68,8 +68,8 @@ pub(crate) fn answer_next<T: Turns, K: Kind>(
     worker.answer_next(phase);
 }
 
-/// Each worker, for which nothing waits, answers the list at its place, in order: each item is copied into its tray.
-/// All of them work at once, as above.
+/// Each worker, for which nothing waits, answers the list at its place, in order. First each item is copied into its
+/// tray; then all of them work at once, as above.
 pub fn run<R: Threads + Sync, T: Turns, K: Kind>(
     rt: &R,
     phase: &PhaseOf<K>,
@@ -88,65 +88,21 @@ pub fn run<R: Threads + Sync, T: Turns, K: Kind>(
     ensures answered { All (λ at. HasAnswered K.rests at.0 (K.items at.1.0) at.1.1)
         (zip workers.old (zip work.now workers.new)) }
 {
-    let answer_its_list = |place: usize, worker: &mut Worker<K>|
-        requires listed { place < length work.now }
-        requires belongs { worker.now.phase ≡ phase.now }
-        requires idle { worker.now.waiting ≡ [] }
-        requires room { (d : _) → length (K.items (slice_index_or work.now place d)) ≤ worker.now.room }
-        requires is_of { (d : _) → K.is_of phase.now.base (slice_index_or work.now place d) }
-        ensures belongs { worker.exit.now.phase ≡ phase.entry.now }
-        ensures answered { (d : _) → HasAnswered K.rests worker.entry.now
-            (K.items (slice_index_or work.entry.now place d)) worker.exit.now }
-    { answer_alone(phase, worker, place, &work[place], turns) };
-    for_each_mut(rt, workers, workers.len().max(1), &answer_its_list);
+    queue_lists(workers, work);
+    run_waiting(rt, phase, workers, turns);
 }
 
-/// One worker answers its list in order.
-fn answer_alone<T: Turns, K: Kind>(
-    phase: &PhaseOf<K>,
-    worker: &mut Worker<K>,
-    place: usize,
-    list: &K::List,
-    turns: &T,
-)
-    requires belongs { worker.old.phase ≡ phase.now }
-    requires idle { worker.old.waiting ≡ [] }
-    requires room { length (K.items list.now) ≤ worker.old.room }
-    requires is_of { K.is_of phase.now.base list.now }
-    ensures { HasAnswered K.rests worker.old (K.items list.now) worker.new }
+/// The items of the list at each worker's place join those that wait for it.
+fn queue_lists<K: Kind>(workers: &mut [Worker<K>], work: &[K::List])
+    requires as_many { length workers.old ≡ length work.now }
+    requires room { All (λ at. length (K.items at.1) ≤ at.0.room) (zip workers.old work.now) }
+    requires is_of { All (λ at. K.is_of at.0.phase.base at.1) (zip workers.old work.now) }
+    ensures as_many { length workers.new ≡ length workers.old }
+    ensures queued { (place : ℕ) (d : _) (list : _) → place < length workers.old
+        → HasQueued (slice_index_or workers.old place d) (K.items (slice_index_or work.now place list))
+        (slice_index_or workers.new place d) }
 {
-    K::trays_tell();
-    let count = K::len(list);
-    let room = worker.room() as usize;
-    prove!(count <= room);
-    for index in 0..count {
-        answer_item(phase, worker, place, list, index, turns);
+    for place in 0..work.len() {
+        workers[place].queue_all(&work[place]);
     }
-}
-
-/// The worker at a place comes to an item of its list: its turn is told, and it answers the item.
-fn answer_item<T: Turns, K: Kind>(
-    phase: &PhaseOf<K>,
-    worker: &mut Worker<K>,
-    place: usize,
-    list: &K::List,
-    index: usize,
-    turns: &T,
-)
-    requires belongs { worker.old.phase ≡ phase.now }
-    requires idle { worker.old.waiting ≡ [] }
-    requires room { 0 < worker.old.room }
-    requires is_of { K.is_of phase.now.base list.now }
-    requires within { index < length (K.items list.now) }
-    ensures phase { worker.new.phase ≡ worker.old.phase }
-    ensures idle { worker.new.waiting ≡ [] }
-    ensures room { worker.new.room + 1 ≡ worker.old.room }
-    ensures answers { (x : K.Item) × (reply : K.Reply)
-        × (slice_get (K.items list.now) index ≡ Some x)
-        × (worker.new.tray ≡ worker.old.tray ++ record { item = x; reply = reply } ∷ [])
-        × K.answers phase.now worker.old.seat x reply worker.new.seat }
-    ensures at_rest { K.rests worker.new.seat }
-{
-    turns.turn(place, index, phase.peek(K::number(list, index)));
-    worker.answer(phase, list, index);
 }

@@ -1,7 +1,7 @@
 //! Several phases of one kind, whose workers work in teams: a list is shared out to the workers of a team, so that
 //! each item goes into the phase that its number names, and the team handles it in its order.
 
-ghost use Rattle.phase_kind.specs.Team.{AreByPlace, AreFilled, AreInOrder, AreNamed, AreShares, AreSharedOut, GoesWithin, HaveFinished, IsTeam};
+ghost use Rattle.phase_kind.specs.Team.{AreByPlace, AreFilled, AreInOrder, AreNamed, AreNew, AreShares, AreSharedOut, GoesWithin, HaveFinished, IsTeam};
 ghost use Rattle.std.specs.Prelude.{◌≡◌, ◌^◌, ◌<◌, [], All, IfOk, Some, length, map, slice_get, slice_index_or, zip};
 
 use crate::running::answer_next;
@@ -113,12 +113,11 @@ fn new_lists<K: Kind>(
     requires as_many { length shares.now ≡ length stores.now }
     requires few { All (λ share. share < 2 ^ 33) shares.now }
     ensures as_many { IfOk result (λ lists. length lists.items ≡ length stores.now) }
-    ensures new { IfOk result (λ lists. All (λ at. (K.is_of at.0.0 at.1) × (K.items at.1 ≡ []) × (K.room at.1 ≡ at.0.1))
-        (zip (zip stores.now shares.now) lists.items)) }
+    ensures new { IfOk result (λ lists. AreNew K.is_of K.items K.room stores.now shares.now lists.items) }
 {
     let mut lists = Vec::with_capacity(alloc, stores.len())?;
-    for (store, share) in stores.iter().zip(shares) {
-        lists.push(K::new_list(alloc, store, *share)?)?;
+    for place in 0..stores.len() {
+        lists.push(K::new_list(alloc, &stores[place], shares[place])?)?;
     }
     Ok(lists)
 }

@@ -1,8 +1,8 @@
 //! A worker of a phase: the tabulator or the withdrawer of one list.
 
 ghost use Rattle.phase_kind.specs.Told.{Told, told_in};
-ghost use Rattle.phase_kind.specs.Worker.{new_worker, seat_of, worker_with};
-ghost use Rattle.std.specs.Prelude.{◌≡◌, ◌+◌, ◌<◌, ◌++◌, [], ◌∷◌, IfOk, Some, length, map, slice_get};
+ghost use Rattle.phase_kind.specs.Worker.{HasQueued, new_worker, seat_of, worker_with};
+ghost use Rattle.std.specs.Prelude.{◌≡◌, ◌+◌, ◌<◌, ◌≤◌, ◌++◌, [], ◌∷◌, IfOk, Some, length, map, slice_get};
 
 use crate::tray::{new_tray, tray_with};
 use crate::{Kind, PhaseOf, Tray};
@@ -174,6 +174,17 @@ impl<K: Kind> Worker<K> {
             × (self.new.waiting ≡ self.old.waiting ++ x ∷ []) }
     {
         K::push_from(&mut self.tray.items, list, place);
+    }
+
+    /// The items of a list join those that wait.
+    pub(crate) fn queue_all(&mut self, list: &K::List)
+        requires room { length (K.items list.now) ≤ self.old.room }
+        requires is_of { K.is_of self.old.phase.base list.now }
+        ensures { HasQueued self.old (K.items list.now) self.new }
+    {
+        for place in 0..K::len(list) {
+            self.queue(list, place);
+        }
     }
 
     /// The number of the first item that waits.

@@ -1,8 +1,8 @@
 use Rattle.std.proofs.Common.{◌^◌, ◌<◌, All, List, get_or, subst, sym, take}
 use Rattle.std.proofs.lemmas.List.{take_all, take_more}
 use Rattle.std.proofs.lemmas.List.Elements.{All-nil, All-push}
-use Rattle.part_play.proofs.Numbers.{goes_within}
 use Rattle.part_play.proofs.spread.all_go_within.Goals as goal
+use Rattle.partition_store.proofs.Shares.{each_in_part}
 
 pub loop-list-init : goal.loop-list-init
 loop-list-init g c = All-nil (λ (list : g.row.K-List.Denot). All (λ x. g.K.Kind.number x < 2 ^ 64) (g.K.Kind.items list))
@@ -20,4 +20,4 @@ pub returns : goal.returns
 returns g c =
     let work = c.args.work.now in
     let short = subst (λ (l : List g.row.K-List.Denot). All (λ list. All (λ x. g.K.Kind.number x < 2 ^ 64) (g.K.Kind.items list)) l) (take_all c.loop-list.list-index work c.loop-list-test.false) c.loop-list.invariant in
-    λ k d below i e within. goes_within c.args.spread.now (g.K.Kind.number (get_or (g.K.Kind.items (get_or work k d)) i e)) c.bits.ensures.some c.bits.ensures.few (short k d below i e within)
+    λ k d below i e within. each_in_part c.args.spread.now (g.K.Kind.number (get_or (g.K.Kind.items (get_or work k d)) i e)) (record { some = c.bits.ensures.some; few = c.bits.ensures.few }) (short k d below i e within)

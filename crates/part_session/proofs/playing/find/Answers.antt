@@ -26,5 +26,5 @@ returns-clause-closes g c =
     let is : c.new-spread.result ≡ store.bits = c.new-spread.ensures ∙ c.bits-bits.ensures.bits in
     let sets : sets_of c.deref.result.now ≡ store.sets = ap sets_of c.deref.ensures.value ∙ stores.ensures.sets in
     let plays = subst (λ n. PlaysFindingInParts n (sets_of c.deref.result.now) work found) is c.in_ok-found.ensures in
-    found_closes store.bits store.sets items work c.in_ok-found.found.items stores.ensures.parted.parts
+    found_closes store.bits store.sets stores.ensures.parted.parts items work c.in_ok-found.found.items
     (subst (λ (all : List (List Ballot)). PlaysFindingInParts store.bits all work found) sets plays)

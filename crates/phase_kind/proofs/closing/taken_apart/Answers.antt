@@ -1,13 +1,24 @@
-use Rattle.std.proofs.Common.{◌≡◌, All, List, ap, length, map, ◌∙◌, subst, sym}
+use Rattle.std.proofs.Common.{◌≡◌, ◌++◌, [], ◌∷◌, All, List, ap, length, map-id, ◌∙◌, rules, subst, sym}
+use Rattle.std.proofs.lemmas.Iterator.Adapters.{YieldsList-from_vec}
+use Rattle.std.proofs.lemmas.Iterator.Consumers.{YieldsList-end, YieldsList-turn}
 use Rattle.std.proofs.lemmas.List.{map_push}
 use Rattle.std.proofs.lemmas.List.Elements.{All-push}
 use Rattle.phase_kind.proofs.Trays.{front_and_last}
 use Rattle.phase_kind.proofs.closing.taken_apart.Goals as goal
 use Rattle.phase_kind.specs.Phase.{Phase}
-use Rattle.phase_kind.specs.Told.{told_in}
-use Rattle.phase_kind.specs.Worker.{WorkerView, seat_of}
+use Rattle.phase_kind.specs.Told.{Told, told_in}
+use Rattle.phase_kind.specs.Worker.{AreParts, WorkerView, seat_of}
 use Rattle.phase_kind.specs.declared.tray.Tray.{Tray}
-use Rattle.word_rule.proofs.Lists.{one_more}
+use Rattle.word_rule.specs.Places.{Place}
+
+pub take_apart-requires-clause-idle : goal.take_apart-requires-clause-idle
+take_apart-requires-clause-idle g c κs within =
+    let workers = c.args.workers.items in
+    let turn = YieldsList-turn (YieldsList-from_vec workers (search rules) (search rules)) c.loop-worker.yielded c.loop-worker.worker-iterator c.loop-worker.yielded_by c.next.result c.next.new.self c.in-Some.worker c.in-Some.is c.next.ensures.steps in
+    subst (λ (w : WorkerView g.row.K-Sight.Denot g.row.K-Item.Denot g.row.K-Reply.Denot). w.waiting ≡ []) (sym turn.1) (c.requires (length c.loop-worker.yielded) c.in-Some.worker turn.0)
+
+pub take_apart-requires-clause-paired : goal.take_apart-requires-clause-paired
+take_apart-requires-clause-paired g c κs within = c.loop-worker.invariant.paired
 
 pub loop-worker-preserved : goal.loop-worker-preserved
 loop-worker-preserved g c =
@@ -17,18 +28,22 @@ loop-worker-preserved g c =
     let i = c.loop-worker.invariant in
     let before = c.loop-worker.yielded in
     let worker = c.in-Some.worker in
-    let parts = c.into_parts-seat.ensures in
-    let trays = c.loop-worker.trays.items in
-    let tray = c.into_parts-seat.result.1 in
-    let items = c.in_ok-push-2.ensures.items in
-    let Paired : T → Type 0 = λ t. length (k.items t.items) ≡ length t.replies.items in
+    let e = c.in_ok-take_apart.ensures in
     record {
-      seats = one_more seat_of before _ _ worker _ (ap (map k.standing) c.in_ok-push.ensures.items ∙ map_push k.standing c.loop-worker.seats.items c.into_parts-seat.result.0) i.seats parts.seat;
-      trays = one_more (λ (w : W). w.tray) before _ _ worker _ (ap (map (λ (t : T). told_in (k.items t.items) t.replies.items)) items ∙ map_push (λ (t : T). told_in (k.items t.items) t.replies.items) trays tray) i.trays parts.tray;
-      is_of = λ phase belong.
+      seats_are = e.seats ∙ ap (λ (l : List (Place g.row.K-Sight.Denot)). l ++ seat_of worker ∷ []) i.seats_are ∙ sym (map_push (λ (w : W). seat_of w) before worker);
+      trays_are = e.trays ∙ ap (λ (l : List (List (Told g.row.K-Item.Denot g.row.K-Reply.Denot))). l ++ worker.tray ∷ []) i.trays_are ∙ sym (map_push (λ (w : W). w.tray) before worker);
+      of_base = λ phase belong.
           let both = front_and_last (λ (w : W). w.phase ≡ phase) before worker belong in
-          subst (All (λ (t : T). k.is_of phase.base t.items)) (sym items)
-          (All-push (λ (t : T). k.is_of phase.base t.items) trays tray (i.is_of phase both.0) (subst (λ (p : Phase). k.is_of p.base tray.items) both.1 parts.is_of));
-      paired = subst (All Paired) (sym items) (All-push Paired trays tray i.paired parts.paired);
-      told = All-push (λ (w : W). k.tells w.phase w.seat w.tray) before worker i.told parts.told;
+          subst (λ (p : Phase). All (λ (t : T). k.is_of p.base t.items) c.take_apart.new.trays.items) both.1
+          (e.is_of (subst (λ (p : Phase). All (λ (t : T). k.is_of p.base t.items) c.loop-worker.trays.items) (sym both.1) (i.of_base phase both.0)));
+      paired = e.paired;
+      all_told = All-push (λ (w : W). k.tells w.phase w.seat w.tray) before worker i.all_told e.told;
     }
+
+pub returns : goal.returns
+returns g c =
+    let k = g.K.Kind in
+    let W = WorkerView g.row.K-Sight.Denot g.row.K-Item.Denot g.row.K-Reply.Denot in
+    let T = Tray g.row.K-List.Denot g.row.K-Reply.Denot in
+    let end = YieldsList-end (YieldsList-from_vec c.args.workers.items (search rules) (search rules)) c.loop-worker.yielded c.loop-worker.worker-iterator c.loop-worker.yielded_by c.next.result c.next.new.self c.in-None.is c.next.ensures.steps in
+    subst (λ (ws : List W). AreParts k.standing (λ (t : T). told_in (k.items t.items) t.replies.items) (λ base (t : T). k.is_of base t.items) (λ (t : T). length (k.items t.items) ≡ length t.replies.items) k.tells ws c.loop-worker.seats.items c.loop-worker.trays.items) (sym (map-id c.loop-worker.yielded) ∙ end.0) c.loop-worker.invariant

@@ -1,4 +1,4 @@
-use Rattle.std.proofs.Common.{All, ap, arith, get_or, length, subst, sym, take}
+use Rattle.std.proofs.Common.{All, get_or, subst, sym, take}
 use Rattle.std.proofs.lemmas.List.{take_all, take_more}
 use Rattle.std.proofs.lemmas.List.Elements.{All-nil, All-push}
 use Rattle.phase_kind.proofs.several.all_rest.Goals as goal

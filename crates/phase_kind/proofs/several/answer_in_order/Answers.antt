@@ -1,5 +1,5 @@
-use Rattle.std.proofs.Common.{ℕ, arith, length, subst, sym}
-use Rattle.phase_kind.proofs.Teams.{all_named, none_named, one_named, still_team, still_waits}
+use Rattle.std.proofs.Common.{ℕ, ◌∙◌, arith, subst, sym}
+use Rattle.phase_kind.proofs.Teams.{all_named, as_many_phases, belongs_at, none_named, one_named, still_team, still_waits}
 use Rattle.phase_kind.proofs.several.answer_in_order.Goals as goal
 use Rattle.phase_kind.specs.Team.{GoesWithin}
 
@@ -11,6 +11,10 @@ loop-index-init g c = record {
 
 pub entry-to-requires-clause-within : goal.entry-to-requires-clause-within
 entry-to-requires-clause-within g c = subst (λ (n : ℕ). GoesWithin (λ (p : ℕ). p) n c.args.order.now) (sym c.loop-index.invariant.done.as_many) c.requires.named.within
+
+pub answer_next-requires-clause-belongs : goal.answer_next-requires-clause-belongs
+answer_next-requires-clause-belongs g c κs within =
+    belongs_at c.args.phases.now c.loop-index.team c.entry-to.result c.index-team-to.result c.index-phases-to.result c.loop-index.invariant.team c.entry-to.ensures.within ∙ sym c.index-phases-to.is
 
 pub answer_next-requires-clause-waits : goal.answer_next-requires-clause-waits
 answer_next-requires-clause-waits g c κs within =
@@ -29,3 +33,12 @@ loop-index-preserved g c =
 
 pub returns-clause-finished : goal.returns-clause-finished
 returns-clause-finished g c = all_named g.K.Kind.rests c.args.team.now c.loop-index.team c.args.order.now c.loop-index.index c.loop-index.invariant.done c.requires.named (omega (arith, c.loop-index-test.false))
+
+pub bounds-phases-to : goal.bounds-phases-to
+bounds-phases-to g c = omega (arith, c.entry-to.ensures.within, as_many_phases c.args.phases.now c.loop-index.team c.loop-index.invariant.team)
+
+pub bounds-team-to : goal.bounds-team-to
+bounds-team-to g c = c.entry-to.ensures.within
+
+pub returns-clause-team : goal.returns-clause-team
+returns-clause-team g c = c.loop-index.invariant.team

@@ -1,4 +1,4 @@
-use Rattle.std.proofs.Common.{◌≡◌, ◌+◌, ◌<◌, ◌∙◌, Global, Vec, ap, arith, get_or, length, map, refl, subst, sym}
+use Rattle.std.proofs.Common.{◌+◌, ◌<◌, ◌∙◌, Global, Vec, ap, arith, get_or, length, map, refl, subst, sym}
 use Rattle.std.proofs.lemmas.List.{get_or_default}
 use Rattle.std.proofs.lemmas.Option.{slice_get-get_or}
 use Rattle.phase_kind.proofs.Counts.{AreMerged, all_merged, count_there, fewer_there, none_counted, none_merged, one_counted, one_merged, short, shown_there}

@@ -1,9 +1,8 @@
-use Rattle.std.proofs.Common.{◌≡◌, ◌^◌, ◌<◌, ◌∙◌, [], All, List, ℕ, ap, arith, get_or, length, slice_get, subst, sym, zip}
-use Rattle.std.proofs.lemmas.Option.{same_Some, slice_get-get_or}
-use Rattle.body_store.specs.Contents.{Contents}
-use Rattle.phase_kind.proofs.Counts.{short}
+use Rattle.std.proofs.Common.{◌∙◌, ◌<◌, List, ℕ, ap, arith, get_or, length, slice_get, sym, zip}
+use Rattle.std.proofs.lemmas.Option.{slice_get-get_or, slice_get_within}
+use Rattle.phase_kind.proofs.Counts.{short, something_there}
 use Rattle.phase_kind.proofs.Planned.{zipped_at}
-use Rattle.phase_kind.proofs.Shared.{new_each, none_filled}
+use Rattle.phase_kind.proofs.Shared.{none_filled}
 use Rattle.phase_kind.proofs.several.lists_for.Goals as goal
 
 pub new_lists-requires-clause-as_many : goal.new_lists-requires-clause-as_many
@@ -18,24 +17,23 @@ new_lists-requires-clause-few g c κs within k d below =
 
 pub returns-clause-is_of : goal.returns-clause-is_of
 returns-clause-is_of g c k d within =
-    let L = g.row.K-List.Denot in
-    let New : (Contents × ℕ) × L → Type 0 = λ at. g.K.Kind.is_of at.0.0 at.1 × (g.K.Kind.items at.1 ≡ []) × (g.K.Kind.room at.1 ≡ at.0.1) in
     let stores = c.args.stores.now in
     let shares = c.deref.result.now in
     let lists = c.in_ok-lists.lists.items in
     let both = get_or (zip stores lists) k d in
     let parts = zipped_at stores lists k both (slice_get-get_or (zip stores lists) k d within) in
-    let new = new_each New stores shares lists (ap length c.deref.ensures.value ∙ c.in_ok-shares.ensures.as_many) c.in_ok-lists.ensures.as_many c.in_ok-lists.ensures.new k both.1 parts.1 in
-    subst (λ (store : Contents). g.K.Kind.is_of store both.1) {x = new.0} {y = both.0} (same_Some new.0 both.0 (sym new.2 ∙ parts.0)) new.4.0
+    let share = something_there shares k (omega (arith, slice_get_within stores k both.0 parts.0, ap length c.deref.ensures.value, c.in_ok-shares.ensures.as_many)) in
+    (c.in_ok-lists.ensures.new k both.0 share.0 both.1 parts.0 share.1 parts.1).0
 
 pub returns-clause-filled : goal.returns-clause-filled
 returns-clause-filled g c =
-    let L = g.row.K-List.Denot in
-    let New : (Contents × ℕ) × L → Type 0 = λ at. g.K.Kind.is_of at.0.0 at.1 × (g.K.Kind.items at.1 ≡ []) × (g.K.Kind.room at.1 ≡ at.0.1) in
     let stores = c.args.stores.now in
     let shares = c.deref.result.now in
     let lists = c.in_ok-lists.lists.items in
     none_filled g.K.Kind.items g.K.Kind.room (length stores) c.args.order.now lists c.in_ok-lists.ensures.as_many
     (λ place list there.
-    let new = new_each New stores shares lists (ap length c.deref.ensures.value ∙ c.in_ok-shares.ensures.as_many) c.in_ok-lists.ensures.as_many c.in_ok-lists.ensures.new place list there in
-    (new.4.1, new.4.2 ∙ c.in_ok-shares.ensures.each place new.1 (ap (λ (l : List ℕ). slice_get l place) (sym c.deref.ensures.value) ∙ new.3)))
+    let within : place < length stores = omega (arith, slice_get_within lists place list there, c.in_ok-lists.ensures.as_many) in
+    let store = something_there stores place within in
+    let share = something_there shares place (omega (arith, within, ap length c.deref.ensures.value, c.in_ok-shares.ensures.as_many)) in
+    let new = c.in_ok-lists.ensures.new place store.0 share.0 list store.1 share.1 there in
+    (new.1, new.2 ∙ c.in_ok-shares.ensures.each place share.0 (ap (λ (l : List ℕ). slice_get l place) (sym c.deref.ensures.value) ∙ share.1)))

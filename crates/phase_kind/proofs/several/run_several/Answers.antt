@@ -1,6 +1,6 @@
 use Rattle.std.proofs.Common.{◌≡◌, ◌<◌, [], All, Global, Vec, ℕ, arith, get_or, length, subst, sym}
 use denote.Exit.{no}
-use denote.Param.{copied, param}
+use denote.Param.{param}
 use denote.Param.Send.{arg_send, param_send}
 use Rattle.phase_kind.proofs.Listed.{at_both}
 use Rattle.phase_kind.proofs.Teams.{all_idle}
@@ -21,7 +21,7 @@ for_each_mut-requires-clause-accepts g c κs bounds i p within is =
         (
           (λ (d : Vec ℕ Global). subst (λ (team : Team). AreNamed (get_or orders i d).items team.items) {x = get_or teams i p.now} {y = p.now} (sym is)
               (at_one_place (λ at. AreNamed at.1.items at.0.items) teams orders i (p.now, d) c.requires.as_many c.requires.named within)),
-          (param_send 1 _ (arg_send _ no (param 2 g.row.K) c.type_bounds.send-K), param_send 3 _ (arg_send _ no (param 4 g.row.K-Words) c.type_bounds.send-K-Words), param_send 4 _ (arg_send _ no (param 5 g.row.K-Seat) c.type_bounds.send-K-Seat), param_send 6 _ (arg_send _ no (param 7 g.row.K-List) c.type_bounds.send-K-List), record { owned = c.type_bounds.send-K-Reply.owned; leaving = λ k x w. tt }, record { shared = c.type_bounds.sync-T.shared }, record { shared = c.type_bounds.sync-K.shared }, record { shared = c.type_bounds.sync-K-Words.shared }, record { shared = c.type_bounds.sync-K-List.shared }),
+          (param_send 4 _ (arg_send _ no (param 5 g.row.K-Seat) c.type_bounds.send-K-Seat), param_send 6 _ (arg_send _ no (param 7 g.row.K-List) c.type_bounds.send-K-List), record { owned = c.type_bounds.send-K-Reply.owned; leaving = λ k x w. tt }, record { shared = c.type_bounds.sync-T.shared }, record { shared = c.type_bounds.sync-K.shared }, record { shared = c.type_bounds.sync-K-Words.shared }, record { shared = c.type_bounds.sync-K-List.shared }),
         ),
       ),
     )

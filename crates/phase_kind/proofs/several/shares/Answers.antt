@@ -1,4 +1,4 @@
-use Rattle.std.proofs.Common.{◌≡◌, ◌+◌, ◌<◌, ◌∙◌, Some, ap, arith, get_or, length, refl, slice_get, subst, take}
+use Rattle.std.proofs.Common.{◌+◌, ◌∙◌, ap, arith, get_or, refl, subst}
 use Rattle.std.proofs.lemmas.List.{get_or_default, take_all}
 use Rattle.std.proofs.lemmas.Option.{slice_get-get_or}
 use Rattle.phase_kind.proofs.Counts.{AreCounts, are_shares, count_there, fewer_there, none_counted, one_counted, short}

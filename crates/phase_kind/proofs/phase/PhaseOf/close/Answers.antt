@@ -1,4 +1,4 @@
-use Rattle.std.proofs.Common.{List, subst, sym}
+use Rattle.std.proofs.Common.{subst, sym}
 use Rattle.phase_kind.proofs.phase.PhaseOf.close.Goals as goal
 use Rattle.phase_kind.specs.Phase.{Phase}
 use Rattle.phase_kind.specs.Worker.{AreAll}
@@ -9,10 +9,10 @@ end-requires-clause-left g c =
     record {
       workers = c.args.workers.items;
       all = subst (λ (phase : Phase). AreAll phase c.args.workers.items) (sym c.self.view_is) c.requires.all;
-      seats_are = parts.seats;
-      trays_are = parts.trays;
-      told = parts.told;
+      seats_are = parts.seats_are;
+      trays_are = parts.trays_are;
+      told = parts.all_told;
     }
 
 pub end-requires-clause-is_of : goal.end-requires-clause-is_of
-end-requires-clause-is_of g c = c.in-Ok.ensures.is_of _ (subst (λ (phase : Phase). AreAll phase c.args.workers.items) (sym c.self.view_is) c.requires.all).belong
+end-requires-clause-is_of g c = c.in-Ok.ensures.of_base _ (subst (λ (phase : Phase). AreAll phase c.args.workers.items) (sym c.self.view_is) c.requires.all).belong

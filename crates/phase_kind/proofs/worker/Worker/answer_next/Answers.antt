@@ -1,8 +1,7 @@
-use Rattle.std.proofs.Common.{◌≡◌, ◌+◌, ◌<◌, [], ◌∷◌, ◌++◌, List, Some, ap, arith, drop, length, length-append, slice_get, subst, sym, ◌∙◌}
+use Rattle.std.proofs.Common.{◌≡◌, ◌<◌, [], ◌∷◌, ◌++◌, List, Some, ap, arith, drop, length, length-append, slice_get, subst, sym, ◌∙◌}
 use Rattle.std.proofs.lemmas.Option.{slice_get_within}
 use Rattle.phase_kind.proofs.Trays.{first_there, first_told, first_waits, still_tells, told_of}
 use Rattle.phase_kind.proofs.worker.Worker.answer_next.Goals as goal
-use Rattle.phase_kind.specs.Phase.{Phase}
 use Rattle.phase_kind.specs.Told.{told_in}
 use Rattle.phase_kind.specs.Worker.{WorkerView}
 use Rattle.word_rule.specs.Seats.{SharedWords}

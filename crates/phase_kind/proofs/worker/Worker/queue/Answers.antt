@@ -1,4 +1,4 @@
-use Rattle.std.proofs.Common.{◌≡◌, ◌+◌, ◌-◌, ◌<◌, [], ◌∷◌, ◌++◌, List, ap, arith, length, length-append, subst, sym, ◌∙◌}
+use Rattle.std.proofs.Common.{◌-◌, ◌<◌, [], ◌∷◌, List, ap, arith, length, length-append, subst, sym, ◌∙◌}
 use Rattle.phase_kind.proofs.Trays.{still_told}
 use Rattle.phase_kind.proofs.worker.Worker.queue.Goals as goal
 use Rattle.phase_kind.specs.Told.{Told, told_in}

@@ -1,8 +1,0 @@
-use Rattle.std.proofs.Common.{map, take, true}
-use Rattle.std.specs.Prelude.{string_bytes}
-use Rattle.ballot_store_cli.proofs.command.are_media.Given as goal
-use Rattle.run_outcome.specs.Row.{AreMediaIf}
-
--- the words before this one are those of media
-abbrev pub invariant-words : goal.invariant-words
-invariant-words l = AreMediaIf true l.medium (take l.at (map string_bytes l.words))

@@ -1,6 +1,0 @@
-use Rattle.ballot_store_cli.proofs.Runs.{carried_out_whole}
-use Rattle.store_spec.specs.Disk.{disk_model}
-use Rattle.ballot_store_cli.proofs.laws.a_served_command_is_carried_out.Goals as goal
-
-pub returns : goal.returns
-returns g c = carried_out_whole (disk_model g.D.Disk.seen g.D.Disk.calls g.D.Disk.may_leave g.D.Disk.faults)
