@@ -159,13 +159,15 @@ PEAKS = {"`build`, 32,768 lines", "`large`, 32,768, 16 tabulators", "`large`, 16
 
 
 def memory_told(kept):
-    """Peaks of some rows, as 'program/peer', those of version 2 second."""
+    """Peaks and fresh pages of some rows, as 'program/peer', those of version 2 second."""
     works, parts = kept["works"], []
     for row in ROWS:
-        both = [works[name]["mib"] for name in (row.two, row.wide) if "mib" in works.get(name, {})]
+        both = [works[name] for name in (row.two, row.wide) if "mib" in works.get(name, {})]
         if both and row.label in PEAKS:
-            parts.append(row.label + " " + " and ".join("%.1f/%.1f" % tuple(peaks) for peaks in both))
-    return folded("Peaks in MiB, program/peer, those of version 2 second: " + "; ".join(parts) + ".")
+            each = ["%.1f/%.1f (%s/%s)" % (*work["mib"], *(format(it, ",") for it in work["faults"])) for work in both]
+            parts.append(row.label + " " + " and ".join(each))
+    text = "Peaks in MiB, and in brackets pages that the system handed out afresh, program/peer, those of version 2 second: "
+    return folded(text + "; ".join(parts) + ".")
 
 
 def fill(page, kept):

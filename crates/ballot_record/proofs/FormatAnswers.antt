@@ -80,12 +80,6 @@ one_record e bytes r other election read is =
     let same : ballot r ≡ ballot other = read ∙ ap (ballot_at e) is.1 ∙ cell_again e (ballot other) election is.0 in
     ap record_like same
 
--- and it has the cell, where a ballot has
-pub held_read : (e : Election) (bytes : List ℕ) (r : Record) → IsElection e → ballot r ≡ ballot_at e bytes → (b : Ballot) × IsCellOf e bytes b → IsCellOf e bytes (ballot r)
-held_read e bytes r election read some =
-    let same : some.0 ≡ ballot r = sym (cell_again e some.0 election some.1.0) ∙ ap (ballot_at e) (sym some.1.1) ∙ sym read in
-    subst (IsCellOf e bytes) same some.1
-
 pub zeros_of : (e : Election) (bytes : List ℕ) → length bytes ≡ cell_size e → All {X = ℕ} (λ byte. byte ≡ 0) bytes → bytes ≡ replicate (cell_size e) 0
 zeros_of e bytes long all = zeros_from_all bytes all ∙ ap (λ n. replicate n 0) long
 

@@ -21,7 +21,6 @@ pub mod LineNumbers
 mod LinePrints
 mod LineRuns
 mod LineSets
-mod LineTwo
 pub mod LineWhole
 pub mod Lookups
 pub mod MarkSets

@@ -33,12 +33,7 @@ ballot_at e bytes = record {
   marks = sets_at (set_width e) (length e.contests) (drop 9 bytes) ++ replicate (MARK_SETS - length e.contests) 0;
 }
 
--- each of so many mark sets that stand here, of so many bytes each, has none but its first so many choices
-abbrev pub HaveAtMost : (ℕ → ℕ) → ℕ → ℕ → List ℕ → Type 0
-HaveAtMost choices width count bytes =
-    (k : ℕ) → k < count → big_number width (drop (width * k) bytes) < 2 ^ choices k
-
--- each has choices of its contest on a style
+-- each of the mark sets that stand here, of so many bytes, has choices of its contest on a style
 abbrev pub HaveChoices : Election → ℕ → ℕ → List ℕ → Type 0
 HaveChoices e style width bytes =
-    HaveAtMost (λ k. choices_on e style (k + 1)) width (length e.contests) bytes
+    (k : ℕ) → k < length e.contests → big_number width (drop (width * k) bytes) < 2 ^ choices_on e style (k + 1)

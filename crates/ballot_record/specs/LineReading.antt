@@ -1,5 +1,5 @@
 -- How a record line is read from left to right: a value and the bytes after it, or nothing.
-use Rattle.std.specs.Prelude.{ℕ, zero, suc, ◌+◌, ◌-◌, ◌*◌, ◌^◌, ◌==◌, nat_lt, nat_le, if◌then◌else◌, Bool, false, List, [], ◌∷◌, length, Option, Some, None, option_map, option_and_then}
+use Rattle.std.specs.Prelude.{ℕ, zero, suc, ◌+◌, ◌-◌, ◌*◌, ◌^◌, ◌==◌, nat_lt, nat_le, if◌then◌else◌, List, [], ◌∷◌, length, Option, Some, None, option_map, option_and_then}
 use Rattle.std.specs.Char.{is_ascii_digit}
 use Rattle.store_spec.specs.BallotLine.{RecordLine, comma, dash, slash, space}
 use Rattle.store_spec.specs.Election.{Election, most_choices, most_contests, most_styles}
@@ -15,15 +15,6 @@ digits_at limit value (byte ∷ bytes) =
     else digits_at limit (value * 10 + (byte - 48)) bytes
     )
     else if value == 0 then None else Some (value, byte ∷ bytes)
-
--- a digit stands first
-abbrev pub goes_on : List ℕ → Bool
-goes_on [] = false
-goes_on (byte ∷ bytes) = is_ascii_digit byte
-
--- the same behind digits of this value, which may be above the limit
-abbrev pub digits_after : ℕ → ℕ → List ℕ → Option (ℕ × List ℕ)
-digits_after limit value bytes = if nat_lt limit value then None else digits_at limit value bytes
 
 -- the number of the four digits that stand first, and the bytes after them
 unfoldable pub four_at : List ℕ → Option (ℕ × List ℕ)

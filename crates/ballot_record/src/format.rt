@@ -9,8 +9,8 @@ ghost use Rattle.store_spec.specs.Ballot.{Ballot, IsValid, MARK_SETS};
 ghost use Rattle.store_spec.specs.Damage.{number_at};
 ghost use Rattle.store_spec.specs.Election.{IsElection, bank_size, cell_size, medium_size, set_width};
 ghost use Rattle.store_spec.specs.Image.{IsEmptyCell, IsCellOf, ballot_bytes, header_of};
-ghost use Rattle.ballot_record.specs.Format.{HaveAtMost, IsSetWidth, ballot_at, largest_bank, largest_cell, number_size, sets_at};
-ghost use Rattle.ballot_record.specs.Barred.{AreAllBehind, AreBarred};
+ghost use Rattle.ballot_record.specs.Format.{IsSetWidth, ballot_at, largest_bank, largest_cell, number_size, sets_at};
+ghost use Rattle.ballot_record.specs.Barred.{AreBarred, HaveNone};
 ghost use Rattle.ballot_record.specs.Record.{ballot};
 ghost use Rattle.ballot_record.specs.declared.record.Record as declared;
 
@@ -22,7 +22,7 @@ use byteorder::{BigEndian, ByteOrder};
 pub const HEADER_BYTES: usize = 32;
 
 /// How many bytes stand in a cell before the mark sets: a number and a style.
-const FRONT_BYTES: usize = 9;
+pub(crate) const FRONT_BYTES: usize = 9;
 
 /// The most bytes of a cell, whatever the election.
 pub const MAX_CELL_BYTES: usize = FRONT_BYTES + MAX_SET_BYTES * MAX_MARK_SETS;
@@ -35,6 +35,11 @@ pub const MAX_BANK_BYTES: usize = HEADER_BYTES + MAX_CELLS * MAX_CELL_BYTES;
 
 /// As many zeros as the longest cell has bytes.
 const ZEROS: [u8; MAX_CELL_BYTES] = [0; MAX_CELL_BYTES];
+
+/// How many bytes of a cell are judged at once, of a short one and of one that has as many as the second.
+const STEP: usize = 8;
+
+const WIDE_STEP: usize = 64;
 
 /// What a header begins with.
 const MARK: [u8; 8] = *b"HIBSTORE";
@@ -54,7 +59,7 @@ impl Election {
     }
 
     /// How many bytes a mark set has in a cell: 4 in version 1, and 8 in version 2.
-    fn set_bytes(&self) -> usize
+    pub(crate) fn set_bytes(&self) -> usize
         ensures width { result ≡ set_width self.now }
         ensures known { IsSetWidth result }
         ensures valid { IsElection self.now }
@@ -185,36 +190,52 @@ fn are_zero(bytes: &[u8]) -> bool
     bytes == &ZEROS[..bytes.len()]
 }
 
-/// Whether each of these mark sets, of so many bytes, has none of the choices that are barred. It does not stop at the
-/// first that has, so that several are judged at once.
+/// Whether none of these bytes has a bit that is barred. It does not stop at the first that has, so that many are
+/// judged at once.
 #[inline(always)]
-fn have_none_by(bytes: &[u8], width: usize, barred: &[u64]) -> bool
-    requires width { IsSetWidth width }
-    requires long { length bytes.now ≡ width * length barred.now }
-    ensures { (choices : ℕ → ℕ) → AreAllBehind choices barred.now
-        → IsTrue result ↔ HaveAtMost choices width (length barred.now) bytes.now }
+fn have_none(bytes: &[u8], barred: &[u8]) -> bool
+    requires { length barred.now ≡ length bytes.now }
+    ensures { IsTrue result ↔ HaveNone bytes.now barred.now }
 {
     let mut marked = 0;
-    let mut rest = bytes;
-    for set in barred {
-        let (marks, after) = take_set(rest, width);
-        marked |= marks & *set;
-        rest = after;
+    for place in 0..bytes.len() {
+        marked |= bytes[place] & barred[place];
     }
     marked == 0
 }
 
-/// The same, by a loop for each width.
-fn have_none(bytes: &[u8], width: usize, barred: &[u64]) -> bool
-    requires width { IsSetWidth width }
-    requires long { length bytes.now ≡ width * length barred.now }
-    ensures { (choices : ℕ → ℕ) → AreAllBehind choices barred.now
-        → IsTrue result ↔ HaveAtMost choices width (length barred.now) bytes.now }
+/// Whether no byte of a cell has a bit that is barred. So many bytes are judged at once, and those in front of the mark
+/// sets, where nothing is barred, as far as these reach back to them.
+#[inline(always)]
+fn has_none_by(cell: &[u8], barred: &[u8], step: usize) -> bool
+    requires some { 0 < step }
+    requires long { step ≤ length cell.now }
+    requires row { length barred.now ≡ length cell.now }
+    requires front { (k : ℕ) → k < FRONT_BYTES → slice_index barred.now k ≡ 0 }
+    ensures { IsTrue result ↔ HaveNone cell.now barred.now }
 {
-    if width == MAX_SET_BYTES {
-        have_none_by(bytes, MAX_SET_BYTES, barred)
+    let last = cell.len() - step;
+    let mut from = FRONT_BYTES;
+    while from < last {
+        if !have_none(&cell[from..from + step], &barred[from..from + step]) {
+            return false;
+        }
+        from += step;
+    }
+    have_none(&cell[last..last + step], &barred[last..last + step])
+}
+
+/// The same, by steps as long as the cell allows.
+fn has_none(cell: &[u8], barred: &[u8]) -> bool
+    requires long { 8 ≤ length cell.now }
+    requires row { length barred.now ≡ length cell.now }
+    requires front { (k : ℕ) → k < FRONT_BYTES → slice_index barred.now k ≡ 0 }
+    ensures { IsTrue result ↔ HaveNone cell.now barred.now }
+{
+    if cell.len() < WIDE_STEP {
+        has_none_by(cell, barred, STEP)
     } else {
-        have_none_by(bytes, SHORT_SET_BYTES, barred)
+        has_none_by(cell, barred, WIDE_STEP)
     }
 }
 
@@ -231,9 +252,9 @@ pub fn holds_ballot(bytes: &[u8], election: &Election, barred: &Barred) -> bool
     if usize::from(style) > election.styles() || style == 0 || number_of(bytes) == 0 {
         return false;
     }
-    let (_, sets) = bytes.split_at(FRONT_BYTES);
     let row = &barred.rows[usize::from(style) - 1];
-    have_none(sets, election.set_bytes(), &row[..election.contests()])
+    let (in_cell, _) = row.split_at(bytes.len());
+    has_none(bytes, in_cell)
 }
 
 /// What stands in a cell under an election: `Bad` is what no store writes.

@@ -1,8 +1,8 @@
 //! The reading of a ballot's line.
 
-ghost use Rattle.std.specs.Prelude.{◌≡◌, ℕ, ◌^◌, ◌<◌, ◌≤◌, ◌↔◌, option_and_then, option_map, option_copied, replicate, Some, None, Ok, Err, true, IfOk, IfSome, OnOk};
+ghost use Rattle.std.specs.Prelude.{◌≡◌, ℕ, ◌^◌, ◌<◌, ◌≤◌, ◌↔◌, option_map, option_copied, replicate, Some, None, Ok, Err, IfOk, OnOk};
 ghost use Rattle.store_spec.specs.BallotLine.{IsRecordLine, Spells, IsLineOf};
-ghost use Rattle.ballot_record.specs.LineReading.{digits_after, digits_at, goes_on, four_at, eight_at, past_byte, choices_at, group_at, groups_of, line_of};
+ghost use Rattle.ballot_record.specs.LineReading.{digits_at, four_at, eight_at, past_byte, choices_at, group_at, groups_of, line_of};
 ghost use Rattle.ballot_record.specs.Line.{set_seen, sets_seen, line_seen};
 ghost use Rattle.ballot_record.specs.Record.{ballot};
 
@@ -123,47 +123,27 @@ fn take_digits(bytes: &[u8], before: u64, limit: u64) -> Option<(u64, &[u8])>
     }
 }
 
-/// A digit stands first.
-fn goes_on(bytes: &[u8]) -> bool
-    ensures { result ≡ goes_on bytes.now }
-{
-    matches!(bytes, [b'0'..=b'9', ..])
-}
-
-/// The number from 1 to 99 of the digit or two that stand first, and the bytes after them. A number that goes on has two
-/// digits before them.
-#[inline(always)]
-#[tactic(auto, unfolding(crate::specs::LineReading::digits_at))]
-fn take_two(bytes: &[u8]) -> Option<(u64, &[u8])>
-    ensures some { IfSome result (λ x. 1 ≤ x.0) }
-    ensures few { IfSome result (λ x. x.0 ≤ 99) }
-    ensures two { IfSome result (λ x. goes_on x.1.now ≡ true → 10 ≤ x.0) }
-    ensures found { (limit : ℕ) → 9 ≤ limit
-        → digits_at limit 0 bytes.now ≡ option_and_then (λ x. digits_after limit x.0 x.1.now) result }
-{
-    let [first @ b'1'..=b'9', rest @ ..] = bytes else {
-        return None;
-    };
-    let value = u64::from(*first - b'0');
-    match rest {
-        [second @ b'0'..=b'9', after @ ..] => {
-            Some((value * 10 + u64::from(*second - b'0'), after))
-        }
-        _ => Some((value, rest)),
-    }
-}
-
 /// The number from 1 to the limit that stands first, and the bytes after it, where most numbers have one digit or two.
 #[tactic(auto, unfolding(crate::specs::LineReading::digits_at))]
 fn take_short(bytes: &[u8], limit: u64) -> Option<(u64, &[u8])>
     requires { 9 ≤ limit }
     ensures { option_map (λ x. (x.0, x.1.now)) result ≡ digits_at limit 0 bytes.now }
 {
-    let (value, after) = take_two(bytes)?;
-    if value > limit {
+    let [first @ b'1'..=b'9', rest @ ..] = bytes else {
+        return None;
+    };
+    let value = u64::from(*first - b'0');
+    let [second @ b'0'..=b'9', after @ ..] = rest else {
+        return Some((value, rest));
+    };
+    let both = value * 10 + u64::from(*second - b'0');
+    if both > limit {
         return None;
     }
-    take_digits(after, value, limit)
+    match after {
+        [b'0'..=b'9', ..] => take_digits(after, both, limit),
+        _ => Some((both, after)),
+    }
 }
 
 /// The number from 1 to the limit that stands first, and the bytes after it.
@@ -190,15 +170,14 @@ fn take_choices(bytes: &[u8], most: u64) -> Option<(u64, &[u8])>
     let mut last = 0;
     let mut rest = bytes;
     loop {
-        let (choice, after) = take_two(rest)?;
-        if choice <= last || choice > most {
+        let (choice, after) = take_short(rest, most)?;
+        if choice <= last {
             return None;
         }
         set |= 1 << (choice - 1);
         last = choice;
         match after_byte(after, b',') {
             Some(more) => rest = more,
-            None if goes_on(after) => return None,
             None => return Some((set, after)),
         }
     }

@@ -23,7 +23,7 @@ ghost use Rattle.store_spec.specs.Image.{IsCellOf, cells_of, image_of};
 ghost use Rattle.store_spec.specs.Layout.{IsLayout};
 
 use ballot_record::{BallotList, Election, Record};
-pub use lookup::Place;
+pub use lookup::{Place, layout};
 use outside_io::Memory;
 use std::alloc::Global;
 use std::marker::Model;

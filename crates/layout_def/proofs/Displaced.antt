@@ -7,9 +7,6 @@ use Rattle.store_spec.specs.Layout.{IsOrdered, MayStand}
 pub stands_at_home : (home : ℕ → ℕ) (cells : List ℕ) (v : ℕ) → MayStand home cells v (home v)
 stands_at_home home cells v = record { from_home = omega arith; greater_before = λ k from before. absurd (omega arith) }
 
-pub stands_in_order : (home : ℕ → ℕ) (cells : List ℕ) (place : ℕ) → IsOrdered home cells → get_or cells place 0 ≢ 0 → MayStand home cells (get_or cells place 0) place
-stands_in_order home cells place h n = record { from_home = h.from_home place n; greater_before = λ k from before. h.greater_before place k n from before }
-
 pub passes_greater : (home : ℕ → ℕ) (cells : List ℕ) (v place : ℕ) → MayStand home cells v place → v < get_or cells place 0 → MayStand home cells v (place + 1)
 passes_greater home cells v place h more = record {
   from_home = let from = h.from_home in omega arith;

@@ -6,12 +6,8 @@ use Rattle.recovery.specs.Refused.{IsRefusedMedium}
 use Rattle.recovery.specs.declared.fault.RecoverFault.{RecoverFault}
 use Rattle.recovery.specs.declared.fault.RecoverFault.TheVariants as recover
 use Rattle.run_outcome.specs.declared.status.Status.{Status}
-use Rattle.store_spec.specs.Ballot.{Ballot}
 use Rattle.store_spec.specs.Election.{Election, IsElection}
-use Rattle.store_spec.specs.Medium.{HoldsSet}
-
-abbrev pub HoldsSome : Election → List ℕ → Type 0
-HoldsSome e bytes = (set : List Ballot) × HoldsSet e bytes set
+use Rattle.store_spec.specs.Medium.{HoldsSome}
 
 -- a medium is refused with this status, for a reason that its bytes tell
 pub record Refuses (e : Election) (bytes : List ℕ) (a : Status) : Type 0 where

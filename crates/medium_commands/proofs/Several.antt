@@ -5,7 +5,7 @@ use Rattle.std.proofs.lemmas.Option.{get_or_from_slice_get, slice_get_within}
 use Rattle.std.specs.List.{AllZip, slice_get}
 use Rattle.std.specs.Prelude.{IfSome}
 use Rattle.image_builder.proofs.Held.{one_held}
-use Rattle.medium_commands.proofs.Refusing.{HoldsSome, Refuses, not_both, one_refused, refuses}
+use Rattle.medium_commands.proofs.Refusing.{Refuses, not_both, one_refused, refuses}
 use Rattle.medium_commands.specs.Refused.{refused_status}
 use Rattle.medium_commands.specs.Several.{AllHold}
 use Rattle.recovery.proofs.Refusals.{one_refusal, refused_holds}
@@ -22,7 +22,7 @@ use Rattle.run_outcome.specs.declared.status.Status.TheVariants as status
 use Rattle.store_spec.specs.Ballot.{Ballot}
 use Rattle.store_spec.specs.Disk.{DiskModel}
 use Rattle.store_spec.specs.Election.{Election, IsElection}
-use Rattle.store_spec.specs.Medium.{HoldsSet}
+use Rattle.store_spec.specs.Medium.{HoldsSet, HoldsSome}
 
 -- ---- the first further medium that is refused
 

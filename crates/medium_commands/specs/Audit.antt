@@ -8,7 +8,7 @@ use Rattle.medium_commands.specs.Init.{LeavesBytes}
 use Rattle.run_outcome.specs.declared.status.Status.{Status}
 use Rattle.run_outcome.specs.declared.status.Status.TheVariants as status
 use Rattle.outside_io.specs.Outside.{Output}
-use Rattle.run_outcome.specs.Row.{Content, Row, TakesNone}
+use Rattle.run_outcome.specs.Row.{Content, HoldsAny, Row, TakesNone}
 use Rattle.run_outcome.specs.World.{Reported, World}
 use Rattle.outside_io.specs.Stream.{TakesAll, TakesSome}
 use Rattle.recovery.specs.ReadsOnly.{ReadsOnly, WritesNothing}
@@ -19,7 +19,7 @@ use Rattle.store_spec.specs.Ballot.{Ballot}
 use Rattle.store_spec.specs.Disk.{DiskModel, IsSettled}
 use Rattle.store_spec.specs.Election.{Election}
 use Rattle.store_spec.specs.Fault.{Rose}
-use Rattle.store_spec.specs.Medium.{HoldsSet, IsMediumOf}
+use Rattle.store_spec.specs.Medium.{IsMediumOf}
 use Rattle.store_spec.specs.Session.{counted}
 
 -- the line that tells what was found
@@ -70,9 +70,6 @@ pub record AuditEnds {K D : Type 0} (model : DiskModel D) (e : Election) (status
 
 -- ---- the row
 
-abbrev HoldsSome : Election → Content → Type 0
-HoldsSome e content = (set : List Ballot) × HoldsSet e content.disk set
-
 -- an audit ends well where the bytes are the medium of the set that they hold, and else tells the first place that
 -- differs
 abbrev pub IsAnswered : Election → Content → Status → Type 0
@@ -88,7 +85,7 @@ audit_row = record {
   word = codes "audit";
   further = TakesNone;
   touches = record { script = false; disk = true; more = false; report = false };
-  served = HoldsSome;
+  served = HoldsAny;
   done = IsAnswered;
   ends = audit_ends;
 }

@@ -4,7 +4,7 @@ use Rattle.std.specs.List.{AllZip}
 use Rattle.checkpoint.specs.Unused.{IsRefusedDisk, IsUnusedOrHolds}
 use Rattle.checkpoint.specs.declared.fresh.InitFault.TheVariants as inits
 use Rattle.medium_commands.proofs.InitLaws.{InitDecides, one_init}
-use Rattle.medium_commands.proofs.Refusing.{HoldsSome, Refuses, not_both, one_refused, refuses}
+use Rattle.medium_commands.proofs.Refusing.{Refuses, not_both, one_refused, refuses}
 use Rattle.migrate_commands.proofs.Migrated.{IsRefusal, is_refusal}
 use Rattle.migrate_commands.proofs.OldForm.{form_valid}
 use Rattle.migrate_commands.specs.Migrate.{HoldsOld, IsUnusedTarget, MigrateEnds, MigrateTells, MigratesNone, MigratesNot, migrate_row, migrate_status}
@@ -24,7 +24,7 @@ use Rattle.run_outcome.specs.declared.status.Status.TheVariants as status
 use Rattle.store_spec.specs.Ballot.{Ballot}
 use Rattle.store_spec.specs.Disk.{DiskModel}
 use Rattle.store_spec.specs.Election.{Election, HasVersionOne, IsElection, as_version_one}
-use Rattle.store_spec.specs.Medium.{Bank, HoldsSet, IsChosen, IsOpen, IsUnused}
+use Rattle.store_spec.specs.Medium.{Bank, HoldsSet, HoldsSome, IsChosen, IsOpen, IsUnused}
 use Rattle.store_spec.specs.Medium.Bank.{A, B}
 
 -- ---- what decides

@@ -7,3 +7,4 @@ pub mod Readings
 pub mod TakenLines
 pub mod Told
 mod Windows
+pub mod Written

@@ -1,12 +1,13 @@
 -- The sets of parts, up to one of them.
-use Rattle.std.proofs.Common.{◌≡◌, ◌+◌, ◌^◌, ◌<◌, ℕ, zero, suc, List, [], ◌∷◌, ◌++◌, Option, Some, None, Result, Ok, Err, OnErr, length, append_assoc, length-append, take, drop, get_or, refl, sym, ap, subst, ◌∙◌, arith}
+use Rattle.std.proofs.Common.{◌≡◌, ◌+◌, ◌^◌, ◌<◌, ℕ, zero, suc, List, [], ◌∷◌, ◌++◌, Option, Result, Ok, Err, OnErr, length, append_assoc, length-append, take, drop, get_or, refl, sym, ap, subst, ◌∙◌, arith}
 use Rattle.std.proofs.lemmas.Grind.{flat_map-append}
 use Rattle.std.proofs.lemmas.List.{append-nil, take_more}
 use Rattle.outside_io.specs.Stream.{TakesAll, TakesSome}
 use Rattle.partition_store.specs.Parted.{joined}
 use Rattle.store_spec.specs.Ballot.{Ballot}
 use Rattle.store_spec.specs.Election.{Election}
-use Rattle.tally_export.proofs.Writing.{records_append, takes_on, takes_some}
+use Rattle.outside_io.proofs.Written.{none_taken, takes_on, takes_some}
+use Rattle.tally_export.proofs.Writing.{records_append}
 use Rattle.tally_export.specs.Exported.{records_text}
 
 -- those before a part, that part, and those behind it
@@ -34,10 +35,6 @@ few_so_far sets i lt few =
     omega (arith, few, ap length (cut sets i lt), length-append before (here ++ behind), length-append here behind)
 
 -- ---- what a sink took
-
-pub none_taken : (a : Option (List ℕ)) → TakesAll a [] a
-none_taken None = refl
-none_taken (Some front) = ap Some (sym (append-nil front))
 
 -- the lines of the parts before one, and some of its own
 pub some_lines : (e : Election) (sets : List (List Ballot)) (i : ℕ) (a b c : Option (List ℕ)) → i < length sets

@@ -1,3 +1,4 @@
+pub mod AllAccepted
 pub mod Casts
 pub mod Claimed
 pub mod Compared

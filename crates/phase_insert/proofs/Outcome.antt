@@ -149,13 +149,13 @@ is_among tabs tab of c there passes =
     (contains-map (λ (x : Cast). x.item) (filter (λ (x : Cast). is_accepted x.reply) tab.tray) c (contains-filter (λ (x : Cast). is_accepted x.reply) tab.tray c there passes))
 
 -- a row is a tray beside a list of final replies
-record IsRow (trays : List (List Cast)) (row : List (Cast × Final)) : Type 0 where
+pub record IsRow (trays : List (List Cast)) (row : List (Cast × Final)) : Type 0 where
   pub tray : List Cast
   pub list : List Final
   pub of : Contains trays tray
   pub is : row ≡ zip tray list
 
-from_row : (trays : List (List Cast)) (lists : List (List Final)) (row : List (Cast × Final)) → Contains (beside trays lists) row → IsRow trays row
+pub from_row : (trays : List (List Cast)) (lists : List (List Final)) (row : List (Cast × Final)) → Contains (beside trays lists) row → IsRow trays row
 from_row trays lists row c =
     let pair = from_map (λ (both : List Cast × List Final). zip both.0 both.1) (zip trays lists) row c in
     record { tray = (pair.0).0; list = (pair.0).1; of = (from_zip trays lists pair.0 pair.1).0; is = sym pair.2 }

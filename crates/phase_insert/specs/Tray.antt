@@ -45,6 +45,10 @@ is_accepted Conflict = false
 is_accepted Taken = false
 is_accepted Full = false
 
+-- each of its ballots was accepted
+abbrev pub IsAllAccepted : CastTray → Type 0
+IsAllAccepted tray = All (λ reply. reply ≡ Accepted) tray.replies.items
+
 abbrev pub is_taken : CastReply → Bool
 is_taken Accepted = false
 is_taken Duplicate = false

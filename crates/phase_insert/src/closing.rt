@@ -2,8 +2,8 @@
 
 ghost use Rattle.body_store.specs.Contents.{IsStored};
 ghost use Rattle.phase_insert.specs.Ends.{AreAllFinals, AreFinals, Decides, IsAnswer, all_accepted};
-ghost use Rattle.phase_insert.specs.Tray.{Cast, IsPaired, ballots_that, casts_of, is_accepted};
-ghost use Rattle.std.specs.Prelude.{◌≡◌, ◌^◌, ◌<◌, ◌≤◌, ◌++◌, [], ◌∷◌, false, true, All, IfOk, IsPermutation, OnErr, OnOk, Some, length, map, slice_get, vec_capacity};
+ghost use Rattle.phase_insert.specs.Tray.{Cast, IsAllAccepted, IsPaired, ballots_that, casts_of, is_accepted};
+ghost use Rattle.std.specs.Prelude.{◌≡◌, ◌^◌, ◌<◌, ◌≤◌, ◌++◌, [], ◌∷◌, false, true, All, IfOk, IsPermutation, OnErr, OnOk, Some, flat_map, length, map, slice_get, vec_capacity};
 ghost use Rattle.store_spec.specs.Ballot.{Ballot, IsListing, IsWithinLimit};
 ghost use Rattle.store_spec.specs.Image.{cells_of};
 
@@ -14,37 +14,60 @@ use body_store::Closed;
 use outside_io::Memory;
 use std::alloc::Global;
 
-/// Adds to a store the ballots of trays that were accepted. Those of a tray that is alone and had no other join it from
-/// there; else they are copied into one list. `cells` is the layout of all. After `Memory` the store is as it was.
-pub fn merge_accepted(
+/// Adds to a store the ballots of trays that were accepted, and tells the final replies, for which there is room. Where all
+/// were accepted, one list takes in those of the trays, each of which is let go then; else what was accepted is copied.
+/// `cells` is the layout of all. After `Memory` the store is as it was.
+pub fn settle(
     alloc: Global,
     closed: &mut Closed,
-    trays: &[CastTray],
+    trays: Vec<CastTray>,
     cells: Vec<u64>,
+    finals: &mut [Vec<Final>],
 ) -> Result<(), Memory>
-    requires elections { All (λ tray. tray.items.election ≡ closed.old.election) trays.now }
-    requires paired { All IsPaired trays.now }
+    requires elections { All (λ tray. tray.items.election ≡ closed.old.election) trays.items }
+    requires paired { All IsPaired trays.items }
     requires listing { IsListing closed.old.election
-        (closed.old.ballots ++ all_accepted (map casts_of trays.now)) }
+        (closed.old.ballots ++ all_accepted (map casts_of trays.items)) }
     requires within_limit { IsWithinLimit closed.old.election
-        (closed.old.ballots ++ all_accepted (map casts_of trays.now)) }
+        (closed.old.ballots ++ all_accepted (map casts_of trays.items)) }
     requires layout { cells.items ≡ cells_of closed.old.election
-        (closed.old.ballots ++ all_accepted (map casts_of trays.now)) }
+        (closed.old.ballots ++ all_accepted (map casts_of trays.items)) }
+    requires empty { All (λ list. list.items ≡ []) finals.old }
+    requires room { map (λ list. vec_capacity list) finals.old
+        ≡ map (λ tray. length tray.replies.items) trays.items }
     ensures election { closed.new.election ≡ closed.old.election }
     ensures union { OnOk result (IsPermutation
-        (closed.old.ballots ++ all_accepted (map casts_of trays.now)) closed.new.ballots) }
+        (closed.old.ballots ++ all_accepted (map casts_of trays.items)) closed.new.ballots) }
+    ensures finals { OnOk result (AreAllFinals closed.new.ballots (map casts_of trays.items)
+        (map (λ list. list.items) finals.new)) }
     ensures unchanged { OnErr result (closed.new ≡ closed.old) }
     ensures stored { IsStored closed.new }
 {
-    if trays.len() == 1 && are_all_accepted(&trays[0].replies) {
-        return closed.merge(alloc, &trays[0].items, cells);
+    if are_all_accepted(&trays) {
+        all_finals(closed, &trays, finals);
+        let joined = joined(alloc, closed.election(), trays)?;
+        return closed.merge(alloc, &joined, cells);
     }
-    let accepted = accepted(alloc, closed.election(), trays)?;
-    closed.merge(alloc, &accepted, cells)
+    let accepted = accepted(alloc, closed.election(), &trays)?;
+    closed.merge(alloc, &accepted, cells)?;
+    all_finals(closed, &trays, finals);
+    Ok(())
+}
+
+/// All ballots of these trays were accepted.
+fn are_all_accepted(trays: &[CastTray]) -> bool
+    ensures { result ≡ true → All IsAllAccepted trays.now }
+{
+    for tray in trays {
+        if !is_all_accepted(&tray.replies) {
+            return false;
+        }
+    }
+    true
 }
 
 /// All ballots with these replies were accepted.
-fn are_all_accepted(replies: &[CastReply]) -> bool
+fn is_all_accepted(replies: &[CastReply]) -> bool
     ensures { result ≡ true → All (λ reply. reply ≡ CastReply.Accepted) replies.now }
 {
     for reply in replies {
@@ -63,6 +86,35 @@ fn was_not_accepted(reply: CastReply) -> bool
         CastReply::Accepted => false,
         _ => true,
     }
+}
+
+/// The ballots of trays, tray by tray, in the list of the first of them that has any.
+fn joined(alloc: Global, election: &Election, trays: Vec<CastTray>) -> Result<BallotList, Memory>
+    requires elections { All (λ tray. tray.items.election ≡ election.now) trays.items }
+    ensures election { IfOk result (λ joined. joined.election ≡ election.now) }
+    ensures joined { IfOk result
+        (λ joined. joined.ballots ≡ flat_map (λ tray. tray.items.ballots) trays.items) }
+{
+    let mut joined = BallotList::new(alloc, election);
+    for tray in trays {
+        joined = join(joined, tray.items)?;
+    }
+    Ok(joined)
+}
+
+/// The ballots of two lists, in the first of them that has any.
+fn join(mut first: BallotList, second: BallotList) -> Result<BallotList, Memory>
+    requires { second.election ≡ first.election }
+    ensures election { IfOk result (λ both. both.election ≡ first.election) }
+    ensures both { IfOk result (λ both. both.ballots ≡ first.ballots ++ second.ballots) }
+{
+    if first.len() == 0 {
+        return Ok(second);
+    }
+    for place in 0..second.len() {
+        first.push_from(&second, place)?;
+    }
+    Ok(first)
 }
 
 /// The ballots that were accepted, tray by tray.
@@ -141,7 +193,7 @@ pub fn room_for_finals(alloc: Global, trays: &[CastTray]) -> Result<Vec<Vec<Fina
 }
 
 /// Tells the final replies to the ballots of all trays, for which there is room.
-pub fn all_finals(after: &Closed, trays: &[CastTray], lists: &mut [Vec<Final>])
+fn all_finals(after: &Closed, trays: &[CastTray], lists: &mut [Vec<Final>])
     requires elections { All (λ tray. tray.items.election ≡ after.now.election) trays.now }
     requires paired { All IsPaired trays.now }
     requires empty { All (λ list. list.items ≡ []) lists.old }

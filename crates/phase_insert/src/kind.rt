@@ -1,7 +1,7 @@
 //! Casting as a kind of phase: its workers are tabulators, which cast ballots.
 
 use crate::claiming::claim;
-use crate::closing::{all_finals, merge_accepted, room_for_finals};
+use crate::closing::{room_for_finals, settle};
 use crate::{CastReply, Final};
 use ballot_record::BallotList;
 use body_store::Closed;
@@ -163,8 +163,7 @@ impl Kind for Casting {
     {
         let cells = words.close(alloc, seats)?;
         let mut finals = room_for_finals(alloc, &trays)?;
-        merge_accepted(alloc, closed, &trays, cells)?;
-        all_finals(closed, &trays, &mut finals);
+        settle(alloc, closed, trays, cells, &mut finals)?;
         Ok(finals)
     }
 

@@ -6,6 +6,7 @@ use Rattle.run_outcome.specs.declared.status.Status.{Status}
 use Rattle.run_outcome.specs.declared.status.Status.TheVariants.{Ok}
 use Rattle.store_spec.specs.Disk.{DiskModel}
 use Rattle.store_spec.specs.Election.{Election}
+use Rattle.store_spec.specs.Medium.{HoldsSome}
 
 -- ---- what a command touches
 
@@ -84,6 +85,10 @@ pub record Row : Type 1 where
   pub served : Election → Content → Type 0
   pub done : Election → Content → Status → Type 0
   pub ends : {S K D : Type 0} → DiskModel D → Election → Status → Reported → World S K D → World S K D → Type 0
+
+-- the medium holds a set
+abbrev pub HoldsAny : Election → Content → Type 0
+HoldsAny e content = HoldsSome e content.disk
 
 -- a command takes no further words
 abbrev pub TakesNone : List (List ℕ) → Type 0

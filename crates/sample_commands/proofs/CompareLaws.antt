@@ -12,13 +12,12 @@ use Rattle.run_outcome.specs.declared.status.Status.TheVariants as status
 use Rattle.run_outcome.specs.declared.status.Which.TheVariants as which
 use Rattle.sample_commands.proofs.Deciding.{none_decides}
 use Rattle.sample_commands.specs.Compare.{Compares, ComparesNone, LinesEnd, compare_row}
-use Rattle.sample_commands.specs.Sample.{HoldsSome}
 use Rattle.sample_commands.specs.declared.asked.Asked.{Asked}
 use Rattle.store_spec.specs.Ballot.{Ballot}
 use Rattle.store_spec.specs.Disk.{DiskModel}
 use Rattle.store_spec.specs.Election.{Election, IsElection}
 use Rattle.store_spec.specs.Input.{script_limit}
-use Rattle.store_spec.specs.Medium.{HoldsSet}
+use Rattle.store_spec.specs.Medium.{HoldsSet, HoldsSome}
 
 -- the status that a script and a disk decide, and why
 abbrev pub CompareDecides : Election → List ℕ → List ℕ → Status → Type 0

@@ -9,11 +9,11 @@ use Rattle.run_outcome.specs.World.{World}
 use Rattle.run_outcome.specs.declared.status.Status.{Status}
 use Rattle.run_outcome.specs.declared.status.Status.TheVariants as status
 use Rattle.sample_commands.proofs.Deciding.{none_decides}
-use Rattle.sample_commands.specs.Sample.{HoldsSome, SampleTells, sample_row}
+use Rattle.sample_commands.specs.Sample.{SampleTells, sample_row}
 use Rattle.sample_commands.specs.declared.asked.Asked.{Asked}
 use Rattle.store_spec.specs.Disk.{DiskModel}
 use Rattle.store_spec.specs.Election.{Election, IsElection}
-use Rattle.store_spec.specs.Medium.{HoldsSet}
+use Rattle.store_spec.specs.Medium.{HoldsSet, HoldsSome}
 
 -- the status that bytes decide, and why
 abbrev pub SampleDecides : Election → List ℕ → Status → Type 0

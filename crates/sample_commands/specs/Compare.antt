@@ -13,7 +13,7 @@ use Rattle.run_outcome.specs.declared.status.Status.TheVariants as status
 use Rattle.run_outcome.specs.declared.status.Which.TheVariants as which
 use Rattle.sample_commands.specs.Asked.{IsAsked}
 use Rattle.sample_commands.specs.Looked.{ShowsNone, ShowsSet}
-use Rattle.sample_commands.specs.Sample.{HoldsSome, asked_sample}
+use Rattle.sample_commands.specs.Sample.{asked_sample}
 use Rattle.sample_commands.specs.declared.asked.Asked.{Asked}
 use Rattle.store_spec.specs.Ballot.{Ballot}
 use Rattle.store_spec.specs.BallotLine.{space}
@@ -21,6 +21,7 @@ use Rattle.store_spec.specs.Disk.{DiskModel}
 use Rattle.store_spec.specs.Election.{Election}
 use Rattle.store_spec.specs.Fault.{Rose}
 use Rattle.store_spec.specs.Input.{script_limit}
+use Rattle.store_spec.specs.Medium.{HoldsSome}
 use Rattle.store_spec.specs.Report.{count_line, lines_text}
 use Rattle.ticket_sample.specs.Compared.{Answered, AreAnswered, AreMissing}
 use Rattle.ticket_sample.specs.declared.compare.CompareReply.{CompareReply}

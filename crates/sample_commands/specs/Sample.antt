@@ -4,7 +4,7 @@ use Rattle.std.specs.Prelude.{◌≡◌, ℕ, List, ◌∷◌, codes, length, ma
 use Rattle.outside_io.specs.Outside.{Output}
 use Rattle.outside_io.specs.Stream.{TakesAll, TakesSome}
 use Rattle.recovery.specs.ReadsOnly.{WritesNothing}
-use Rattle.run_outcome.specs.Row.{Content, EndsWell, Row}
+use Rattle.run_outcome.specs.Row.{EndsWell, HoldsAny, Row}
 use Rattle.run_outcome.specs.World.{Reported, World}
 use Rattle.run_outcome.specs.declared.status.Status.{Status}
 use Rattle.run_outcome.specs.declared.status.Status.TheVariants as status
@@ -16,7 +16,6 @@ use Rattle.store_spec.specs.BallotLine.{record_line}
 use Rattle.store_spec.specs.Disk.{DiskModel}
 use Rattle.store_spec.specs.Election.{Election}
 use Rattle.store_spec.specs.Fault.{Rose}
-use Rattle.store_spec.specs.Medium.{HoldsSet}
 use Rattle.store_spec.specs.Report.{count_line, lines_text}
 use Rattle.ticket_sample.specs.Sample.{sample_of}
 
@@ -49,12 +48,6 @@ pub record SampleEnds {K D : Type 0} (model : DiskModel D) (e : Election) (asked
   pub writes_nothing : WritesNothing model.seen model.calls model.may_leave before after
 
 -- ---- the row
-
-abbrev pub HoldsSome : Election → List ℕ → Type 0
-HoldsSome e bytes = (set : List Ballot) × HoldsSet e bytes set
-
-abbrev HoldsAny : Election → Content → Type 0
-HoldsAny e content = HoldsSome e content.disk
 
 abbrev sample_ends : {S K D : Type 0} → Asked → DiskModel D → Election → Status → Reported → World S K D → World S K D → Type 0
 sample_ends asked model e status report before after =

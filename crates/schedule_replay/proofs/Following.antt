@@ -5,8 +5,10 @@ use Rattle.std.proofs.lemmas.List.Elements.{All-get_or, All-nil, All-push, All-w
 use Rattle.std.proofs.lemmas.List.Sorted.{IsNonDecreasingBy-push, IsNonDecreasingBy-short}
 use Rattle.std.specs.List.{All}
 use Rattle.std.specs.List.Sorted.{IsNonDecreasing}
-use Rattle.schedule_replay.specs.Machine.{Follows, InTurn, StepsOn}
-use Rattle.schedule_replay.specs.Machine.Follows.{ended, goes, rests}
+use Rattle.schedule_replay.specs.Machine.{InTurn, StepsOn}
+use Rattle.step_core.proofs.Schedules.{follows_on}
+use Rattle.step_core.specs.Schedule.{Follows}
+use Rattle.step_core.specs.Schedule.Follows.{ended, goes, rests}
 use Rattle.step_core.specs.declared.act.Stepped.{Stepped}
 use Rattle.step_core.specs.declared.act.Stepped.TheVariants as stepped
 
@@ -17,17 +19,12 @@ pub record Tells {C : Type 0} (Steps : C → ℕ → C → Type 0) (IsDone : C �
   pub row : told ≡ stepped.Step → Steps before id now
 
 module _ {C : Type 0} (Steps : C → ℕ → C → Type 0) (IsDone : C → ℕ → Type 0) where
-  pub follows_on : (a b c : C) (ids more : List ℕ) → Follows Steps IsDone a ids b → Follows Steps IsDone b more c → Follows Steps IsDone a (ids ++ more) c
-  follows_on _ _ c _ more (ended a) rest = rest
-  follows_on _ _ c _ more (goes a next b id ids step run) rest = goes a next c id (ids ++ more) step (follows_on next b c ids more run rest)
-  follows_on _ _ c _ more (rests a b id ids done run) rest = rests a c id (ids ++ more) done (follows_on a b c ids more run rest)
-
   one : (told : Stepped) (before : C) (id : ℕ) (now : C) → Tells Steps IsDone told before id now → Follows Steps IsDone before (id ∷ []) now
   one stepped.AtRest before id now h = subst (λ (c : C). Follows Steps IsDone before (id ∷ []) c) (sym (h.unchanged refl)) (rests before before id [] (h.at_rest refl) (ended before))
   one stepped.Step before id now h = goes before now now id [] (h.row refl) (ended now)
 
   pub one_more : (a before now : C) (ids : List ℕ) (id : ℕ) (told : Stepped) → Follows Steps IsDone a ids before → Tells Steps IsDone told before id now → Follows Steps IsDone a (ids ++ id ∷ []) now
-  one_more a before now ids id told run h = follows_on a before now ids (id ∷ []) run (one told before id now h)
+  one_more a before now ids id told run h = follows_on Steps IsDone a before now ids (id ∷ []) run (one told before id now h)
 
   pub stays : (c : C) (id : ℕ) → StepsOn Steps IsDone c id c
   stays c id = (0, ended c)

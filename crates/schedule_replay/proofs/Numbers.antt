@@ -8,7 +8,8 @@ use Rattle.std.specs.Fmt.{decimal}
 use Rattle.std.specs.Prelude.{flat_map}
 use Rattle.ballot_record.proofs.LineNumbers.{StopsDigits, number_again, number_takes}
 use Rattle.ballot_record.specs.LineReading.{digits_at}
-use Rattle.schedule_replay.specs.ReplayLine.{AreNumbers, IsNumber, TakesNumber, number_text}
+use Rattle.schedule_replay.specs.ReplayLine.{AreNumbers, TakesNumber, number_text}
+use Rattle.store_spec.specs.ScriptLine.{IsNumber}
 
 -- the greatest number
 abbrev most : ℕ

@@ -8,7 +8,7 @@ use Rattle.schedule_replay.proofs.CastShort as cast_short
 use Rattle.schedule_replay.proofs.Playing.{TellsCasting, TellsWithdrawing, cast_told, withdraw_told}
 use Rattle.schedule_replay.proofs.WithdrawShort as withdraw_short
 use Rattle.schedule_replay.specs.Machine.{IsShort, IsShortCasting, IsShortWithdrawing}
-use Rattle.schedule_replay.specs.ReplayLine.{IsNumber}
+use Rattle.store_spec.specs.ScriptLine.{IsNumber}
 use Rattle.schedule_replay.specs.Replayed.{ReplaysCast, ReplaysWithdraw}
 use Rattle.schedule_replay.specs.Runs.{IsScheduled}
 use Rattle.schedule_replay.specs.Script.{IsReady, lists_of}

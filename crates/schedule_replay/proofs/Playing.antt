@@ -4,7 +4,6 @@ use Rattle.std.proofs.lemmas.Option.{slice_get-get_or}
 use Rattle.std.specs.List.{All}
 use Rattle.std.specs.Option.{IsSomeAnd}
 use Rattle.std.specs.Prelude.{slice_get}
-use Rattle.schedule_replay.proofs.Steppers.{cast_runs, withdraw_runs}
 use Rattle.schedule_replay.specs.Machine.{IsShortCasting, IsShortWithdrawing}
 use Rattle.schedule_replay.specs.Replayed.{ReplaysCast, ReplaysWithdraw, cast_words, places_of, withdraw_words}
 use Rattle.schedule_replay.specs.Runs.{TellsReplay}
@@ -34,10 +33,10 @@ cast_told e base lists begin turns text is told =
       after = told.after;
       end = told.end;
       plays = record {
-        scheduled = subst (λ (c : Casting). casting.Runs c (places_of turns) told.after) is (cast_runs begin (places_of turns) told.after told.scheduled);
+        scheduled = subst (λ (c : Casting). casting.Runs c (places_of turns) told.after) is told.scheduled;
         rounds = told.in_turn.rounds;
         ascending = told.in_turn.ascending;
-        rested = cast_runs told.after told.in_turn.rounds told.end told.in_turn.follows;
+        rested = told.in_turn.follows;
         done = done;
         ended = casting_ends.ends told.end told.sound.holds done;
       };
@@ -51,10 +50,10 @@ withdraw_told e base lists begin turns text is told =
       after = told.after;
       end = told.end;
       plays = record {
-        scheduled = subst (λ (w : Withdrawing). withdrawing.Runs w (places_of turns) told.after) is (withdraw_runs begin (places_of turns) told.after told.scheduled);
+        scheduled = subst (λ (w : Withdrawing). withdrawing.Runs w (places_of turns) told.after) is told.scheduled;
         rounds = told.in_turn.rounds;
         ascending = told.in_turn.ascending;
-        rested = withdraw_runs told.after told.in_turn.rounds told.end told.in_turn.follows;
+        rested = told.in_turn.follows;
         done = done;
         ended = withdrawing_ends.ends told.end told.sound.holds done;
       };

@@ -6,8 +6,7 @@ use Rattle.std.specs.Option.{IsSomeAnd}
 use Rattle.std.specs.Prelude.{slice_get}
 use Rattle.schedule_replay.proofs.CastShort as cast_short
 use Rattle.schedule_replay.proofs.WithdrawShort as withdraw_short
-use Rattle.schedule_replay.specs.Machine.{Follows, IsShortCasting, IsShortWithdrawing}
-use Rattle.schedule_replay.specs.Machine.Follows.{ended, goes, rests}
+use Rattle.schedule_replay.specs.Machine.{IsShortCasting, IsShortWithdrawing}
 use Rattle.step_core.specs.Casting as casting
 use Rattle.step_core.specs.CastingInvariant as casting_kept
 use Rattle.step_core.specs.Casting.{Casting}
@@ -47,12 +46,6 @@ module _ (c : Casting) (tab : ℕ) (now : Casting) where
   cast_sound stepped.AtRest still row h holds = subst IsShortCasting (sym (still refl)) h
   cast_sound stepped.Step still row h holds = cast_short.step_short c tab now h (row refl) holds
 
--- a schedule that is followed has been run
-pub cast_runs : (c : Casting) (ids : List ℕ) (end : Casting) → Follows casting.Steps casting.IsDoneAt c ids end → casting.Runs c ids end
-cast_runs _ _ _ (ended c) = casting.Runs.ended c
-cast_runs _ _ _ (goes c next end id ids step run) = casting.Runs.goes c next end id ids step (cast_runs next ids end run)
-cast_runs _ _ _ (rests c end id ids done run) = casting.Runs.rests c end id ids done (cast_runs c ids end run)
-
 -- ---- withdrawing
 
 module _ (w : Withdrawing) (tab : ℕ) (now : Withdrawing) where
@@ -71,8 +64,3 @@ module _ (w : Withdrawing) (tab : ℕ) (now : Withdrawing) where
   pub withdraw_sound : (told : Stepped) → (told ≡ stepped.AtRest → now ≡ w) → (told ≡ stepped.Step → withdrawing.Steps w tab now) → IsShortWithdrawing w → withdrawing_kept.IsWithdrawing now → IsShortWithdrawing now
   withdraw_sound stepped.AtRest still row h holds = subst IsShortWithdrawing (sym (still refl)) h
   withdraw_sound stepped.Step still row h holds = withdraw_short.step_short w tab now h (row refl) holds
-
-pub withdraw_runs : (w : Withdrawing) (ids : List ℕ) (end : Withdrawing) → Follows withdrawing.Steps withdrawing.IsDoneAt w ids end → withdrawing.Runs w ids end
-withdraw_runs _ _ _ (ended w) = withdrawing.Runs.ended w
-withdraw_runs _ _ _ (goes w next end id ids step run) = withdrawing.Runs.goes w next end id ids step (withdraw_runs next ids end run)
-withdraw_runs _ _ _ (rests w end id ids done run) = withdrawing.Runs.rests w end id ids done (withdraw_runs w ids end run)

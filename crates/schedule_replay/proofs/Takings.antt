@@ -1,8 +1,8 @@
 -- What is kept after one more line.
-use Rattle.std.proofs.Common.{◌≡◌, ◌≢◌, ◌==◌, if◌then◌else◌, ℕ, zero, suc, ◌+◌, ◌-◌, ◌<◌, ◌≤◌, List, [], ◌∷◌, ◌++◌, All, AllPairs, length, get_or, take, drop, set, map, replicate, refl, sym, ap, subst, ◌∙◌, append_assoc, arith, length-append, length-drop}
+use Rattle.std.proofs.Common.{◌≡◌, ◌≢◌, ◌==◌, if◌then◌else◌, ℕ, zero, suc, ◌+◌, ◌-◌, ◌<◌, ◌≤◌, List, [], ◌∷◌, ◌++◌, All, AllPairs, length, get_or, take, drop, set, map, replicate, refl, sym, ap, subst, ◌∙◌, arith, length-append, length-drop}
 use Rattle.std.proofs.lemmas.Bool.{cond-false, cond-true, eq-eqb, ne_eqb}
 use Rattle.std.proofs.lemmas.Grind.{flat_map-append}
-use Rattle.std.proofs.lemmas.List.{append-nil, get_or-map, length-map, length-replicate, length-set, map-append, map-set, replicate-append-replicate, take_all}
+use Rattle.std.proofs.lemmas.List.{append-nil, get_or-map, length-map, length-replicate, length-set, map-set, take_all}
 use Rattle.std.proofs.lemmas.List.Elements.{All-append, All-cons, All-head, All-nil, All-set, All-tail}
 use Rattle.std.proofs.lemmas.List.FromFn.{get_or-map-range_with_len}
 use Rattle.std.specs.List.{range_with_len}
@@ -17,7 +17,7 @@ use Rattle.std.specs.Prelude.{Vec}
 use Rattle.std.specs.declared.alloc.Global.{Global}
 use Rattle.schedule_replay.proofs.Inputs.{All-map, IsBehind, lines_added, lines_turned, with_addition, with_turns, wrong_addition, wrong_base, wrong_behind, wrong_first, wrong_named, wrong_second, wrong_turns}
 use Rattle.schedule_replay.specs.Input.{Addition, Input, IsInput, addition_line, base_line, kind_line, list_at, lines_in, lists_in, schedule_in, turns_line, word_of}
-use Rattle.schedule_replay.specs.ReplayLine.{HasForm, IsNumber, ReplayLine}
+use Rattle.schedule_replay.specs.ReplayLine.{HasForm, ReplayLine}
 use Rattle.schedule_replay.specs.Script.{HasRead, HoldsBase, IsAt, IsRefused, Keeps, MayCome, line_at, lists_of}
 use Rattle.schedule_replay.specs.declared.line.Kind.{Kind}
 use Rattle.schedule_replay.specs.declared.line.Kind.TheVariants as kinds
@@ -28,6 +28,7 @@ use Rattle.schedule_replay.specs.declared.script.Stage.{Stage}
 use Rattle.schedule_replay.specs.declared.script.Stage.TheVariants as stages
 use Rattle.store_spec.specs.Build.Reason.{Malformed, Invalid}
 use Rattle.store_spec.specs.Election.{Election}
+use Rattle.store_spec.specs.ScriptLine.{IsNumber}
 
 at_stage : (e : Election) (script : Script) (parts : List ReplayLine) (stage : Stage) → script.stage ≡ stage → HasRead e script parts → IsAt stage e script parts
 at_stage e script parts stage is h = subst (λ s. IsAt s e script parts) is h.stage

@@ -7,13 +7,8 @@ use Rattle.step_core.specs.CastingInvariant as casting_kept
 use Rattle.step_core.specs.Casting.{Casting}
 use Rattle.step_core.specs.Withdrawing as withdrawing
 use Rattle.step_core.specs.WithdrawingInvariant as withdrawing_kept
+use Rattle.step_core.specs.Schedule.{Follows}
 use Rattle.step_core.specs.Withdrawing.{Withdrawing}
-
--- A schedule is followed: at each of its places one makes a step, or has nothing left to do and all stays.
-pub data Follows {C : Type 0} (Steps : C → ℕ → C → Type 0) (IsDone : C → ℕ → Type 0) : C → List ℕ → C → Type 0 where
-  ended : (c : C) → Follows Steps IsDone c [] c
-  goes : (c next end : C) (id : ℕ) (ids : List ℕ) → Steps c id next → Follows Steps IsDone next ids end → Follows Steps IsDone c (id ∷ ids) end
-  rests : (c end : C) (id : ℕ) (ids : List ℕ) → IsDone c id → Follows Steps IsDone c ids end → Follows Steps IsDone c (id ∷ ids) end
 
 -- one of them steps so many times
 abbrev pub StepsOn : {C : Type 0} → (C → ℕ → C → Type 0) → (C → ℕ → Type 0) → C → ℕ → C → Type 0

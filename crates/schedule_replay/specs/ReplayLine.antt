@@ -9,20 +9,17 @@
 --     tab         = decimal, 1 to 64
 --
 -- A decimal has no sign and no leading zero.
-use Rattle.std.specs.Prelude.{◌≡◌, ⊤, ℕ, ◌^◌, ◌<◌, ◌≤◌, List, [], ◌∷◌, ◌++◌, flat_map, length, All, codes, Option, Some, None}
+use Rattle.std.specs.Prelude.{◌≡◌, ⊤, ℕ, ◌<◌, ◌≤◌, List, [], ◌∷◌, ◌++◌, flat_map, length, All, codes, Option, Some, None}
 use Rattle.std.specs.Fmt.{decimal}
 use Rattle.schedule_replay.specs.declared.line.Word.{Word}
 use Rattle.schedule_replay.specs.declared.line.Word.TheVariants as words
 use Rattle.store_spec.specs.BallotLine.{space}
+use Rattle.store_spec.specs.ScriptLine.{IsNumber, most_tabs}
 
 -- a line by its parts
 pub record ReplayLine : Type 0 where
   pub word : Word
   pub numbers : List ℕ
-
--- the most tabulators or withdrawers
-abbrev pub most_tabs : ℕ
-most_tabs = 64
 
 -- which numbers may stand behind a word
 abbrev pub HasForm : Word → List ℕ → Type 0
@@ -46,9 +43,6 @@ word_text words.Steps = codes "steps"
 
 abbrev pub number_text : ℕ → List ℕ
 number_text number = space ∷ decimal number
-
-abbrev pub IsNumber : ℕ → Type 0
-IsNumber number = (1 ≤ number) × (number < 2 ^ 64)
 
 -- the bytes are numbers, with a space before each
 pub record AreNumbers (bytes numbers : List ℕ) : Type 0 where

@@ -1,6 +1,7 @@
 -- What a run of a machine tells.
 use Rattle.std.specs.Prelude.{◌≡◌, ℕ, ◌<◌, ◌≤◌, List, length, All}
-use Rattle.schedule_replay.specs.Machine.{Follows, InTurn}
+use Rattle.schedule_replay.specs.Machine.{InTurn}
+use Rattle.step_core.specs.Schedule.{Follows}
 use Rattle.schedule_replay.specs.Replayed.{places_of, replay_text}
 
 -- each is one of so many, counted from 1

@@ -5,7 +5,7 @@ use Rattle.ballot_record.specs.declared.fault.LineWhy.TheVariants as whys
 use Rattle.outside_io.specs.declared.error.Memory.{Memory}
 use Rattle.schedule_replay.specs.Input.{Input, IsInput, base_line, lines_in, lists_in, schedule_in}
 use Rattle.schedule_replay.specs.Refusal.{BeginsInput}
-use Rattle.schedule_replay.specs.ReplayLine.{HasForm, IsNumber, ReadsAs, ReplayLine}
+use Rattle.schedule_replay.specs.ReplayLine.{HasForm, ReadsAs, ReplayLine}
 use Rattle.schedule_replay.specs.declared.fault.Refusal.{Refusal}
 use Rattle.schedule_replay.specs.declared.fault.Refusal.TheVariants as refusals
 use Rattle.schedule_replay.specs.declared.line.Word.{Word}
@@ -16,6 +16,7 @@ use Rattle.schedule_replay.specs.declared.script.Stage.TheVariants as stages
 use Rattle.store_spec.specs.Build.{Reason}
 use Rattle.store_spec.specs.Build.Reason.{Malformed, Invalid}
 use Rattle.store_spec.specs.Election.{Election}
+use Rattle.store_spec.specs.ScriptLine.{IsNumber}
 
 -- what a line reads as: a word, with numbers behind it
 abbrev pub Reads : Result (Option Word) Memory → List ℕ → List ℕ → Type 0

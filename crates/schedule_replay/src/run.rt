@@ -1,7 +1,8 @@
 //! The steps of a replay, as scheduled and to their end.
 
 ghost use Rattle.std.specs.Prelude.{◌≡◌, ◌≢◌, ◌++◌, ◌<◌, ℕ, IfOk, string_bytes};
-ghost use Rattle.schedule_replay.specs.Machine.{Follows, InTurn, StepsOn};
+ghost use Rattle.schedule_replay.specs.Machine.{InTurn, StepsOn};
+ghost use Rattle.step_core.specs.Schedule.{Follows};
 ghost use Rattle.schedule_replay.specs.Replayed.{places_of};
 ghost use Rattle.store_spec.specs.Session.{all_reply_lines};
 ghost use Rattle.schedule_replay.specs.Runs.{IsScheduled, TellsReplay};

@@ -1,7 +1,9 @@
 -- What `build` makes of a script that was read.
-use Rattle.std.proofs.Common.{◌≡◌, ℕ, List, Err, ap, arith, refl}
+use Rattle.std.proofs.Common.{◌≡◌, ℕ, List, Err, ap, subst, ◌∙◌, arith, refl}
 use Rattle.std.specs.List.{AllZip}
-use Rattle.std.specs.Prelude.{IsPermutation}
+use Rattle.ballot_record.proofs.BallotSets.{in_order, in_order-IsPermutation, set_of_listing}
+use Rattle.body_store.proofs.BallotSets.{limit-IsPermutation}
+use Rattle.body_store.proofs.Listings.{image_of-IsPermutation}
 use Rattle.script_commands.specs.Build.{BuildEnds, WritesImage}
 use Rattle.outside_io.specs.Outside.{IsReadOut, NoFault, OfScript, Outside, Output}
 use Rattle.script_commands.specs.Script.{Reads, script_status}
@@ -9,7 +11,7 @@ use Rattle.script_commands.specs.declared.build.script.ScriptFault.{ScriptFault}
 use Rattle.script_commands.specs.declared.build.script.ScriptFault.TheVariants.{BadLine, TooLong, ReadFault, Memory}
 use Rattle.run_outcome.specs.declared.status.Status.TheVariants as status
 use Rattle.outside_io.proofs.Told.{told_as}
-use Rattle.store_spec.specs.Ballot.{Ballot, IsBallotSet, IsWithinLimit}
+use Rattle.store_spec.specs.Ballot.{Ballot, IsListing, IsWithinLimit}
 use Rattle.store_spec.specs.BallotLine.{Spells}
 use Rattle.store_spec.specs.Election.{Election}
 use Rattle.store_spec.specs.Fault.{CountsFaultIf}
@@ -35,12 +37,23 @@ AllRead e listing before after = OfScript before after (λ text left. IsReadOut 
 pub no_memory : {S K : Type 0} (e : Election) (listing : List Ballot) (before after : Outside S K) → AllRead e listing before after → after.sink ≡ before.sink → after.script.faults ≡ before.script.faults → BuildEnds e status.Memory before after
 no_memory e listing before after read still steady = (record { why = told_as read (λ x y h. omega (arith, h.0.0)); untouched = still }, quiet before after still steady)
 
--- the image of their set was made, and the sink took of it
-pub writes_image : {S K : Type 0} (e : Election) (listing set : List Ballot) (before after : Outside S K) (Takes : List ℕ → Type 0) → AllRead e listing before after → IsPermutation listing set → IsBallotSet e set → IsWithinLimit e set → Takes (image_of e set) → WritesImage e before after Takes
-writes_image e listing set before after Takes read same is few takes = record {
-  set = set;
-  held = is;
-  within_limit = few;
-  built = told_as read (λ x y h. (h.0, record { listing = listing; each = h.1; same = same; set = is; within_limit = few }));
-  taken = takes;
-}
+-- the image of ballots is that of their set
+image_of_set : (e : Election) (listing : List Ballot) → IsListing e listing → image_of e listing ≡ image_of e (in_order listing)
+image_of_set e listing is = image_of-IsPermutation e listing (in_order listing) is.distinct (in_order-IsPermutation listing)
+
+-- the bytes of the image of their set were put, and the sink took of them
+pub writes_image : {S K : Type 0} (e : Election) (listing : List Ballot) (bytes : List ℕ) (before after : Outside S K) (Takes : List ℕ → Type 0)
+    → AllRead e listing before after → IsListing e listing → IsWithinLimit e listing → bytes ≡ image_of e listing → Takes bytes
+    → WritesImage e before after Takes
+writes_image e listing bytes before after Takes read is few image takes =
+    let set = in_order listing in
+    let same = in_order-IsPermutation listing in
+    let held = set_of_listing e listing is in
+    let within = limit-IsPermutation e listing set same few in
+    record {
+      set = set;
+      held = held;
+      within_limit = within;
+      built = told_as read (λ x y h. (h.0, record { listing = listing; each = h.1; same = same; set = held; within_limit = within }));
+      taken = subst Takes (image ∙ image_of_set e listing is) takes;
+    }

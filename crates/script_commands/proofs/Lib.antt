@@ -1,5 +1,6 @@
 mod Building
 pub mod BuildLaws
+mod Gathered
 mod Index
 mod Reading
 pub mod ReplayLaws

@@ -17,6 +17,10 @@ use Rattle.store_spec.specs.Election.{Election}
 abbrev pub ballots_so_far : Ballots → List Ballot
 ballots_so_far ballots = ballots.list.ballots
 
+-- the election that they are of
+abbrev pub election_of : Ballots → Election
+election_of ballots = ballots.list.election
+
 -- each ballot is found by its number
 abbrev pub IsIndexed : Ballots → Type 0
 IsIndexed ballots = IsIndexOf ballots.index (numbers_of (ballots_so_far ballots))

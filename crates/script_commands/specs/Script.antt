@@ -2,12 +2,13 @@
 use Rattle.std.specs.Prelude.{ℕ, ◌+◌, List, Result, Ok, Err}
 use Rattle.std.specs.List.{AllZip}
 use Rattle.ballot_record.specs.LineWhy.{reason}
-use Rattle.ballot_record.specs.BallotList.{ListedBallots}
 use Rattle.run_outcome.specs.declared.status.Status.{Status}
 use Rattle.run_outcome.specs.declared.status.Status.TheVariants as status
 use Rattle.run_outcome.specs.declared.status.Which.TheVariants as which
+use Rattle.script_commands.specs.Ballots.{ballots_so_far}
 use Rattle.script_commands.specs.Build.{HasBadLine, HasTooMuch, IsGoodSoFar}
 use Rattle.outside_io.specs.Outside.{IsReadOut}
+use Rattle.script_commands.specs.declared.build.ballots.Ballots.{Ballots}
 use Rattle.script_commands.specs.declared.build.script.ScriptFault.{ScriptFault}
 use Rattle.script_commands.specs.declared.build.script.ScriptFault.TheVariants.{BadLine, TooLong, ReadFault, Memory}
 use Rattle.outside_io.specs.Stream.{GivesAtMost}
@@ -17,8 +18,8 @@ use Rattle.store_spec.specs.Input.{script_limit, lines_of}
 
 -- The ballots that all lines spell, one for one, or why there are none. `text` is what the source had left, and `left`
 -- what it has now.
-abbrev pub Reads : Result ListedBallots ScriptFault → Election → List ℕ → List ℕ → Type 0
-Reads (Ok list) e text left = IsReadOut text left × AllZip (Spells e) (lines_of text) list.ballots
+abbrev pub Reads : Result Ballots ScriptFault → Election → List ℕ → List ℕ → Type 0
+Reads (Ok ballots) e text left = IsReadOut text left × AllZip (Spells e) (lines_of text) (ballots_so_far ballots)
 Reads (Err (BadLine line why)) e text left = HasBadLine e line (reason why) text left
 Reads (Err TooLong) e text left = HasTooMuch e text left
 Reads (Err ReadFault) e text left = IsGoodSoFar e text left

@@ -7,13 +7,14 @@ ghost use Rattle.script_commands.specs.Script.{script_status};
 ghost use Rattle.std.specs.Prelude.{◌≡◌};
 
 mod ballots;
+mod image;
 mod index;
 mod script;
 
 use ballot_record::Election;
-use body_store::Closed;
+use image::{first_page, put_cells};
 use outside_io::{Sink, Source};
-use run_outcome::{Status, Which, tell};
+use run_outcome::{Status, Which};
 use script::{ScriptFault, read_ballots};
 use std::alloc::Global;
 
@@ -32,7 +33,8 @@ fn status_of(fault: ScriptFault) -> Status
     }
 }
 
-/// Writes the image of the set of the script's record lines. The first bad line ends the run, and nothing is written.
+/// Writes the image of the set of the script's record lines. The first bad line ends the run, and nothing is written. No
+/// more of the image than a page is in memory at once: all memory is taken before the first byte is written.
 pub fn build<S: Source, K: Sink>(
     alloc: Global,
     election: &Election,
@@ -47,6 +49,7 @@ pub fn build<S: Source, K: Sink>(
         Ok(ballots) => ballots,
         Err(fault) => return Err(status_of(fault)),
     };
-    let store = Closed::from_records(alloc, election, &ballots)?;
-    tell(out, store.image())
+    let cells = ballots.layout(alloc, election)?;
+    let page = first_page(alloc, election)?;
+    put_cells(election, &ballots, &cells, page, out)
 }

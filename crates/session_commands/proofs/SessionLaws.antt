@@ -14,7 +14,7 @@ use Rattle.run_outcome.specs.World.{IsSteady}
 use Rattle.run_outcome.specs.declared.status.Status.{Status}
 use Rattle.run_outcome.specs.declared.status.Status.TheVariants as status
 use Rattle.run_outcome.specs.declared.status.Which.TheVariants as which
-use Rattle.session_commands.specs.Session.{HoldsSome, run_status, session_row}
+use Rattle.session_commands.specs.Session.{run_status, session_row}
 use Rattle.session_run.specs.Ends.{Begun, HandlingEnds, SessionEnds}
 use Rattle.session_run.specs.Faults.{recover_fault}
 use Rattle.session_run.specs.declared.fault.RunFault.{RunFault}
@@ -23,7 +23,7 @@ use Rattle.store_spec.specs.Ballot.{Ballot}
 use Rattle.store_spec.specs.Disk.{DiskModel}
 use Rattle.store_spec.specs.Election.{Election, IsElection}
 use Rattle.store_spec.specs.Input.{script_limit}
-use Rattle.store_spec.specs.Medium.{HoldsSet}
+use Rattle.store_spec.specs.Medium.{HoldsSet, HoldsSome}
 use Rattle.store_spec.specs.Session.{Effect, State}
 
 -- a medium is refused for this reason, which bytes tell

@@ -1,10 +1,10 @@
 -- What the command `large` makes of a medium: a session on the script that its options generate, of whose replies the
 -- summary is written. `old` and `new` are the sink before and after, and `before` and `after` the disk.
 use Rattle.std.specs.Prelude.{◌≡◌, ◌⊎◌, List, [], ◌∷◌, length, IfSome, Some, Result, codes, true, false}
-use Rattle.run_outcome.specs.Row.{Content, EndsWell, Row}
+use Rattle.run_outcome.specs.Row.{EndsWell, HoldsAny, Row}
 use Rattle.run_outcome.specs.Status.{ended_as}
 use Rattle.run_outcome.specs.World.{IsAlone, Reported, World, nothing_reported}
-use Rattle.session_commands.specs.Session.{HoldsSome, run_status, with_report}
+use Rattle.session_commands.specs.Session.{run_status, with_report}
 use Rattle.run_outcome.specs.declared.status.Status.{Status}
 use Rattle.run_outcome.specs.declared.status.Status.TheVariants.{Ok, Memory}
 use Rattle.large_options.specs.Options.{IsOptions}
@@ -56,9 +56,6 @@ LargeEnds model e o status report old new before after =
     ⊎ PlaysGenerated model e o status report old new before after
 
 -- ---- the row
-
-abbrev HoldsAny : Election → Content → Type 0
-HoldsAny e content = HoldsSome e content.disk
 
 abbrev large_ends : {S K D : Type 0} → Options → DiskModel D → Election → Status → Reported → World S K D → World S K D → Type 0
 large_ends o model e status report before after = LargeEnds model e o status report before.streams.sink after.streams.sink before.disk after.disk

@@ -1,5 +1,5 @@
 -- What the command `session` makes of a script and a medium.
-use Rattle.std.specs.Prelude.{◌≡◌, ℕ, ◌≤◌, List, Result, codes, length, map, true, false}
+use Rattle.std.specs.Prelude.{◌≡◌, ◌≤◌, Result, codes, length, map, true, false}
 use Rattle.outside_io.specs.Outside.{Input, Output}
 use Rattle.phase_gate.specs.Around.{Around}
 use Rattle.phase_gate.specs.declared.report.Report.{Report}
@@ -12,11 +12,10 @@ use Rattle.run_outcome.specs.declared.status.Which.TheVariants as which
 use Rattle.session_run.specs.Ends.{SessionEnds}
 use Rattle.session_run.specs.declared.fault.RunFault.{RunFault}
 use Rattle.session_run.specs.declared.fault.RunFault.TheVariants.{NoStore, OtherElection, Damaged, TooLong, ReadFault, DiskFault, WriteFault, Memory}
-use Rattle.store_spec.specs.Ballot.{Ballot}
 use Rattle.store_spec.specs.Disk.{DiskModel}
 use Rattle.store_spec.specs.Election.{Election}
 use Rattle.store_spec.specs.Input.{script_limit}
-use Rattle.store_spec.specs.Medium.{HoldsSet}
+use Rattle.store_spec.specs.Medium.{HoldsSome}
 
 -- the report of the code, seen as what a run reports
 abbrev pub reported : Report → Reported
@@ -54,9 +53,6 @@ pub record SessionRunEnds {S K D : Type 0} (model : DiskModel D) (e : Election) 
   pub ends : SessionEnds model (λ text. text) e answer old new before after
 
 -- ---- the row
-
-abbrev pub HoldsSome : Election → List ℕ → Type 0
-HoldsSome e bytes = (set : List Ballot) × HoldsSet e bytes set
 
 -- a medium that holds a set, and any script within its limit
 abbrev pub HasSession : Election → Content → Type 0

@@ -6,9 +6,9 @@ use Rattle.std.proofs.lemmas.Option.{get_or_from_slice_get}
 use Rattle.std.specs.List.{All}
 use Rattle.step_core.proofs.CastingAnswers.{FirstIs, first_is}
 use Rattle.step_core.proofs.CastingAnswers.FirstIs.{first_held, first_full, first_steps}
+use Rattle.step_core.proofs.Schedules.{runs_keep}
 use Rattle.step_core.proofs.Sets.{stands-map}
 use Rattle.step_core.specs.Casting.{Casting, IsDone, IsDoneAt, Runs, Steps, Tabulator, after_step, answered_in, answers_at_once, first_answered, list_of, lists_in, opened, opened_tab, settled, told}
-use Rattle.step_core.specs.Casting.Runs.{ended, goes, rests}
 use Rattle.store_spec.specs.CastStep.{CastNote, CastState}
 use Rattle.store_spec.specs.CastStep as notes
 use Rattle.store_spec.specs.CastStep.CastState.{Rest, Probing, Carrying, Ready}
@@ -80,9 +80,7 @@ pub opened_lists : (bits salt limit : ℕ) (start : List ℕ) (lists : List (Lis
 opened_lists bits salt limit start lists = opened_each (ascending start) (limit - length (ascending start)) lists
 
 pub runs_list : (c : Casting) (ids : List ℕ) (end : Casting) → Runs c ids end → lists_in end ≡ lists_in c
-runs_list _ _ _ (ended c) = refl
-runs_list _ _ _ (goes c next end id ids step run) = runs_list next ids end run ∙ steps_list c id next step
-runs_list _ _ _ (rests c end id ids done run) = runs_list c ids end run
+runs_list c ids end run = runs_keep Steps IsDoneAt (λ now. lists_in now ≡ lists_in c) (λ now id next same step. steps_list now id next step ∙ same) c ids end refl run
 
 -- once nothing is left the whole list is answered
 answered_each : (tabs : List Tabulator) → All IsDone tabs → map (λ (tab : Tabulator). numbers tab.answers) tabs ≡ map list_of tabs
@@ -94,15 +92,3 @@ answered_each (tab ∷ tabs) done =
 
 pub all_answered : (c : Casting) → All IsDone c.tabs → answered_in c ≡ lists_in c
 all_answered c done = answered_each c.tabs done
-
--- ---- one place of a schedule more
-
-pub steps_on : (c mid : Casting) (ids : List ℕ) (id : ℕ) (end : Casting) → Runs c ids mid → Steps mid id end → Runs c (ids ++ id ∷ []) end
-steps_on _ _ _ last last_end (ended c) step = goes c last_end last_end last [] step (ended last_end)
-steps_on _ _ _ last last_end (goes c next mid id ids first run) step = goes c next last_end id (ids ++ last ∷ []) first (steps_on next mid ids last last_end run step)
-steps_on _ _ _ last last_end (rests c mid id ids done run) step = rests c last_end id (ids ++ last ∷ []) done (steps_on c mid ids last last_end run step)
-
-pub rests_on : (c end : Casting) (ids : List ℕ) (id : ℕ) → Runs c ids end → IsDoneAt end id → Runs c (ids ++ id ∷ []) end
-rests_on _ _ _ last (ended c) done = rests c c last [] done (ended c)
-rests_on _ _ _ last (goes c next end id ids first run) done = goes c next end id (ids ++ last ∷ []) first (rests_on next end ids last run done)
-rests_on _ _ _ last (rests c end id ids before run) done = rests c end id (ids ++ last ∷ []) before (rests_on c end ids last run done)

@@ -8,7 +8,6 @@ use Rattle.step_core.proofs.CastingSteps.{goes_from, has_room, no_row, steps_kee
 use Rattle.step_core.proofs.Sets.{at_place, stands-map, stands-set}
 use Rattle.step_core.specs.Casting.{Casting, Runs, Steps, Tabulator, after_step, answers_at_once, next_from, table_in}
 use Rattle.step_core.specs.CastingInvariant.{FallsAt, IsCasting, IsTabulator, not_begun, view_of}
-use Rattle.step_core.specs.Casting.Runs.{ended, goes, rests}
 use Rattle.store_spec.specs.CastStep.{CastNote, CastRow, CastState, Table, cast_measure}
 use Rattle.store_spec.specs.CastStep.CastRow.{claim_won, claim_met, claim_passed, claims_full, look_passes, look_ready, takes_empty, displaces, lost_passes, lost_ready}
 use Rattle.store_spec.specs.CastStep.CastState.{Rest, Probing, Carrying, Ready}
@@ -78,10 +77,3 @@ steps_fall c id now h s =
       falls = falls_by t c.base tab.state tab.left (not_begun end.state (length end.left)) (cast_measure t end.state) s.word found s.left s.new s.note s.row
           (begun_fewer t c.base tab from s.word found s.left s.new s.note s.row) fall_now;
     })
-
--- ---- every schedule
-
-pub runs_keep : (c : Casting) (ids : List ℕ) (end : Casting) → IsCasting c → Runs c ids end → IsCasting end
-runs_keep c ids end h (ended d) = h
-runs_keep c ids end h (goes d next e id more step rest) = runs_keep next more end (steps_keep c id next h step) rest
-runs_keep c ids end h (rests d e id more done rest) = runs_keep c more end h rest

@@ -6,10 +6,10 @@ use Rattle.std.specs.Prelude.{nat_lt, slice_get}
 use Rattle.step_core.proofs.CastSteps.{word_of_row}
 use Rattle.step_core.proofs.CastingSteps.{no_row, steps_keep}
 use Rattle.step_core.proofs.CoreSteps.{may_step}
+use Rattle.step_core.proofs.Schedules as schedules
 use Rattle.step_core.specs.CastTables.{FitsIn}
 use Rattle.step_core.specs.Casting.{Casting, IsDone, IsDoneAt, Runs, Steps, Tabulator, after_step, next_from, table_in}
 use Rattle.step_core.specs.CastingInvariant.{IsCasting}
-use Rattle.step_core.specs.Casting.Runs.{ended, goes, rests}
 use Rattle.store_spec.specs.CastStep.{CastNote, CastRow, CastState, Table, claim_word}
 use Rattle.store_spec.specs.CastStep.CastNote.{Quiet, Claimed, Taken, Full, Placed}
 use Rattle.store_spec.specs.CastStep.CastRow.{claim_won, claim_met, claim_passed, claims_full, look_passes, look_ready, takes_empty, displaces, lost_passes, lost_ready}
@@ -111,21 +111,5 @@ done_stays c next id s done =
 
 -- ---- one run
 
-no_more : (c b : Casting) → Runs c [] b → c ≡ b
-no_more _ _ (ended c) = refl
-
-after_step_made : (c : Casting) (id : ℕ) (ids : List ℕ) (b : Casting) → Runs c (id ∷ ids) b → ¬ IsDoneAt c id → (next : Casting) × Steps c id next × Runs next ids b
-after_step_made _ _ _ _ (goes c next end id ids step run) busy = (next, step, run)
-after_step_made _ _ _ _ (rests c end id ids done run) busy = absurd (busy done)
-
-after_rest : (c : Casting) (id : ℕ) (ids : List ℕ) (b : Casting) → Runs c (id ∷ ids) b → IsDoneAt c id → Runs c ids b
-after_rest _ _ _ _ (goes c next end id ids step run) done = absurd (done_stays c next id step done)
-after_rest _ _ _ _ (rests c end id ids also run) done = run
-
 pub one_run : (c : Casting) (ids : List ℕ) (a b : Casting) → IsCasting c → Runs c ids a → Runs c ids b → a ≡ b
-one_run _ _ _ b h (ended c) second = no_more c b second
-one_run _ _ _ b h (goes c next end id ids step run) second =
-    let other = after_step_made c id ids b second (done_stays c next id step) in
-    let same : other.0 ≡ next = one_step c other.0 next id h other.1 step in
-    one_run next ids end b (steps_keep c id next h step) run (subst (λ (v : Casting). Runs v ids b) same other.2)
-one_run _ _ _ b h (rests c end id ids done run) second = one_run c ids end b h run (after_rest c id ids b second done)
+one_run = schedules.one_run Steps IsDoneAt IsCasting steps_keep one_step done_stays

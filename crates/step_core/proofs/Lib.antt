@@ -23,6 +23,7 @@ pub mod CoreSteps
 pub mod CoreTabs
 pub mod Debts
 pub mod Listings
+pub mod Schedules
 pub mod SeatPlaces
 pub mod Sets
 pub mod WithdrawAtRest

@@ -42,15 +42,6 @@ all_absent held (x ∷ xs) = ⊎_elim
     (All-cons (IsAbsent held) (record { number = x; reply = Absent }) (absent_first held xs) (record { reply = refl; not_held = is_not_held held x none }) (all_absent held xs)))
     (cases_Bool (list_any (λ n. n == x) held))
 
-pub absent_within : (held left : List ℕ) → length (absent_first held left) ≤ length left
-absent_within held [] = omega arith
-absent_within held (x ∷ xs) =
-    let rest = absent_within held xs in
-    ⊎_elim
-    (λ (found : list_any (λ n. n == x) held ≡ true). let none : length (absent_first held (x ∷ xs)) ≡ 0 = ap length (absent_stops held x xs found) in omega arith)
-    (λ (none : list_any (λ n. n == x) held ≡ false). let more : length (absent_first held (x ∷ xs)) ≡ suc (length (absent_first held xs)) = ap length (absent_on held x xs none) in omega arith)
-    (cases_Bool (list_any (λ n. n == x) held))
-
 -- the number that stands behind them is held
 pub next_settled : (held left : List ℕ) → IsNext held Rest (drop (length (absent_first held left)) left)
 next_settled held [] = tt

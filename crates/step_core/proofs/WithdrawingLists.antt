@@ -5,11 +5,11 @@ use Rattle.std.proofs.lemmas.List.{append-nil, append_assoc, map-append, map-set
 use Rattle.std.proofs.lemmas.List.Elements.{All-head, All-tail}
 use Rattle.std.proofs.lemmas.Option.{get_or_from_slice_get}
 use Rattle.std.specs.List.{All, list_any}
+use Rattle.step_core.proofs.Schedules.{runs_keep}
 use Rattle.step_core.proofs.Sets.{at_place, stands-map}
 use Rattle.step_core.proofs.WithdrawingAnswers.{absent_on, absent_stops}
 use Rattle.step_core.specs.Withdrawing.{IsDone, IsDoneAt, Runs, Steps, Withdrawer, Withdrawing, absent_first, after_step, answered, answered_in, base_in, home_in, list_of, lists_in, next_number, opened, opened_tab, settled}
 use Rattle.step_core.specs.WithdrawingInvariant.{IsNext, IsWithdrawer, IsWithdrawing}
-use Rattle.step_core.specs.Withdrawing.Runs.{ended, goes, rests}
 use Rattle.step_core.proofs.WithdrawingSteps.{first_held, steps_keep}
 use Rattle.store_spec.specs.Layout.{ascending}
 use Rattle.store_spec.specs.WithdrawPhase.{Withdrawal}
@@ -100,9 +100,9 @@ pub opened_lists : (bits salt limit : ℕ) (start : List ℕ) (lists : List (Lis
 opened_lists bits salt limit start lists = opened_each (ascending start) lists
 
 pub runs_list : (w : Withdrawing) (ids : List ℕ) (end : Withdrawing) → Runs w ids end → IsWithdrawing w → lists_in end ≡ lists_in w
-runs_list _ _ _ (ended w) h = refl
-runs_list _ _ _ (goes w next end id ids step run) h = runs_list next ids end run (steps_keep w id next h step) ∙ steps_list w id next h step
-runs_list _ _ _ (rests w end id ids done run) h = runs_list w ids end run h
+runs_list w ids end run h =
+    (runs_keep Steps IsDoneAt (λ now. IsWithdrawing now × (lists_in now ≡ lists_in w))
+    (λ now id next kept step. (steps_keep now id next kept.0 step, steps_list now id next kept.0 step ∙ kept.1)) w ids end (h, refl) run).1
 
 -- once nothing is left the whole list is answered
 answered_each : (tabs : List Withdrawer) → All IsDone tabs → map (λ (tab : Withdrawer). numbers tab.answers) tabs ≡ map list_of tabs
@@ -114,15 +114,3 @@ answered_each (tab ∷ tabs) done =
 
 pub all_answered : (w : Withdrawing) → All IsDone w.tabs → answered_in w ≡ lists_in w
 all_answered w done = answered_each w.tabs done
-
--- ---- one place of a schedule more
-
-pub steps_on : (w mid : Withdrawing) (ids : List ℕ) (id : ℕ) (end : Withdrawing) → Runs w ids mid → Steps mid id end → Runs w (ids ++ id ∷ []) end
-steps_on _ _ _ last last_end (ended w) step = goes w last_end last_end last [] step (ended last_end)
-steps_on _ _ _ last last_end (goes w next mid id ids first run) step = goes w next last_end id (ids ++ last ∷ []) first (steps_on next mid ids last last_end run step)
-steps_on _ _ _ last last_end (rests w mid id ids done run) step = rests w last_end id (ids ++ last ∷ []) done (steps_on w mid ids last last_end run step)
-
-pub rests_on : (w end : Withdrawing) (ids : List ℕ) (id : ℕ) → Runs w ids end → IsDoneAt end id → Runs w (ids ++ id ∷ []) end
-rests_on _ _ _ last (ended w) done = rests w w last [] done (ended w)
-rests_on _ _ _ last (goes w next end id ids first run) done = goes w next end id (ids ++ last ∷ []) first (rests_on next end ids last run done)
-rests_on _ _ _ last (rests w end id ids before run) done = rests w end id (ids ++ last ∷ []) before (rests_on w end ids last run done)

@@ -2,13 +2,13 @@
 use Rattle.std.proofs.Common.{◌≡◌, ◌≢◌, ℕ, ◌+◌, ◌⊎◌, inl, inr, ⊎_elim, List, [], ◌∷◌, length, get_or, set, Option, Some, refl, sym, ap, ◌∙◌, subst}
 use Rattle.std.specs.Option.{IsSomeAnd}
 use Rattle.std.specs.Prelude.{slice_get}
+use Rattle.step_core.proofs.Schedules as schedules
 use Rattle.step_core.proofs.WithdrawFirst.{one_place}
 use Rattle.step_core.proofs.WithdrawOneRow.{one_row}
 use Rattle.step_core.proofs.WithdrawReady.{down_word}
 use Rattle.step_core.proofs.WithdrawingSteps.{steps_keep}
 use Rattle.step_core.specs.Withdrawing.{IsDone, IsDoneAt, Runs, Steps, Withdrawer, Withdrawing, after_step, base_in, home_in, next_number}
 use Rattle.step_core.specs.WithdrawingInvariant.{IsWithdrawing}
-use Rattle.step_core.specs.Withdrawing.Runs.{ended, goes, rests}
 use Rattle.store_spec.specs.Act.{word_of}
 use Rattle.store_spec.specs.Layout.{IsOrdered}
 use Rattle.store_spec.specs.WithdrawStep.{FirstRow, IsSeated, WithdrawMove, WithdrawNote, WithdrawRow, WithdrawState, withdraw_act}
@@ -19,9 +19,7 @@ use Rattle.store_spec.specs.WithdrawStep.WithdrawNote.{Quiet, Gone}
 use Rattle.store_spec.specs.WithdrawStep.WithdrawState.{Rest, Chosen, Owing, Up, Down}
 
 pub runs_keep : (w : Withdrawing) (ids : List ℕ) (end : Withdrawing) → Runs w ids end → IsWithdrawing w → IsWithdrawing end
-runs_keep _ _ _ (ended w) h = h
-runs_keep _ _ _ (goes w next end id ids step run) h = runs_keep next ids end run (steps_keep w id next h step)
-runs_keep _ _ _ (rests w end id ids done run) h = runs_keep w ids end run h
+runs_keep w ids end run h = schedules.runs_keep Steps IsDoneAt IsWithdrawing steps_keep w ids end h run
 
 -- ---- one move
 
@@ -137,21 +135,5 @@ one_step w a b id h s t =
     ∙ ap (λ u. now (set w.words t.word t.left) (set w.tabs id (after_step w.held u t.new t.note))) (sym tabs)
     ∙ sym t.is
 
-no_more : (w b : Withdrawing) → Runs w [] b → w ≡ b
-no_more _ _ (ended w) = refl
-
-after_step_made : (w : Withdrawing) (id : ℕ) (ids : List ℕ) (b : Withdrawing) → Runs w (id ∷ ids) b → ¬ IsDoneAt w id → (next : Withdrawing) × Steps w id next × Runs next ids b
-after_step_made _ _ _ _ (goes w next end id ids step run) busy = (next, step, run)
-after_step_made _ _ _ _ (rests w end id ids done run) busy = absurd (busy done)
-
-after_rest : (w : Withdrawing) (id : ℕ) (ids : List ℕ) (b : Withdrawing) → Runs w (id ∷ ids) b → IsDoneAt w id → Runs w ids b
-after_rest _ _ _ _ (goes w next end id ids step run) done = absurd (done_stays w next id step done)
-after_rest _ _ _ _ (rests w end id ids also run) done = run
-
 pub one_run : (w : Withdrawing) (ids : List ℕ) (a b : Withdrawing) → IsWithdrawing w → Runs w ids a → Runs w ids b → a ≡ b
-one_run _ _ _ b h (ended w) second = no_more w b second
-one_run _ _ _ b h (goes w next end id ids step run) second =
-    let other = after_step_made w id ids b second (done_stays w next id step) in
-    let same : other.0 ≡ next = one_step w other.0 next id h other.1 step in
-    one_run next ids end b (steps_keep w id next h step) run (subst (λ (v : Withdrawing). Runs v ids b) same other.2)
-one_run _ _ _ b h (rests w end id ids done run) second = one_run w ids end b h run (after_rest w id ids b second done)
+one_run = schedules.one_run Steps IsDoneAt IsWithdrawing steps_keep one_step done_stays

@@ -24,13 +24,6 @@ two_within f (x ∷ xs) (suc i) (suc k) d hi hk n =
     let rest = two_within f xs i k d (omega arith) (omega arith) (λ e. n (ap suc e)) in
     omega (arith, sum_by-cons f x xs)
 
--- terms that are at most as large have a sum at most as large
-pub sum_below : {X : Type 0} (f g : X → ℕ) (xs : List X) → ((x : X) → f x ≤ g x) → sum_by f xs ≤ sum_by g xs
-sum_below f g [] h = omega arith
-sum_below f g (x ∷ xs) h =
-    let rest = sum_below f g xs h in let here = h x in
-    omega (arith, sum_by-cons f x xs, sum_by-cons g x xs)
-
 -- a sum of nothing but 0
 pub sum_none : {X : Type 0} (f : X → ℕ) (xs : List X) → All (λ x. f x ≡ 0) xs → sum_by f xs ≡ 0
 sum_none f [] h = refl

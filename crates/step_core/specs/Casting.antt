@@ -5,6 +5,7 @@ use Rattle.std.specs.Option.{IsSomeAnd, option_map_or}
 use Rattle.store_spec.specs.CastStep.{CastNote, CastRow, CastState, Table}
 use Rattle.store_spec.specs.CastStep as notes
 use Rattle.store_spec.specs.CastStep.CastState.{Rest, Probing, Carrying, Ready}
+use Rattle.step_core.specs.Schedule.{Follows}
 use Rattle.store_spec.specs.Home.{home_of}
 use Rattle.store_spec.specs.Layout.{ascending, layout_of}
 use Rattle.store_spec.specs.Phase.{Answer, CastOutcome, Met, numbers_accepted}
@@ -158,10 +159,8 @@ pub record Steps (c : Casting) (id : ℕ) (now : Casting) : Type 0 where
   }
 
 -- A whole schedule: at each of its places the tabulator makes one step, or has nothing left to do.
-pub data Runs : Casting → List ℕ → Casting → Type 0 where
-  ended : (c : Casting) → Runs c [] c
-  goes : (c next end : Casting) (id : ℕ) (ids : List ℕ) → Steps c id next → Runs next ids end → Runs c (id ∷ ids) end
-  rests : (c end : Casting) (id : ℕ) (ids : List ℕ) → IsDoneAt c id → Runs c ids end → Runs c (id ∷ ids) end
+abbrev pub Runs : Casting → List ℕ → Casting → Type 0
+Runs = Follows Steps IsDoneAt
 
 -- ---- at the end
 

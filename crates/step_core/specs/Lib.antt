@@ -5,6 +5,7 @@ pub mod CastKept
 pub mod CastTables
 pub mod Casting
 pub mod CastingInvariant
+pub mod Schedule
 pub mod Seats
 pub mod Shape
 pub mod WithdrawCore

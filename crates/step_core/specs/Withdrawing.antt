@@ -2,6 +2,7 @@
 use Rattle.std.specs.Prelude.{◌≡◌, ℕ, ◌+◌, ◌^◌, ◌==◌, if◌then◌else◌, List, [], ◌∷◌, ◌++◌, length, take, drop, map, replicate, Some, slice_get, slice_index, slice_set}
 use Rattle.std.specs.List.{list_any}
 use Rattle.std.specs.Option.{IsSomeAnd, option_map_or}
+use Rattle.step_core.specs.Schedule.{Follows}
 use Rattle.store_spec.specs.Home.{home_of}
 use Rattle.store_spec.specs.Layout.{ascending, layout_of}
 use Rattle.store_spec.specs.WithdrawPhase.{Withdrawal, WithdrawOutcome, WithdrawReply, listed, without}
@@ -133,10 +134,8 @@ pub record Steps (w : Withdrawing) (id : ℕ) (now : Withdrawing) : Type 0 where
   }
 
 -- A whole schedule: at each of its places the withdrawer makes one step, or has nothing left to do.
-pub data Runs : Withdrawing → List ℕ → Withdrawing → Type 0 where
-  ended : (w : Withdrawing) → Runs w [] w
-  goes : (w next end : Withdrawing) (id : ℕ) (ids : List ℕ) → Steps w id next → Runs next ids end → Runs w (id ∷ ids) end
-  rests : (w end : Withdrawing) (id : ℕ) (ids : List ℕ) → IsDoneAt w id → Runs w ids end → Runs w (id ∷ ids) end
+abbrev pub Runs : Withdrawing → List ℕ → Withdrawing → Type 0
+Runs = Follows Steps IsDoneAt
 
 -- ---- at the end
 

@@ -62,6 +62,9 @@ pub record HoldsSet (e : Election) (bytes : List ℕ) (set : List Ballot) : Type
   pub chosen : IsChosen e bytes bank
   pub image : IsImageOf e (bank_of e bank bytes) set
 
+abbrev pub HoldsSome : Election → List ℕ → Type 0
+HoldsSome e bytes = (set : List Ballot) × HoldsSet e bytes set
+
 -- what the bytes hold: a set, or nothing
 abbrev pub Holds : Election → List ℕ → Option (List Ballot) → Type 0
 Holds e bytes (Some set) = HoldsSet e bytes set

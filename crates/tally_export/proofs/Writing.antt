@@ -1,48 +1,14 @@
--- What a sink has taken of a text that is written part by part.
-use Rattle.std.proofs.Common.{◌≡◌, ℕ, ◌+◌, ◌≤◌, ◌<◌, inl, inr, List, [], ◌∷◌, ◌++◌, take, drop, get_or, length, Option, Some, None, Result, Ok, Err, refl, sym, ap, subst, ◌∙◌, arith, append_assoc, append-nil, take_at, drop-cons, add-one}
-use Rattle.std.proofs.lemmas.Bool.{cases_lt}
+-- The lines of an export, of which a sink takes one part after another.
+use Rattle.std.proofs.Common.{◌≡◌, ℕ, ◌+◌, ◌≤◌, ◌<◌, List, [], ◌∷◌, ◌++◌, drop, get_or, length, Option, refl, ap, subst, ◌∙◌, drop-cons, add-one}
 use Rattle.std.proofs.lemmas.Grind.{flat_map-append}
-use Rattle.std.proofs.lemmas.List.{drop_all, map-append, take-append-le, take_all}
-use Rattle.std.proofs.Math.Seq.{take-append-add}
-use Rattle.std.specs.Option.{option_map}
-use Rattle.std.specs.Prelude.{OnErr, map}
-use Rattle.outside_io.specs.Stream.{TakesAll, TakesSome}
+use Rattle.std.proofs.lemmas.List.{drop_all, map-append}
+use Rattle.std.specs.Prelude.{map}
+use Rattle.outside_io.proofs.Written.{IsWritten, more_gathered}
 use Rattle.store_spec.specs.Ballot.{Ballot}
 use Rattle.store_spec.specs.BallotLine.{record_line}
 use Rattle.store_spec.specs.Election.{Election}
 use Rattle.store_spec.specs.Report.{lines_text}
 use Rattle.tally_export.specs.Exported.{records_text}
-
--- one text was taken, and then another
-pub takes_on : (a b c : Option (List ℕ)) (x y : List ℕ) → TakesAll a x b → TakesAll b y c → TakesAll a (x ++ y) c
-takes_on a b c x y one two = two ∙ ap (option_map (λ front. front ++ y)) one ∙ joined a where
-  joined : (a : Option (List ℕ))
-      → option_map (λ front. front ++ y) (option_map (λ front. front ++ x) a) ≡ option_map
-      (λ front. front ++ (x ++ y)) a
-  joined None = refl
-  joined (Some front) = ap Some (append_assoc front x y)
-
--- the first part of a text was taken
-pub takes_front : (a b : Option (List ℕ)) (x z : List ℕ) → TakesAll a x b → TakesSome a (x ++ z) b
-takes_front a b x z taken = (length x, subst (λ text. TakesAll a text b) (sym (take_at x z (length x) refl)) taken)
-
--- so many bytes of the first of two texts are the first of both
-front_of : (count : ℕ) (y z : List ℕ) → (n : ℕ) × (take n (y ++ z) ≡ take count y)
-front_of count y z = elim (cases_lt (length y) count) [
-  | inl all ↦ (length y, take_at y z (length y) refl ∙ sym (take_all count y (omega arith)))
-  | inr some ↦ (count, take-append-le count y z some)
-]
-
--- the first part of a text was taken, and then some of the next
-pub takes_some : (a b c : Option (List ℕ)) (x y z : List ℕ) → TakesAll a x b → TakesSome b y c
-    → TakesSome a (x ++ (y ++ z)) c
-takes_some a b c x y z one two =
-    let n = front_of two.0 y z in
-    let same : x ++ take two.0 y ≡ take (length x + n.0) (x ++ (y ++ z)) = ap (λ text. x ++ text) (sym n.1)
-    ∙ sym (take-append-add x (y ++ z) n.0) in
-    (length x + n.0, subst (λ text. TakesAll a text c) same (takes_on a b c x (take two.0 y) one two.1))
-
--- ---- an export
 
 -- the lines of one list of ballots and then another
 pub records_append : (e : Election) (xs ys : List Ballot) → records_text e (xs ++ ys) ≡ records_text e xs ++ records_text e ys
@@ -55,27 +21,6 @@ next_line e ballots i b within is =
     let next : drop i ballots ≡ get_or ballots i b ∷ drop (i + 1) ballots = rw (add-one, drop-cons ballots i b) refl in
     ap (records_text e) next ∙ ap (λ b. records_text e (b ∷ drop (i + 1) ballots)) is
 
--- a sink took the front of a whole text, behind which stand what is gathered and what is left
-pub record IsWritten (before now : Option (List ℕ)) (gathered left whole : List ℕ) : Type 0 where
-  pub front : List ℕ
-  pub taken : TakesAll before front now
-  pub rest : front ++ (gathered ++ left) ≡ whole
-
-none_taken : (a : Option (List ℕ)) → TakesAll a [] a
-none_taken None = refl
-none_taken (Some front) = ap Some (sym (append-nil front))
-
--- the next line was gathered
-line_gathered : (before now : Option (List ℕ)) (gathered more line left whole : List ℕ)
-    → IsWritten before now gathered (line ++ left) whole → more ≡ gathered ++ line
-    → IsWritten before now more left whole
-line_gathered before now gathered more line left whole written is = record {
-  front = written.front;
-  taken = written.taken;
-  rest = ap (λ text. written.front ++ (text ++ left)) is
-      ∙ ap (λ text. written.front ++ text) (append_assoc gathered line left) ∙ written.rest;
-}
-
 -- the line of the next ballot was gathered
 pub ballot_gathered : (e : Election) (ballots : List Ballot) (i : ℕ) (b : Ballot) (before now : Option (List ℕ))
     (gathered more whole : List ℕ) → i < length ballots → get_or ballots i b ≡ b
@@ -83,50 +28,10 @@ pub ballot_gathered : (e : Election) (ballots : List Ballot) (i : ℕ) (b : Ball
     → more ≡ gathered ++ (record_line e b ++ 10 ∷ [])
     → IsWritten before now more (records_text e (drop (i + 1) ballots)) whole
 ballot_gathered e ballots i b before now gathered more whole within at written is =
-    line_gathered before now gathered more (record_line e b ++ 10 ∷ []) (records_text e (drop (i + 1) ballots)) whole
+    more_gathered before now gathered more (record_line e b ++ 10 ∷ []) (records_text e (drop (i + 1) ballots)) whole
     (subst (λ left. IsWritten before now gathered left whole) (next_line e ballots i b within at) written) is
-
--- what was gathered was written
-pub gathered_written : (before now after : Option (List ℕ)) (gathered none left whole : List ℕ)
-    → IsWritten before now gathered left whole → TakesAll now gathered after → none ≡ []
-    → IsWritten before after none left whole
-gathered_written before now after gathered none left whole written takes empty = record {
-  front = written.front ++ gathered;
-  taken = takes_on before now after written.front gathered written.taken takes;
-  rest = ap (λ text. (written.front ++ gathered) ++ (text ++ left)) empty ∙ append_assoc written.front gathered left
-      ∙ written.rest;
-}
-
--- all was gathered and then written
-pub all_written : (before now after : Option (List ℕ)) (gathered left whole : List ℕ)
-    → IsWritten before now gathered left whole → left ≡ [] → TakesAll now gathered after → TakesAll before whole after
-all_written before now after gathered left whole written none takes =
-    let rest : written.front ++ gathered ≡ whole =
-    ap (λ text. written.front ++ text) (sym (append-nil gathered) ∙ ap (λ left. gathered ++ left) (sym none))
-    ∙ written.rest in
-    subst (λ text. TakesAll before text after) rest
-    (takes_on before now after written.front gathered written.taken takes)
-
--- some of what was gathered was written
-pub some_written : (before now after : Option (List ℕ)) (gathered left whole : List ℕ)
-    → IsWritten before now gathered left whole → TakesSome now gathered after → TakesSome before whole after
-some_written before now after gathered left whole written takes =
-    subst (λ text. TakesSome before text after) written.rest
-    (takes_some before now after written.front gathered left written.taken takes)
-
--- the front was written
-pub front_written : (before now : Option (List ℕ)) (gathered left whole : List ℕ)
-    → IsWritten before now gathered left whole → TakesSome before whole now
-front_written before now gathered left whole written =
-    subst (λ text. TakesSome before text now) written.rest
-    (takes_front before now written.front (gathered ++ left) written.taken)
 
 -- past the last ballot no line is left
 pub no_line_left : (e : Election) (ballots : List Ballot) (i : ℕ) → length ballots ≤ i
     → records_text e (drop i ballots) ≡ []
 no_line_left e ballots i end = ap (records_text e) (drop_all i ballots end)
-
--- what holds holds on a failure
-pub on_failure : {E : Type 0} (answer : Result (Unit {0}) E) (P : Type 0) → P → OnErr answer P
-on_failure (Ok done) P holds = tt
-on_failure (Err fault) P holds = holds

@@ -1,11 +1,14 @@
 //! The ballots of a build's script so far.
 
-ghost use Rattle.std.specs.Prelude.{◌≡◌, [], IfOk};
+ghost use Rattle.std.specs.Prelude.{◌≡◌, [], IfOk, length};
 ghost use Rattle.store_spec.specs.Ballot.{IsValid};
+ghost use Rattle.store_spec.specs.Election.{cell_size};
+ghost use Rattle.store_spec.specs.Image.{IsEmptyCell, cell_bytes, cells_of};
 ghost use Rattle.ballot_record.specs.Record.{ballot};
 
 use crate::build::index::Index;
 use ballot_record::{BallotList, Election, LineFault, LineWhy, Record, read_line_into};
+use body_store::layout;
 use outside_io::Memory;
 use std::alloc::{AllocFailed, Global};
 
@@ -48,7 +51,7 @@ pub struct Ballots {
 }
 
 impl Ballots {
-    ghost use Rattle.script_commands.specs.Ballots.{Adds, Judges, IsSound, ballots_so_far};
+    ghost use Rattle.script_commands.specs.Ballots.{Adds, Judges, IsSound, ballots_so_far, election_of};
 
     /// Those of no line, with room for as many as the election allows.
     pub fn new(alloc: Global, election: &Election) -> Result<Ballots, Memory>
@@ -97,12 +100,26 @@ impl Ballots {
         Ok(())
     }
 
-    /// The ballots, in the order of their lines.
-    pub fn into_list(self) -> BallotList
-        ensures { result ≡ self.list }
+    /// The cells of a store that holds the ballots.
+    pub fn layout(&self, alloc: Global, election: &Election) -> Result<Vec<u64>, Memory>
+        requires { IsSound election.now self.now }
+        ensures { IfOk result
+            (λ cells. cells.items ≡ cells_of election.now (ballots_so_far self.now)) }
     {
-        let Ballots { list, index } = self;
-        drop(index);
-        list
+        layout(alloc, election, &self.list)
+    }
+
+    /// The bytes of a cell with this number: those of the ballot that has it, or those of an empty one where none has.
+    pub fn cell_with<'a>(&'a self, number: u64, empty: &'a [u8]) -> &'a [u8]
+        requires sound { IsSound (election_of self.now) self.now }
+        requires empty { IsEmptyCell (election_of self.now) empty.now }
+        ensures cell { result.now
+            ≡ cell_bytes (election_of self.now) (ballots_so_far self.now) number }
+        ensures long { length result.now ≡ cell_size (election_of self.now) }
+    {
+        match self.index.look(&self.list, number) {
+            Ok(place) => self.list.cell(place),
+            Err(_) => empty,
+        }
     }
 }

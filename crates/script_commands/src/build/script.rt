@@ -1,13 +1,13 @@
 //! The reading of a whole build script.
 
 ghost use Rattle.std.specs.Prelude.{◌≡◌, Err, IfOk};
-ghost use Rattle.store_spec.specs.Ballot.{IsListing, IsWithinLimit};
 ghost use Rattle.outside_io.specs.Told.{AsTold};
 ghost use Rattle.store_spec.specs.Fault.{CountsFaultIf};
+ghost use Rattle.script_commands.specs.Ballots.{IsSound};
 ghost use Rattle.script_commands.specs.Script.{Reads};
 
 use crate::build::ballots::{Ballots, Refusal};
-use ballot_record::{BallotList, Election, LineWhy};
+use ballot_record::{Election, LineWhy};
 use outside_io::{LineEndFault, Lines, Memory, NextLine, Source};
 use std::alloc::Global;
 
@@ -40,11 +40,9 @@ pub fn read_ballots<S: Source>(
     alloc: Global,
     election: &Election,
     script: &mut S,
-) -> Result<BallotList, ScriptFault>
+) -> Result<Ballots, ScriptFault>
     ensures reads { AsTold S.left script.old script.new (Reads result election.now) }
-    ensures election { IfOk result (λ list. list.election ≡ election.now) }
-    ensures listing { IfOk result (λ list. IsListing election.now list.ballots) }
-    ensures within_limit { IfOk result (λ list. IsWithinLimit election.now list.ballots) }
+    ensures sound { IfOk result (IsSound election.now) }
     ensures fault { CountsFaultIf (result ≡ Err ScriptFault.ReadFault) (S.faults script.old) (S.faults script.new) }
 {
     let mut lines = Lines::new(alloc)?;
@@ -68,7 +66,7 @@ pub fn read_ballots<S: Source>(
                     why: LineWhy::Malformed,
                 });
             }
-            Ok(NextLine::End) => return Ok(ballots.into_list()),
+            Ok(NextLine::End) => return Ok(ballots),
             Err(LineEndFault::TooLong) => return Err(ScriptFault::TooLong),
             Err(LineEndFault::ReadFault) => return Err(ScriptFault::ReadFault),
         }

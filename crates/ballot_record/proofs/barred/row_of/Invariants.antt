@@ -1,11 +1,12 @@
-use Rattle.std.proofs.Common.{◌≡◌, ℕ, ◌+◌, ◌<◌, length, slice_index}
-use Rattle.ballot_record.specs.Barred.{all_behind}
-use Rattle.store_spec.specs.Election.{choices_on}
+use Rattle.std.proofs.Common.{◌≡◌, ℕ, ◌<◌, length}
+use Rattle.std.specs.Prelude.{slice_index}
+use Rattle.ballot_record.proofs.Barring.{SetsSoFar}
 use Rattle.ballot_record.proofs.barred.row_of.Given as goal
 
--- the contests so far
+-- the contests so far, and nothing in front
 abbrev pub invariant-loop-place : goal.invariant-loop-place
 invariant-loop-place l = record {
-  long : length l.row ≡ 24;
-  each : (k : ℕ) → k < l.place → slice_index l.row k ≡ all_behind (choices_on l.election l.style (k + 1));
+  long : length l.row ≡ 201;
+  front : (k : ℕ) → k < 9 → slice_index l.row k ≡ 0;
+  sets : SetsSoFar l.election l.style l.row l.place;
 }

@@ -1,6 +1,6 @@
-use Rattle.std.proofs.Common.{◌≡◌, All, replicate, refl, ap, subst, sym, ◌∙◌, arith}
+use Rattle.std.proofs.Common.{◌≡◌, All, refl, ap, subst, sym, ◌∙◌, arith}
 use Rattle.std.proofs.lemmas.Bool.{false≢true}
-use Rattle.store_spec.specs.Ballot.{Ballot, IsValid}
+use Rattle.store_spec.specs.Ballot.{IsValid}
 use Rattle.store_spec.specs.Election.{cell_size}
 use Rattle.store_spec.specs.Image.{IsCellOf}
 use Rattle.ballot_record.specs.Record.{ballot}

@@ -4,7 +4,7 @@ use Rattle.parted_store.proofs.Joining.{next_on_failure, some_of_first}
 use Rattle.parted_store.proofs.reports.export_parts.Goals as goal
 use Rattle.partition_store.specs.Parted.{joined}
 use Rattle.store_spec.specs.Report.{export_text}
-use Rattle.tally_export.proofs.Writing.{on_failure}
+use Rattle.outside_io.proofs.Written.{on_failure}
 use Rattle.tally_export.specs.Exported.{count_text, records_text}
 
 pub returns-in_err-write_count-clause-some : goal.returns-in_err-write_count-clause-some

@@ -4,7 +4,7 @@ use Rattle.outside_io.specs.Stream.{TakesAll, TakesSome}
 use Rattle.parted_store.proofs.Joining.{lines_on, some_lines}
 use Rattle.parted_store.proofs.reports.write_parts.Goals as goal
 use Rattle.partition_store.specs.Parted.{joined}
-use Rattle.tally_export.proofs.Writing.{on_failure}
+use Rattle.outside_io.proofs.Written.{on_failure}
 use Rattle.tally_export.specs.Exported.{records_text}
 
 pub returns-in_err-write_records-clause-some : goal.returns-in_err-write_records-clause-some

@@ -1,8 +1,8 @@
-use Rattle.std.proofs.Common.{◌≡◌, take}
+use Rattle.std.proofs.Common.{take}
 use Rattle.std.specs.List.{All}
 use Rattle.phase_insert.proofs.closing.are_all_accepted.Given as goal
-use Rattle.phase_insert.specs.declared.reply.CastReply.TheVariants.{Accepted}
+use Rattle.phase_insert.specs.Tray.{IsAllAccepted}
 
--- those so far were accepted
-abbrev pub invariant-loop-reply : goal.invariant-loop-reply
-invariant-loop-reply l = All (λ reply. reply ≡ Accepted) (take l.reply-index l.replies)
+-- those so far
+abbrev pub invariant-loop-tray : goal.invariant-loop-tray
+invariant-loop-tray l = All IsAllAccepted (take l.tray-index l.trays)

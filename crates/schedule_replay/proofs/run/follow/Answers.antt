@@ -1,8 +1,8 @@
 use Rattle.std.proofs.Common.{◌≡◌, ◌+◌, ◌-◌, ◌++◌, [], ◌∷◌, get_or, take, refl, rules, sym, ap, ◌∙◌, subst}
 use Rattle.std.proofs.lemmas.List.{map_push, take_more}
 use Rattle.schedule_replay.proofs.Following.{one_more}
-use Rattle.schedule_replay.specs.Machine.{Follows}
-use Rattle.schedule_replay.specs.Machine.Follows.{ended}
+use Rattle.step_core.specs.Schedule.{Follows}
+use Rattle.step_core.specs.Schedule.Follows.{ended}
 use Rattle.schedule_replay.specs.Replayed.{places_of}
 use Rattle.schedule_replay.proofs.run.follow.Goals as goal
 

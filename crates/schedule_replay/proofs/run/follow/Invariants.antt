@@ -1,5 +1,5 @@
 use Rattle.std.proofs.Common.{◌≡◌, take}
-use Rattle.schedule_replay.specs.Machine.{Follows}
+use Rattle.step_core.specs.Schedule.{Follows}
 use Rattle.schedule_replay.specs.Replayed.{places_of}
 use Rattle.schedule_replay.proofs.run.follow.Given as goal
 

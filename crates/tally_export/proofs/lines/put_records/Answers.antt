@@ -8,7 +8,8 @@ use Rattle.store_spec.specs.Election.{Election}
 use Rattle.store_spec.specs.Image.{IsCellOf, cells_of}
 use Rattle.store_spec.specs.Input.{line_end}
 use Rattle.tally_export.proofs.Listed.{as_many, cell_at, cell_within, next_found}
-use Rattle.tally_export.proofs.Writing.{IsWritten, all_written, ballot_gathered, front_written, gathered_written, no_line_left, on_failure, some_written}
+use Rattle.outside_io.proofs.Written.{IsWritten, all_written, front_written, gathered_written, on_failure, some_written}
+use Rattle.tally_export.proofs.Writing.{ballot_gathered, no_line_left}
 use Rattle.tally_export.specs.Exported.{IsListed, records_text}
 use Rattle.tally_export.proofs.lines.put_records.Goals as goal
 use Rattle.tally_export.proofs.lines.put_records.Goals.{then-len-gt-FULL+in_ok-write_all, else-len-gt-FULL}

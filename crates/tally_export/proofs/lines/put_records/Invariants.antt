@@ -1,5 +1,5 @@
 use Rattle.std.proofs.Common.{◌≡◌, ◌++◌, drop}
-use Rattle.tally_export.proofs.Writing.{IsWritten}
+use Rattle.outside_io.proofs.Written.{IsWritten}
 use Rattle.tally_export.specs.Exported.{records_text}
 use Rattle.tally_export.proofs.lines.put_records.Given as goal
 

@@ -2,7 +2,7 @@ use Rattle.std.proofs.Common.{◌≡◌, ℕ, ◌+◌, List, [], ◌∷◌, Some
 use Rattle.std.proofs.lemmas.Option.{slice_get_past}
 use Rattle.ballot_record.proofs.Barring.{rows_pushed}
 use Rattle.ballot_record.specs.Barred.{IsBarredOn}
-use Rattle.store_spec.specs.Ballot.{MARK_SETS}
+use Rattle.ballot_record.specs.Format.{largest_cell}
 use Rattle.ballot_record.proofs.barred.Barred.new.Goals as goal
 
 pub loop-place-init : goal.loop-place-init
@@ -19,7 +19,7 @@ loop-place-preserved c =
     let e = c.args.election.now in
     let row = c.row_of.result in
     let pushed = c.in_ok-push.ensures.items in
-    let IsRow : ℕ → List ℕ → Type 0 = λ k row. (length row ≡ MARK_SETS) × IsBarredOn e (k + 1) row in
+    let IsRow : ℕ → List ℕ → Type 0 = λ k row. (length row ≡ largest_cell) × IsBarredOn e (k + 1) row in
     let last : IsRow (length l.rows.items) row = subst (λ k. IsRow k row) (sym l.invariant.count) (c.row_of.ensures.long, c.row_of.ensures.barred) in
     record {
       count = omega (arith, ap length pushed, length-append l.rows.items (row ∷ []), l.invariant.count);

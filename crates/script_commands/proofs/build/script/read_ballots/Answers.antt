@@ -1,10 +1,7 @@
 use Rattle.std.proofs.Common.{◌+◌, Err, List, [], ◌∷◌, ◌++◌, length, Some, None, ap, subst, sym, refl, ◌∙◌, arith, length-append}
-use Rattle.std.specs.List.{AllZip}
-use Rattle.ballot_record.specs.BallotList.{ListedBallots}
 use Rattle.ballot_record.specs.LineWhy.{reason}
 use Rattle.script_commands.specs.Ballots.{ballots_so_far, Judges}
 use Rattle.script_commands.specs.Build.{HasBadLine}
-use Rattle.outside_io.specs.Outside.{IsReadOut}
 use Rattle.script_commands.specs.declared.build.ballots.Refusal.{Refusal}
 use Rattle.script_commands.proofs.Reading.{AreSpelled, AreSpelledBut, spelled_more, told_all, told_bad, told_fault, told_too_much, refused_whole, refused_wide}
 use Rattle.outside_io.proofs.Reading.{few_given, read_nothing, read_whole, read_wide, read_first, read_out, read_too_much, read_fault}
@@ -13,7 +10,6 @@ use Rattle.store_spec.specs.Ballot.{Ballot}
 use Rattle.store_spec.specs.BallotLine.{Spells}
 use Rattle.store_spec.specs.Build.{IsRefused}
 use Rattle.store_spec.specs.Build.Reason.{Malformed}
-use Rattle.store_spec.specs.Input.{lines_of}
 use Rattle.script_commands.proofs.build.script.read_ballots.Goals as goal
 
 pub lines-init : goal.lines-init
@@ -65,8 +61,7 @@ returns-in-Ok-TooWide-clause-reads g c =
 
 pub returns-in-Ok-End-clause-reads : goal.returns-in-Ok-End-clause-reads
 returns-in-Ok-End-clause-reads g c =
-    subst (λ (list : ListedBallots). AsTold g.S.Source.left c.args.script.now c.next_line.new.source (λ text left. IsReadOut text left × AllZip (Spells c.args.election.now) (lines_of text) list.ballots)) (sym c.into_list.ensures)
-    (told_all c.args.election.now (ballots_so_far c.lines.ballots) (read_out c.lines.invariant.read c.in-Ok-End.field-0-is c.in-Ok-End.ensures.answers))
+    told_all c.args.election.now (ballots_so_far c.lines.ballots) (read_out c.lines.invariant.read c.in-Ok-End.field-0-is c.in-Ok-End.ensures.answers)
 
 pub returns-in-Err-TooLong-clause-reads : goal.returns-in-Err-TooLong-clause-reads
 returns-in-Err-TooLong-clause-reads g c =
