@@ -154,8 +154,7 @@ def run_told(kept):
 
 PEAKS = {"`build`, 32,768 lines", "`large`, 32,768, 16 tabulators", "`large`, 16 contests, 4 tabulators",
          "32,768 casts, 1 tabulator", "200,000 finds, 4 tabulators", "`part`, 8 parts, 262,144 casts",
-         "ten checkpoints of 8 casts", "`twin`, ten checkpoints of 8 casts", "ten tallies", "`merge` of 8 media",
-         "`migrate`, 16 contests"}
+         "ten checkpoints of 8 casts", "`twin`, ten checkpoints of 8 casts", "ten tallies", "`merge` of 8 media"}
 
 
 def memory_told(kept):
@@ -166,7 +165,7 @@ def memory_told(kept):
         if both and row.label in PEAKS:
             each = ["%.1f/%.1f (%s/%s)" % (*work["mib"], *(format(it, ",") for it in work["faults"])) for work in both]
             parts.append(row.label + " " + " and ".join(each))
-    text = "Peaks in MiB, and in brackets pages that the system handed out afresh, program/peer, those of version 2 second: "
+    text = "Peaks in MiB (and pages that the system handed out afresh), program/peer, version 2 second: "
     return folded(text + "; ".join(parts) + ".")
 
 
