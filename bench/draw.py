@@ -153,7 +153,8 @@ def run_told(kept):
 
 
 PEAKS = {"`build`, 32,768 lines", "`large`, 32,768, 16 tabulators", "`large`, 16 contests, 4 tabulators",
-         "32,768 casts, 1 tabulator", "200,000 finds, 4 tabulators", "`part`, 8 parts, 262,144 casts",
+         "32,768 casts, 1 tabulator", "32,768 casts, 8 tabulators", "32,768 withdrawals, 1 tabulator",
+         "200,000 finds, 4 tabulators", "`part`, 8 parts, 262,144 casts",
          "ten checkpoints of 8 casts", "`twin`, ten checkpoints of 8 casts", "ten tallies", "`merge` of 8 media"}
 
 

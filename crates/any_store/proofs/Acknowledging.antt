@@ -1,14 +1,9 @@
 -- The checkpoint of one store, from what is said of its disk.
 use Rattle.std.proofs.Common.{◌≡◌, ◌≤◌, ℕ, true, false, List, Option, Some, None, Result, Ok, Err, OnErr, OnOk, IfSome, is_err, refl}
-use Rattle.std.specs.Prelude.{is_some}
+use Rattle.store_spec.proofs.Common.{Ballot, CountsFault, DiskModel, Election, IsMediumOf, IsSettled, is_some}
 use Rattle.outside_io.specs.Told.{AsTold, IfTold}
 use Rattle.any_store.specs.Checkpointed.{Checkpointed, FailsCheckpoint, HoldsEither, IsMediumNow}
 use Rattle.any_store.specs.Disks.StoreDisks.{Alone}
-use Rattle.store_spec.specs.Ballot.{Ballot}
-use Rattle.store_spec.specs.Disk.{DiskModel, IsSettled}
-use Rattle.store_spec.specs.Election.{Election}
-use Rattle.store_spec.specs.Fault.{CountsFault}
-use Rattle.store_spec.specs.Medium.{IsMediumOf}
 
 -- what holds on success, after one
 pub on_ok : {T E P : Type 0} (r : Result T E) → is_err r ≡ false → OnOk r P → P

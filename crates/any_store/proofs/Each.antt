@@ -1,8 +1,8 @@
 -- What is so of each of the disks of a store.
 use Rattle.std.proofs.Common.{arith}
+use Rattle.store_spec.proofs.Common.{DiskModel}
 use Rattle.any_store.specs.Disks.{OnEach, Share, StoreDisks, first_of}
 use Rattle.any_store.specs.Disks.StoreDisks.{Alone, Parted}
-use Rattle.store_spec.specs.Disk.{DiskModel}
 
 -- what is so of each disk, from what else is
 pub each_then : {D : Type 0} (disks : StoreDisks D) (P Q : DiskModel D → Share → Type 0)

@@ -1,8 +1,8 @@
 -- The medium of the set that was read from one bank, and the other bank and its gate.
 use Rattle.std.proofs.Common.{Bool, true, false, ◌≡◌, ℕ, ◌+◌, ◌*◌, List, length, take, Option, Some, None, refl, sym, ◌∙◌, ap, subst, arith}
-use Rattle.std.proofs.lemmas.Bool.{false≢true}
+use Rattle.store_spec.proofs.Common.{A, B, Ballot, Bank, Election, IfSome, IsElection, IsOpen, IsTrue, bank_of, bank_place, bank_size, false≢true, gate_place, image_of, medium_of, other_bank}
 use Rattle.std.proofs.lemmas.List.{take_more_same}
-use Rattle.std.specs.Prelude.{◌↔◌, IsTrue, IfSome}
+use Rattle.std.specs.Prelude.{◌↔◌}
 use Rattle.audit_medium.specs.Audited.{DiffersAt, IsCanonical}
 use Rattle.image_builder.proofs.Held.{image_fits}
 use Rattle.image_builder.proofs.MediumParts.{AreBoth, bank_a, both_of}
@@ -10,11 +10,6 @@ use Rattle.recovery.proofs.Agreeing.{agreeing_medium, read_holds}
 use Rattle.recovery.proofs.Paging.{differs_in_page, same_more}
 use Rattle.recovery.specs.Canonical.{IsReadAs}
 use Rattle.recovery.specs.Differing.{DiffersFirstAt, IsFirstDifference}
-use Rattle.store_spec.specs.Ballot.{Ballot}
-use Rattle.store_spec.specs.Election.{Election, IsElection, bank_size}
-use Rattle.store_spec.specs.Image.{image_of}
-use Rattle.store_spec.specs.Medium.{Bank, IsOpen, bank_of, bank_place, gate_place, medium_of, other_bank}
-use Rattle.store_spec.specs.Medium.Bank.{A, B}
 
 module _ (e : Election) (set : List Ballot) (election : IsElection e) (bytes : List ℕ) where
   -- the medium of the set has its image twice

@@ -1,8 +1,7 @@
 -- The bytes of a medium decide what an audit tells.
 use Rattle.std.proofs.Common.{◌≡◌, ℕ, ◌<◌, ◌≤◌, List, length, Some, get_or, take, sym, ◌∙◌, ap, subst, arith, ⊎_elim}
-use Rattle.std.proofs.lemmas.Bool.{cases_lt}
-use Rattle.std.proofs.lemmas.List.{get_or-take}
-use Rattle.std.specs.Prelude.{◌≢◌, MatchResult, Result, Ok, Err}
+use Rattle.store_spec.proofs.Common.{Ballot, Election, Err, HoldsSet, IsElection, IsMediumOf, Ok, Result, cases_lt, get_or-take, medium_of}
+use Rattle.std.specs.Prelude.{◌≢◌, MatchResult}
 use Rattle.audit_medium.specs.Audited.{DiffersAt, IsAudited, IsCanonical}
 use Rattle.audit_medium.specs.declared.finding.Audit.{Audit}
 use Rattle.audit_medium.specs.declared.finding.Audit.TheVariants.{Canonical, Differs}
@@ -12,9 +11,6 @@ use Rattle.recovery.specs.Differing.{DiffersFirstAt}
 use Rattle.recovery.specs.Refused.{IsRefusedMedium}
 use Rattle.recovery.specs.declared.fault.RecoverFault.{RecoverFault}
 use Rattle.recovery.specs.declared.fault.RecoverFault.TheVariants.{DiskFault, Memory}
-use Rattle.store_spec.specs.Ballot.{Ballot}
-use Rattle.store_spec.specs.Election.{Election, IsElection}
-use Rattle.store_spec.specs.Medium.{HoldsSet, IsMediumOf, medium_of}
 
 -- no place of the same front differs
 not_before : (xs ys : List ℕ) (i k : ℕ) → take k xs ≡ take k ys → get_or xs i 0 ≢ get_or ys i 0 → i < k → ⊥

@@ -9,6 +9,7 @@ ghost use Rattle.recovery.specs.Canonical.{IsReadAs};
 ghost use Rattle.recovery.specs.ReadsOnly.{ReadsOnly, WritesNothing};
 ghost use Rattle.recovery.specs.Refused.{IsRefusedMedium};
 ghost use Rattle.recovery.specs.declared.fault.RecoverFault.TheVariants.{DiskFault};
+ghost use Rattle.crash_disk.specs.MadeCalls.{MakesCalls};
 ghost use Rattle.store_spec.specs.Disk.{IsSettled};
 ghost use Rattle.store_spec.specs.Election.{bank_size};
 ghost use Rattle.store_spec.specs.Fault.{CountsFault, CountsFaultIf};
@@ -40,9 +41,8 @@ pub fn audit<D: Disk>(
     ensures reads { WritesNothing D.seen D.calls D.may_leave disk.old disk.new }
     ensures settled { IsSettled D.seen D.calls D.may_leave disk.old
         → ReadsOnly D.seen D.calls D.may_leave disk.old disk.new }
-    ensures later { D.calls disk.old ≤ D.calls disk.new }
-    ensures fault { CountsFaultIf (IsErrOf result DiskFault) (D.faults disk.old) (D.faults disk.new) }
-    ensures leads { D.leads_to disk.old disk.new }
+    ensures calls { MakesCalls D.seen D.calls D.faults D.leads_to (CountsFaultIf (IsErrOf result DiskFault))
+        disk.old disk.new }
 {
     let (bank, open_too) = choose(disk, election)?;
     let mut scratch = Scratch::new(alloc)?;
@@ -68,8 +68,7 @@ fn compare<D: Disk>(
     ensures audited { IfOk result
         (λ audit. IfSome (D.seen disk.old) (λ bytes. IsAudited closed.now.election bytes audit)) }
     ensures reads { WritesNothing D.seen D.calls D.may_leave disk.old disk.new }
-    ensures fault { CountsFault result (D.faults disk.old) (D.faults disk.new) }
-    ensures leads { D.leads_to disk.old disk.new }
+    ensures calls { MakesCalls D.seen D.calls D.faults D.leads_to (CountsFault result) disk.old disk.new }
 {
     let election = closed.election();
     let other = other_of(bank);

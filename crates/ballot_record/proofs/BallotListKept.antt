@@ -1,17 +1,12 @@
 -- What the fields of a list of ballots say of the ballots that it shows.
 use Rattle.std.proofs.Common.{◌≡◌, ℕ, ◌+◌, ◌-◌, ◌*◌, ◌/◌, ◌<◌, ◌≤◌, List, [], ◌∷◌, ◌++◌, Some, length, get_or, take, drop, sym, ap, ap₂, subst, ◌∙◌, arith, length-append, mul-le-mul_left, vec_capacity}
-use Rattle.std.proofs.lemmas.List.Elements.{All-nil}
-use Rattle.std.proofs.lemmas.Option.{slice_get-get_or}
-use Rattle.std.specs.List.{All, flat_map, slice_get}
+use Rattle.store_spec.proofs.Common.{All, All-nil, Ballot, Election, IsCellOf, IsElection, IsValid, ballot_bytes, cell_size, flat_map, number_at, numbers_of, slice_get-get_or}
+use Rattle.std.specs.List.{slice_get}
 use Rattle.ballot_record.proofs.BallotLists.{AreCellsOf, cell_at_place, cell_within, length-ballots_at, length-cells, number_at_place, one_more, spelled_again}
 use Rattle.ballot_record.proofs.CellFormat.{number_fits, number_of_bytes}
 use Rattle.ballot_record.specs.BallotList.{ListedBallots, ballots_at, empty_list, with_more}
 use Rattle.ballot_record.specs.BallotListKept.{IsBallotList, list_seen}
 use Rattle.ballot_record.specs.declared.list.BallotList.TheInside.{Inside}
-use Rattle.store_spec.specs.Ballot.{Ballot, IsValid, numbers_of}
-use Rattle.store_spec.specs.Damage.{number_at}
-use Rattle.store_spec.specs.Election.{Election, IsElection, cell_size}
-use Rattle.store_spec.specs.Image.{IsCellOf, ballot_bytes}
 
 -- fields that keep these ballots, show them
 pub kept_with : (a : Inside) (ballots : List Ballot) → AreCellsOf a.of.value a.bytes.items ballots → a.count ≡ length ballots → a.size ≡ cell_size a.of.value → a.places * a.size ≤ vec_capacity a.bytes

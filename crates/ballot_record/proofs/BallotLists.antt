@@ -1,17 +1,12 @@
 -- The bytes of the cells of ballots, one behind another, and the ballots that they spell.
 use Rattle.std.proofs.Common.{◌≡◌, ℕ, zero, suc, ◌+◌, ◌*◌, ◌<◌, ◌≤◌, List, [], ◌∷◌, ◌++◌, Some, length, get_or, take, drop, refl, sym, ap, ap₂, subst, ◌∙◌, arith, length-append, mul-le-mul_right}
-use Rattle.std.proofs.lemmas.List.{drop-drop, drop_at, flat_map_more, take_at}
-use Rattle.std.proofs.lemmas.List.Concat.{flat_map-cons}
-use Rattle.std.proofs.lemmas.List.Elements.{All-head, All-push, All-tail}
-use Rattle.std.proofs.lemmas.Option.{get_or_from_slice_get, slice_get-map, slice_get_within}
-use Rattle.std.specs.List.{All, flat_map, slice_get}
+use Rattle.store_spec.proofs.Common.{All, All-head, All-push, All-tail, Ballot, Election, IsElection, IsValid, ballot_bytes, cell_size, drop-drop, drop_at, flat_map, flat_map-cons, get_or_from_slice_get, numbers_of, slice_get-map, slice_get_within, take_at}
+use Rattle.std.proofs.lemmas.List.{flat_map_more}
+use Rattle.std.specs.List.{slice_get}
 use Rattle.std.specs.Option.{option_map}
 use Rattle.ballot_record.proofs.CellFormat.{length-ballot_bytes, spells_itself}
 use Rattle.ballot_record.specs.BallotList.{ballots_at}
 use Rattle.ballot_record.specs.Format.{ballot_at}
-use Rattle.store_spec.specs.Ballot.{Ballot, IsValid, numbers_of}
-use Rattle.store_spec.specs.Election.{Election, IsElection, cell_size}
-use Rattle.store_spec.specs.Image.{ballot_bytes}
 
 -- the bytes are those of the cells of valid ballots
 pub record AreCellsOf (e : Election) (bytes : List ℕ) (ballots : List Ballot) : Type 0 where

@@ -1,9 +1,6 @@
 -- The numbers of a list of ballots.
 use Rattle.std.proofs.Common.{◌≡◌, ℕ, ◌<◌, List, [], length, get_or, sym, ap, subst, ◌∙◌, arith}
-use Rattle.std.proofs.lemmas.List.{get_or-map, get_or_default, length-map}
-use Rattle.std.proofs.lemmas.List.Elements.{Contains-get_or}
-use Rattle.std.specs.List.{AllPairs, Contains}
-use Rattle.store_spec.specs.Ballot.{Ballot, numbers_of}
+use Rattle.store_spec.proofs.Common.{AllPairs, Ballot, Contains, Contains-get_or, get_or-map, get_or_default, length-map, numbers_of}
 
 -- what stands past the end of a list
 abbrev pub no_ballot : Ballot

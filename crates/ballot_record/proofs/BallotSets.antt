@@ -1,19 +1,8 @@
 -- Listings and sets: each listing is that of one set.
 use Rattle.std.proofs.Common.{◌≡◌, ◌≢◌, ℕ, zero, suc, ◌<◌, ◌≤◌, ◌⊎◌, inl, inr, ⊎_elim, if◌then◌else◌, List, [], ◌∷◌, get_or, refl, sym, ap, ◌∙◌, subst, arith}
-use Rattle.std.specs.Prelude.{nat_eq, nat_le}
-use Rattle.std.proofs.lemmas.Bool.{cases_lt, cond-true, cond-false, le-leb, lt-leb}
-use Rattle.std.proofs.lemmas.Bool.Decides.{Decides-eqb, nat_tests}
-use Rattle.std.proofs.lemmas.List.Elements.{All-cons, All-weaker}
-use Rattle.std.proofs.lemmas.List.Kept.{AllPairs-cons}
-use Rattle.std.proofs.lemmas.List.Sorted.{All-permutation, Contains-permutation, IsPermutation-cons, IsPermutation-map, IsPermutation-middle, IsPermutation-refl, IsPermutation-sym, IsPermutation-trans}
-use Rattle.std.proofs.lemmas.Map.Keys.{IsDistinct-IsPermutation}
-use Rattle.std.proofs.lemmas.Map.Made.{AllPairs-from_IsDistinct, IsDistinct-from_AllPairs}
-use Rattle.std.specs.List.{All, AllPairs, Contains}
-use Rattle.std.specs.List.Sorted.{IsPermutation}
+use Rattle.store_spec.proofs.Common.{All, All-cons, All-permutation, All-weaker, AllPairs, AllPairs-cons, AllPairs-from_IsDistinct, Ballot, Contains, Contains-permutation, Decides-eqb, Election, IsBallotSet, IsDistinct-IsPermutation, IsDistinct-from_AllPairs, IsListing, IsPermutation, IsPermutation-cons, IsPermutation-map, IsPermutation-middle, IsPermutation-refl, IsPermutation-sym, IsPermutation-trans, IsValid, cases_lt, cond-false, cond-true, le-leb, lt-leb, nat_eq, nat_le, nat_tests, numbers_of}
 use Rattle.ballot_record.proofs.BallotNumbers.{pairs_of_numbers, pairs_of_ballots}
 use Rattle.ballot_record.proofs.Lookups.{AreAmong}
-use Rattle.store_spec.specs.Ballot.{Ballot, IsBallotSet, IsListing, IsValid, numbers_of}
-use Rattle.store_spec.specs.Election.{Election}
 
 -- in ascending order of number
 abbrev pub Ascend : List Ballot → Type 0

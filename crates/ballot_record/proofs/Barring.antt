@@ -1,12 +1,10 @@
 -- A cell has no barred choice where its mark sets have none but choices of their contests.
 use Rattle.std.proofs.Common.{◌≡◌, ◌↔◌, ℕ, zero, suc, ◌+◌, ◌-◌, ◌*◌, ◌/◌, ◌%◌, ◌^◌, ◌<◌, ◌≤◌, min, inl, inr, List, [], ◌∷◌, ◌++◌, Some, drop, get_or, length, slice_get, slice_index, take, get_or-take, refl, sym, ap, subst, subst₂, ◌∙◌, arith, pow-add, pow_mono, pow_pos, zero-mul, zero-add, mod-lt}
-use Rattle.std.proofs.Math.Nat.{div-eq_of_lt, div-lt_iff_lt-mul, mul-le-mul_left, mul-pos, mul-suc, mul_comm}
-use Rattle.std.proofs.lemmas.Bool.{cases_lt}
-use Rattle.std.proofs.lemmas.List.{drop-drop, get_or-drop, get_or-set_same, get_or-set_other}
+use Rattle.store_spec.proofs.Common.{Election, cases_lt, choices_on, drop-drop, get_or-drop, get_or-set_other, get_or-set_same, mul-suc, set_width, slice_get-get_or}
+use Rattle.std.proofs.Math.Nat.{div-eq_of_lt, div-lt_iff_lt-mul, mul-le-mul_left, mul-pos, mul_comm}
 use Rattle.std.proofs.lemmas.List.Edits.{length-between}
 use Rattle.std.proofs.lemmas.Nat.{div-add-mod', shr_high}
 use Rattle.std.proofs.lemmas.Nat.Bits.{and_high_mask}
-use Rattle.std.proofs.lemmas.Option.{slice_get-get_or}
 use Rattle.std.specs.List.{between}
 use Rattle.std.specs.Prelude.{bit_and, slice_set}
 use Rattle.byteorder.specs.Endian.{big_from, big_number}
@@ -16,7 +14,7 @@ use Rattle.ballot_record.proofs.Versions.{known_width}
 use Rattle.ballot_record.specs.Barred.{AreBarred, BarsBehind, HaveNone, IsBarredOn, barred_byte}
 use Rattle.ballot_record.specs.declared.barred.Barred.{Barred}
 use Rattle.ballot_record.specs.Format.{HaveChoices, largest_cell}
-use Rattle.store_spec.specs.Election.{Election, cell_size, choices_on, front_size, set_width}
+use Rattle.store_spec.specs.Election.{cell_size, front_size}
 
 no_factor : (q p : ℕ) → 0 < p → q * p ≡ 0 → q ≡ 0
 no_factor q p some none = elim (cases_lt 0 q) [

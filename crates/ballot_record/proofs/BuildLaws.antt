@@ -1,18 +1,11 @@
 -- Why lines build one thing.
 use Rattle.std.proofs.Common.{◌≡◌, ◌≢◌, ℕ, zero, suc, ◌<◌, List, [], ◌∷◌, length, get_or, set, take, Some, Ok, Err, refl, ap, sym, subst, ◌∙◌, inl, inr, arith}
-use Rattle.std.proofs.lemmas.Bool.{cases_lt, cases_eq}
-use Rattle.std.proofs.lemmas.List.{length-take-le, get_or-take, get_or_default, take-take}
-use Rattle.std.specs.List.{AllZip, swap}
+use Rattle.store_spec.proofs.Common.{AllZip, AllZip-long, Ballot, Contains-permutation, Election, Invalid, IsLineOf, IsListing, IsPermutation, IsPermutation-refl, IsPermutation-sym, IsPermutation-trans, IsRecordLine, Malformed, Reason, Result, Spells, cases_eq, cases_lt, get_or-take, get_or_default, length-take-le, length_permutation, slice_get, swap, take-take}
 use Rattle.std.proofs.lemmas.List.Edits.{swap_is}
-use Rattle.std.proofs.lemmas.List.Sorted.{Contains-permutation, IsPermutation-keeps, IsPermutation-refl, IsPermutation-swap, IsPermutation-sym, IsPermutation-trans, length_permutation}
-use Rattle.std.proofs.lemmas.Slice.Zip.{AllZip-long}
-use Rattle.std.specs.List.Sorted.{IsPermutation}
-use Rattle.std.specs.Prelude.{◌↔◌, slice_get, Any, Contains, AllPairs, Result}
-use Rattle.store_spec.specs.Ballot.{Ballot, IsListing}
-use Rattle.store_spec.specs.BallotLine.{Spells, IsRecordLine, IsLineOf}
-use Rattle.store_spec.specs.Build.{Builds, BuiltFrom, IsFirstBad, IsRefused, Reason}
-use Rattle.store_spec.specs.Build.Reason.{Malformed, Invalid, Duplicate, Conflict, Full}
-use Rattle.store_spec.specs.Election.{Election}
+use Rattle.std.proofs.lemmas.List.Sorted.{IsPermutation-keeps, IsPermutation-swap}
+use Rattle.std.specs.Prelude.{◌↔◌, Any, Contains, AllPairs}
+use Rattle.store_spec.specs.Build.{Builds, BuiltFrom, IsFirstBad, IsRefused}
+use Rattle.store_spec.specs.Build.Reason.{Duplicate, Conflict, Full}
 use Rattle.ballot_record.proofs.BallotNumbers.{no_ballot}
 use Rattle.ballot_record.proofs.BallotSets.{listing_from_set, listing_of_set, same_in_order, same_members}
 use Rattle.ballot_record.proofs.LineLaws.{one_ballot}

@@ -1,14 +1,11 @@
 -- What stands in a cell: nothing, a valid ballot, or other bytes.
 use Rattle.std.proofs.Common.{◌≡◌, ℕ, zero, suc, ◌+◌, ◌-◌, ◌^◌, ◌<◌, ◌≤◌, ◌⊎◌, Bool, true, false, inl, inr, ⊎_elim, List, length, get_or, replicate, refl, sym, ap, subst, ◌∙◌, arith}
-use Rattle.std.proofs.lemmas.Bool.{cases_lt, cases_eq, false≢true}
-use Rattle.std.proofs.lemmas.Slice.Eq.{bytes_eq-Decides}
+use Rattle.store_spec.proofs.Common.{Ballot, Election, IsCellOf, IsElection, IsValid, MARK_SETS, ballot_bytes, bytes_eq, bytes_eq-Decides, cases_eq, cases_lt, cell_size, choices_on, false≢true}
 use Rattle.std.specs.Bool.{Decides}
-use Rattle.std.specs.Str.{bytes_eq}
 use Rattle.ballot_record.proofs.FormatReading.{cell_again}
 use Rattle.ballot_record.specs.Format.{ballot_at}
-use Rattle.store_spec.specs.Ballot.{Ballot, HasMarks, IsValid, MARK_SETS}
-use Rattle.store_spec.specs.Election.{Election, IsElection, cell_size, choices_on}
-use Rattle.store_spec.specs.Image.{IsCellOf, IsEmptyCell, ballot_bytes}
+use Rattle.store_spec.specs.Ballot.{HasMarks}
+use Rattle.store_spec.specs.Image.{IsEmptyCell}
 
 -- of so many numbers each has P, or one has not
 pub each_or_one : (P : ℕ → Type 0) → ((k : ℕ) → P k ⊎ (P k → ⊥)) → (n : ℕ) → ((k : ℕ) → k < n → P k) ⊎ ((k : ℕ) × (k < n) × (P k → ⊥))

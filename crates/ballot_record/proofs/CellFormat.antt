@@ -2,21 +2,16 @@
 -- front, and that no two ballots have the same bytes. That zeros are no ballot stands in `take_cell`. Each width that is
 -- the same in every election is a constant of the program.
 use Rattle.std.proofs.Common.{◌≡◌, ℕ, ◌*◌, ◌^◌, ◌<◌, ◌≤◌, List, [], ◌∷◌, ◌++◌, length, take, replicate, refl, sym, ap, ◌∙◌, append_assoc, arith, length-append, length-take, take_at}
-use Rattle.std.proofs.lemmas.List.{take-replicate}
-use Rattle.std.proofs.lemmas.List.Concat.{flat_map-cons}
+use Rattle.store_spec.proofs.Common.{Ballot, Election, IsElection, IsValid, bytes_high_first, flat_map, flat_map-cons, mul-suc, number_at, set_width, take-replicate}
+use Rattle.store_spec.specs.Election.{cell_size, header_size}
+use Rattle.store_spec.specs.Image.{ballot_bytes, header_of}
 use Rattle.std.proofs.lemmas.Nat.{from_be_bytes-to_be_bytes_8}
-use Rattle.std.specs.Int.{bytes_high_first, from_be_bytes, to_be_bytes, w8, w64}
-use Rattle.std.specs.List.{flat_map}
-use Rattle.std.proofs.Math.Nat.{mul-suc}
+use Rattle.std.specs.Int.{from_be_bytes, to_be_bytes, w8, w64}
 use Rattle.byteorder.specs.Numbers.{length-bytes_high_first}
 use Rattle.ballot_record.proofs.FormatReading.{cell_again}
 use Rattle.ballot_record.proofs.Versions.{contests_fit, set_bytes_fit}
 use Rattle.ballot_record.specs.Format.{ballot_at, largest_bank, largest_cell, number_size}
 use Rattle.ballot_record.specs.declared.format.TheConstants.{HEADER_BYTES, MAX_BANK_BYTES, MAX_CELL_BYTES}
-use Rattle.store_spec.specs.Ballot.{Ballot, IsValid}
-use Rattle.store_spec.specs.Damage.{number_at}
-use Rattle.store_spec.specs.Election.{Election, IsElection, cell_size, header_size, set_width}
-use Rattle.store_spec.specs.Image.{ballot_bytes, header_of}
 
 pub header_width : header_size ≡ HEADER_BYTES
 unfolding header_size

@@ -1,12 +1,11 @@
 -- What a contract sees of an election's contests and styles, and where they are kept.
 use Rattle.std.proofs.Common.{◌≡◌, ℕ, zero, suc, ◌<◌, ◌≤◌, List, [], ◌∷◌, length, get_or, take, map, Some, refl, ap, sym, ◌∙◌, arith}
-use Rattle.std.specs.Prelude.{slice_get, All}
-use Rattle.std.proofs.lemmas.List.{length-take-le, length-map}
+use Rattle.store_spec.proofs.Common.{Election, length-map, length-take-le, slice_get}
+use Rattle.std.specs.Prelude.{All}
 use Rattle.ballot_record.specs.declared.contest.Contest.{Contest}
 use Rattle.ballot_record.specs.Contest.{contest_of, contests_of}
 use Rattle.ballot_record.specs.Kept.{election_of, IsKept}
 use Rattle.ballot_record.specs.declared.election.Election.TheInside.{Inside}
-use Rattle.store_spec.specs.Election.{Election}
 
 pub contest_count : (a : Inside) (e : Election) → IsKept a → election_of a ≡ e → length e.contests ≡ a.contest_count
 contest_count a e kept seen =

@@ -1,12 +1,9 @@
 -- What the bytes of a cell say of the ballot that is read from them.
 use Rattle.std.proofs.Common.{◌≡◌, ℕ, ◌+◌, ◌-◌, ◌*◌, ◌^◌, ◌<◌, ◌≤◌, ◌++◌, inl, inr, List, length, get_or, take, drop, replicate, All, refl, sym, ap, subst, ◌∙◌, arith, length-append, pow_pos}
-use Rattle.std.proofs.lemmas.Bool.{cases_lt}
-use Rattle.std.proofs.lemmas.List.{get_or_append_left, length-replicate, take-replicate}
-use Rattle.std.specs.Int.{from_be_bytes, w64}
+use Rattle.store_spec.proofs.Common.{Ballot, Election, IsCellOf, IsElection, IsValid, MARK_SETS, ballot_bytes, cases_lt, choices_on, from_be_bytes, get_or_append_left, length-replicate, set_width, take-replicate, w64}
+use Rattle.store_spec.specs.Election.{cell_size}
 use Rattle.byteorder.specs.Endian.{big_number}
-use Rattle.store_spec.specs.Ballot.{Ballot, HasMarks, IsValid, MARK_SETS}
-use Rattle.store_spec.specs.Election.{Election, IsElection, cell_size, choices_on, set_width}
-use Rattle.store_spec.specs.Image.{IsCellOf, ballot_bytes}
+use Rattle.store_spec.specs.Ballot.{HasMarks}
 use Rattle.ballot_record.specs.Format.{HaveChoices, ballot_at, sets_at}
 use Rattle.ballot_record.specs.Record.{ballot}
 use Rattle.ballot_record.specs.declared.record.Record.{Record}

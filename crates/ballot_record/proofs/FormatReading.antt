@@ -1,18 +1,13 @@
 -- What is read from a cell is spelled so, and what is spelled so is read.
 use Rattle.std.proofs.Common.{◌≡◌, ℕ, zero, suc, ◌+◌, ◌-◌, ◌*◌, ◌%◌, ◌^◌, ◌<◌, ◌≤◌, List, [], ◌∷◌, ◌++◌, length, get_or, take, drop, replicate, set, inl, inr, refl, sym, ap, ap₂, subst, ◌∙◌, append_assoc, append-nil, arith, length-append, length-take, length-drop, take-append-drop, take_at, drop_at, get_or-take, get_or-drop, mod-eq_of_lt}
+use Rattle.store_spec.proofs.Common.{Ballot, Election, IsCellOf, IsElection, IsValid, MARK_SETS, bytes_high_first, cases_lt, drop-drop, drop_more, flat_map, flat_map-cons, get_or-append_right, get_or-replicate, get_or_append_left, get_or_past, length-replicate, mul-suc, nil_from_length, set_at, set_width}
+use Rattle.store_spec.specs.Election.{cell_size}
+use Rattle.store_spec.specs.Image.{ballot_bytes}
 use Rattle.std.specs.Prelude.{All}
-use Rattle.std.specs.Int.{bytes_high_first, from_be_bytes, to_be_bytes, w32, w64}
-use Rattle.std.specs.List.{flat_map}
-use Rattle.std.proofs.lemmas.Bool.{cases_lt}
-use Rattle.std.proofs.lemmas.List.{drop-drop, get_or_append_left, get_or_past, set_at, nil_from_length, drop_more, get_or-append_right, get_or-replicate, length-replicate}
-use Rattle.std.proofs.lemmas.List.Concat.{flat_map-cons}
+use Rattle.std.specs.Int.{from_be_bytes, to_be_bytes, w32, w64}
 use Rattle.std.proofs.lemmas.Nat.{be_bytes_4, be_bytes_8, from_be_bytes-to_be_bytes_8}
-use Rattle.std.proofs.Math.Nat.{mul-suc}
 use Rattle.byteorder.specs.Endian.{big_number}
 use Rattle.byteorder.specs.Numbers.{big_from-take, big_number-reads_back, length-bytes_high_first}
-use Rattle.store_spec.specs.Ballot.{Ballot, IsValid, MARK_SETS}
-use Rattle.store_spec.specs.Election.{Election, IsElection, cell_size, set_width}
-use Rattle.store_spec.specs.Image.{IsCellOf, ballot_bytes}
 use Rattle.ballot_record.proofs.ValidMarks.{marks_kept, set_spellable}
 use Rattle.ballot_record.proofs.Versions.{contests_fit, known_width}
 use Rattle.ballot_record.specs.Format.{IsSetWidth, sets_at, ballot_at}

@@ -1,6 +1,6 @@
 -- Parts that are put one after the other, with a byte between them.
 use Rattle.std.proofs.Common.{◌≡◌, ℕ, Bool, true, false, cond, List, [], ◌∷◌, ◌++◌, refl, sym, ap, ◌∙◌, append_assoc, append-nil}
-use Rattle.std.specs.List.{join_with_byte}
+use Rattle.store_spec.proofs.Common.{join_with_byte}
 
 -- the parts with the byte before each
 unfoldable pub behind : ℕ → List (List ℕ) → List ℕ

@@ -7,6 +7,7 @@ pub mod BuildLaws
 pub mod CellCases
 mod Counts
 pub mod CellFormat
+mod Fitting
 mod FormatAnswers
 mod FormatReading
 mod FormatWriting

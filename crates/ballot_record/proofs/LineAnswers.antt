@@ -1,16 +1,12 @@
 -- What the parts of a line say of it, under an election.
 use Rattle.std.proofs.Common.{◌≡◌, ◌≢◌, ℕ, List, length, Option, Some, None, refl, sym, ap, subst, ◌∙◌}
-use Rattle.std.specs.Prelude.{option_map}
-use Rattle.std.proofs.lemmas.Option.{none-some, some_pair_parts}
-use Rattle.store_spec.specs.Ballot.{Ballot, IsValid}
-use Rattle.store_spec.specs.BallotLine.{RecordLine, ReadsAs, IsRecordLine, Spells, IsLineOf, ballot_of_line}
-use Rattle.store_spec.specs.Election.{Election}
-use Rattle.ballot_record.specs.LineReading.{line_of}
+use Rattle.store_spec.proofs.Common.{Ballot, Election, IsLineOf, IsRecordLine, IsValid, ReadsAs, RecordLine, Spells, ballot_of_line, none-some, option_map, some_pair_parts}
+use Rattle.ballot_record.specs.LineReading.{parsed_line}
 use Rattle.ballot_record.proofs.LineLaws.{one_reading}
 use Rattle.ballot_record.proofs.LineWhole.{line_takes, line_again}
 use Rattle.ballot_record.specs.Line.{line_seen}
 
-pub not_a_line : (e : Election) (bytes : List ℕ) → None ≡ option_map line_seen (line_of e bytes) → ¬ IsRecordLine e bytes
+pub not_a_line : (e : Election) (bytes : List ℕ) → None ≡ option_map line_seen (parsed_line e bytes) → ¬ IsRecordLine e bytes
 not_a_line e bytes none is = none-some (line_seen is.0) (none ∙ ap (option_map line_seen) (line_again e bytes is.0 is.1))
 
 -- the line behind a record that was read
@@ -20,14 +16,14 @@ pub record IsLineRead (e : Election) (bytes : List ℕ) (b : Ballot) (count : �
   pub is : b ≡ ballot_of_line line
   pub counted : count ≡ length line.groups
 
-read_from : (e : Election) (bytes : List ℕ) (b : Ballot) (count : ℕ) (o : Option RecordLine) → line_of e bytes ≡ o → Some (b, count) ≡ option_map line_seen o → IsLineRead e bytes b count
+read_from : (e : Election) (bytes : List ℕ) (b : Ballot) (count : ℕ) (o : Option RecordLine) → parsed_line e bytes ≡ o → Some (b, count) ≡ option_map line_seen o → IsLineRead e bytes b count
 read_from e bytes b count None found same = absurd (none-some (b, count) (sym same))
 read_from e bytes b count (Some line) found same =
     let parts = some_pair_parts b (ballot_of_line line) count (length line.groups) same in
     record { line = line; reads = line_takes e bytes line found; is = parts.0; counted = parts.1 }
 
-pub line_read : (e : Election) (bytes : List ℕ) (b : Ballot) (count : ℕ) → Some (b, count) ≡ option_map line_seen (line_of e bytes) → IsLineRead e bytes b count
-line_read e bytes b count same = read_from e bytes b count (line_of e bytes) refl same
+pub line_read : (e : Election) (bytes : List ℕ) (b : Ballot) (count : ℕ) → Some (b, count) ≡ option_map line_seen (parsed_line e bytes) → IsLineRead e bytes b count
+line_read e bytes b count same = read_from e bytes b count (parsed_line e bytes) refl same
 
 pub spells : (e : Election) (bytes : List ℕ) (b : Ballot) (count : ℕ) → IsLineRead e bytes b count → count ≡ length e.contests → IsValid e b → Spells e bytes b
 spells e bytes b count read all valid = record { line = read.line; reads = read.reads; a_group_each = sym read.counted ∙ all; is = read.is; valid = valid }

@@ -1,12 +1,7 @@
 -- What lines build.
 use Rattle.std.proofs.Common.{ℕ, List, arith}
-use Rattle.std.proofs.lemmas.List.Sorted.{length_permutation}
-use Rattle.std.specs.List.{AllZip}
+use Rattle.store_spec.proofs.Common.{AllZip, Ballot, Builds, Election, IsListing, IsWithinLimit, Spells, length_permutation}
 use Rattle.ballot_record.proofs.BallotSets.{in_order, in_order-IsPermutation, set_of_listing}
-use Rattle.store_spec.specs.Ballot.{Ballot, IsListing, IsWithinLimit}
-use Rattle.store_spec.specs.BallotLine.{Spells}
-use Rattle.store_spec.specs.Build.{Builds}
-use Rattle.store_spec.specs.Election.{Election}
 
 -- lines that spell a listing build its set
 pub listing_builds : (e : Election) (lines : List (List ℕ)) (listing : List Ballot) → AllZip (Spells e) lines listing → IsListing e listing → IsWithinLimit e listing → Builds e lines (in_order listing)

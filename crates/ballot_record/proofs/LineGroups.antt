@@ -1,14 +1,9 @@
 -- What is read as a group is spelled so, and what is spelled so is read.
 use Rattle.std.proofs.Common.{◌≡◌, ℕ, zero, suc, ◌+◌, ◌<◌, ◌≤◌, false, eqb, leb, ◌⊎◌, inl, inr, List, [], ◌∷◌, ◌++◌, length, get_or, map, Option, Some, None, refl, sym, ap, subst, subst₂, ◌∙◌, append_assoc, arith}
-use Rattle.std.specs.Prelude.{option_map, All}
-use Rattle.std.specs.Fmt.{decimal}
-use Rattle.std.specs.List.{join_with_byte}
-use Rattle.std.specs.List.Sorted.{IsStrictlyIncreasing}
-use Rattle.std.proofs.lemmas.Bool.{leb-false, eqb-true, lt-leb, ne_eqb}
-use Rattle.std.proofs.lemmas.Option.{none-some, some_pair_parts, same_Some, option_and_then_some}
+use Rattle.store_spec.proofs.Common.{Election, IsGroup, IsStrictlyIncreasing, decimal, eqb-true, group_text, join_with_byte, lt-leb, most_choices, ne_eqb, none-some, option_and_then_some, option_map, same_Some, some_pair_parts}
+use Rattle.std.specs.Prelude.{All}
+use Rattle.std.proofs.lemmas.Bool.{leb-false}
 use Rattle.std.proofs.lemmas.Fmt.{decimal_nonempty, first_decimal}
-use Rattle.store_spec.specs.BallotLine.{IsGroup, group_text}
-use Rattle.store_spec.specs.Election.{Election, most_choices}
 use Rattle.ballot_record.proofs.Versions.{few_choices}
 use Rattle.ballot_record.specs.LineReading.{digits_at, past_byte, with_first, choices_at, group_at}
 use Rattle.ballot_record.proofs.LineNumbers.{chosen, StopsDigits, number_takes, number_again}

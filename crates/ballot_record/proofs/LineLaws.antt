@@ -1,20 +1,12 @@
 -- The laws of record lines.
 use Rattle.std.proofs.Common.{◌≡◌, ℕ, suc, ◌+◌, ◌-◌, ◌*◌, ◌^◌, ◌<◌, ◌≤◌, inl, inr, List, [], ◌∷◌, ◌++◌, length, get_or, take, map, replicate, None, refl, sym, ap, subst, ◌∙◌, arith, length-append, length-take, take_at, get_or-take, pow_mono}
+use Rattle.store_spec.proofs.Common.{All-from_recursion, AllByRecursion, Ballot, Election, IsElection, IsGroup, IsRecordLine, IsValid, MARK_SETS, RecordLine, Spells, cases_lt, choices_in, decimal, group_text, length-decimal-le, length-map, mark_set, most_choices, mul-suc, none-some, record_line, recursion_from_All, same_Some}
 use Rattle.std.specs.Prelude.{All, ◌↔◌}
-use Rattle.std.specs.Fmt.{decimal}
-use Rattle.std.specs.List.{AllByRecursion}
-use Rattle.std.proofs.lemmas.Bool.{cases_lt}
-use Rattle.std.proofs.lemmas.Fmt.{length-decimal-le}
-use Rattle.std.proofs.lemmas.List.{length-map}
-use Rattle.std.proofs.lemmas.List.Elements.{recursion_from_All, All-from_recursion}
-use Rattle.std.proofs.lemmas.Option.{none-some, same_Some}
-use Rattle.store_spec.specs.Ballot.{Ballot, IsValid, MARK_SETS}
-use Rattle.store_spec.specs.BallotLine.{IsRecordLine, RecordLine, IsGroup, ReadsAs, Spells, group_text, line_text, longest_line, mark_set, ballot_of_line, choices_in, line_of_ballot, record_line}
-use Rattle.store_spec.specs.Election.{Election, IsElection, most_choices}
-use Rattle.std.proofs.Math.Nat.{mul-le-mul_left, mul-one, mul-suc}
+use Rattle.store_spec.specs.BallotLine.{ReadsAs, line_text, longest_line, ballot_of_line, line_of_ballot}
+use Rattle.std.proofs.Math.Nat.{mul-le-mul_left, mul-one}
 use Rattle.ballot_record.proofs.Versions.{contests_fit, few_choices, longest, some_choices}
 use Rattle.ballot_record.proofs.LineGroups.{RisesFrom, choices_text, rises_from_IsGroup}
-use Rattle.ballot_record.specs.LineReading.{line_of}
+use Rattle.ballot_record.specs.LineReading.{parsed_line}
 use Rattle.ballot_record.proofs.LineWhole.{groups_text, line_again}
 use Rattle.ballot_record.proofs.ValidMarks.{small_set, marks_kept}
 use Rattle.ballot_record.proofs.MarkSets.{mark_set-cons, doubled, IsGroup-choices_in, mark_set-choices_in, choices_in-mark_set}
@@ -189,5 +181,5 @@ set_within e choices n group = (
 
 -- ---- what is no line
 
-pub not_read : (e : Election) (bytes : List ℕ) → line_of e bytes ≡ None → ¬ IsRecordLine e bytes
+pub not_read : (e : Election) (bytes : List ℕ) → parsed_line e bytes ≡ None → ¬ IsRecordLine e bytes
 not_read e bytes none is = none-some is.0 (sym none ∙ line_again e bytes is.0 is.1)

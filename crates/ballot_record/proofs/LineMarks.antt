@@ -1,11 +1,6 @@
 -- Mark sets of groups, one after another.
 use Rattle.std.proofs.Common.{◌≡◌, ℕ, suc, ◌+◌, ◌-◌, ◌<◌, ◌≤◌, true, false, eqb, List, [], ◌∷◌, ◌++◌, length, map, replicate, set, Option, Some, None, refl, sym, ap, ap₂, ◌∙◌, append_assoc, arith, length-append}
-use Rattle.std.specs.Prelude.{option_map}
-use Rattle.std.proofs.lemmas.List.{set_at, length-map}
-use Rattle.std.proofs.lemmas.List.{map-append}
-use Rattle.std.proofs.lemmas.Option.{some_pair_parts}
-use Rattle.store_spec.specs.Ballot.{MARK_SETS}
-use Rattle.store_spec.specs.BallotLine.{mark_set}
+use Rattle.store_spec.proofs.Common.{MARK_SETS, length-map, map-append, mark_set, option_map, set_at, some_pair_parts}
 use Rattle.ballot_record.specs.LineReading.{group_at, groups_of}
 use Rattle.ballot_record.specs.Line.{set_seen, sets_seen}
 use Rattle.ballot_record.proofs.LineSets.{rest_past, when_past, when_not_past}

@@ -1,9 +1,8 @@
 -- What is read as a number is spelled so, and what is spelled so is read.
 use Rattle.std.proofs.Common.{◌≡◌, ℕ, ◌+◌, ◌-◌, ◌*◌, ◌/◌, ◌%◌, ◌^◌, ◌<◌, ◌≤◌, Bool, true, false, cond, eqb, ltb, leb, ◌⊎◌, inl, inr, List, [], ◌∷◌, ◌++◌, Option, Some, None, refl, sym, ap, subst₂, ◌∙◌, append_assoc, arith}
+use Rattle.store_spec.proofs.Common.{and_from, and_parts, decimal, eqb-false, le-leb, le-ltb, leb-true, ne_eqb, none-some, some_pair_parts}
 use Rattle.std.specs.Char.{is_ascii_digit}
-use Rattle.std.specs.Fmt.{decimal}
-use Rattle.std.proofs.lemmas.Bool.{and_parts, leb-true, ltb-false, eqb-false, le-leb, le-ltb, ne_eqb, and_from}
-use Rattle.std.proofs.lemmas.Option.{none-some, some_pair_parts}
+use Rattle.std.proofs.lemmas.Bool.{ltb-false}
 use Rattle.std.proofs.lemmas.Fmt.{decimal_digit, decimal_step, decimal_by_steps}
 use Rattle.ballot_record.specs.LineReading.{digits_at}
 

@@ -1,12 +1,7 @@
 -- How a line is put, choice by choice and group by group.
 use Rattle.std.proofs.Common.{◌≡◌, ℕ, ◌+◌, ◌-◌, ◌*◌, ◌^◌, ◌<◌, ◌≤◌, Bool, true, false, cond, eqb, List, [], ◌∷◌, ◌++◌, map, refl, sym, ap, ◌∙◌, arith, zero-mul, mul-one, add-one, append_assoc, drop, drop-cons, get_or, length}
-use Rattle.std.proofs.lemmas.Bool.{ne_eqb}
-use Rattle.std.proofs.lemmas.List.{drop_all}
-use Rattle.std.specs.Fmt.{decimal}
-use Rattle.std.specs.Int.{bit_at}
-use Rattle.std.specs.List.{join_with_byte}
-use Rattle.store_spec.specs.BallotLine.{choices_in, comma, group_text, mark_set, slash, space}
-use Rattle.store_spec.specs.Election.{Election, most_choices}
+use Rattle.store_spec.proofs.Common.{Election, bit_at, choices_in, decimal, drop_all, group_text, join_with_byte, mark_set, most_choices, ne_eqb, space}
+use Rattle.store_spec.specs.BallotLine.{comma, slash}
 use Rattle.ballot_record.proofs.Joining.{joined_after, part_put, all_put}
 use Rattle.ballot_record.proofs.LineGroups.{choices_text, text_of_some}
 use Rattle.ballot_record.proofs.MarkSets.{choices_from, choices_of_word, choices_from-mark_set, choices_in-is, lowest_choice, mark_set-choices_in}

@@ -1,8 +1,7 @@
 -- A number goes on with a run of digits as with one after another.
 use Rattle.std.proofs.Common.{◌≡◌, ◌≢◌, ℕ, ◌+◌, ◌-◌, ◌*◌, ◌<◌, ◌≤◌, cond, ◌⊎◌, inl, inr, Bool, true, ◌&&◌, List, [], ◌∷◌, length, get_or, drop, Option, Some, None, refl, sym, ap, subst₂, ◌∙◌, arith}
+use Rattle.store_spec.proofs.Common.{and_parts, eq-eqb, none-some, option_and_then_some, some_pair_parts}
 use Rattle.std.specs.Char.{is_ascii_digit}
-use Rattle.std.proofs.lemmas.Bool.{eq-eqb, and_parts}
-use Rattle.std.proofs.lemmas.Option.{none-some, some_pair_parts, option_and_then_some}
 use Rattle.ballot_record.specs.LineReading.{digits_at, four_at, eight_at}
 use Rattle.ballot_record.proofs.LineGroups.{option_map_some}
 use Rattle.ballot_record.proofs.LineNumbers.{chosen, digit_again, digit_bounds}

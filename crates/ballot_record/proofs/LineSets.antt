@@ -1,11 +1,8 @@
 -- Mark sets that grow choice by choice.
 use Rattle.std.proofs.Common.{◌≡◌, ℕ, zero, suc, ◌+◌, ◌-◌, ◌*◌, ◌%◌, ◌^◌, ◌<◌, ◌≤◌, Bool, true, false, cond, eqb, List, [], ◌∷◌, Option, Some, None, refl, sym, ap, ◌∙◌, arith, bit_or, mod-eq_of_lt, zero-add}
-use Rattle.std.specs.Prelude.{option_map}
-use Rattle.std.proofs.lemmas.Bool.{le-leb, lt-leb}
+use Rattle.store_spec.proofs.Common.{le-leb, lt-leb, mark_set, option_map, sum_by-cons}
 use Rattle.std.proofs.lemmas.Nat.{or_comm, or_shifted, pow_below}
 use Rattle.std.proofs.Common.{pow_mono, pow-suc}
-use Rattle.std.proofs.lemmas.List.Sums.{sum_by-cons}
-use Rattle.store_spec.specs.BallotLine.{mark_set}
 use Rattle.ballot_record.specs.LineReading.{digits_at, past_byte, with_first, choices_at}
 use Rattle.ballot_record.proofs.LineNumbers.{number_takes}
 use Rattle.ballot_record.specs.Line.{set_seen}

@@ -1,15 +1,9 @@
 -- What is read as a line is one, and what is a line is read.
 use Rattle.std.proofs.Common.{◌≡◌, ℕ, zero, suc, ◌-◌, ◌^◌, ◌≤◌, eqb, inl, inr, List, [], ◌∷◌, ◌++◌, length, map, Some, refl, sym, ap, subst, ◌∙◌, append_assoc, append-nil, arith}
-use Rattle.std.specs.Prelude.{option_map, All}
-use Rattle.std.specs.Fmt.{decimal}
-use Rattle.std.specs.List.{join_with_byte, AllByRecursion}
-use Rattle.std.proofs.lemmas.Bool.{eqb-true, ne_eqb}
-use Rattle.std.proofs.lemmas.List.{nil_from_length, length-map}
-use Rattle.std.proofs.lemmas.List.Elements.{All-from_recursion, recursion_from_All}
-use Rattle.std.proofs.lemmas.Option.{none-some, same_Some, option_and_then_some}
-use Rattle.store_spec.specs.BallotLine.{RecordLine, IsGroup, ReadsAs, group_text}
-use Rattle.store_spec.specs.Election.{Election, most_choices, most_contests}
-use Rattle.ballot_record.specs.LineReading.{digits_at, group_at, groups_of, line_of}
+use Rattle.store_spec.proofs.Common.{All-from_recursion, AllByRecursion, Election, IsGroup, ReadsAs, RecordLine, decimal, eqb-true, group_text, join_with_byte, length-map, most_choices, ne_eqb, nil_from_length, none-some, option_and_then_some, option_map, recursion_from_All, same_Some}
+use Rattle.std.specs.Prelude.{All}
+use Rattle.store_spec.specs.Election.{most_contests}
+use Rattle.ballot_record.specs.LineReading.{digits_at, group_at, groups_of, parsed_line}
 use Rattle.ballot_record.proofs.LineNumbers.{chosen, number_takes, number_again}
 use Rattle.ballot_record.proofs.LineGroups.{passed, option_map_some, join_more, group_takes, group_again}
 
@@ -65,8 +59,8 @@ groups_again e (suc most) group (next ∷ groups) few each =
 
 -- ---- the whole line
 
-pub line_takes : (e : Election) (bytes : List ℕ) (line : RecordLine) → line_of e bytes ≡ Some line → ReadsAs e bytes line
-unfolding line_of
+pub line_takes : (e : Election) (bytes : List ℕ) (line : RecordLine) → parsed_line e bytes ≡ Some line → ReadsAs e bytes line
+unfolding parsed_line
 line_takes e bytes line is =
     option_and_then_some _ (digits_at (2 ^ 64 - 1) 0 bytes) line is (λ number number_is goes_on.
     let number_at = number_takes (2 ^ 64 - 1) (omega arith) bytes number.0 number.1 number_is in
@@ -101,13 +95,13 @@ groups_again_some : (e : Election) (groups : List (List ℕ)) → 1 ≤ length g
 groups_again_some e [] some few each = absurd (omega arith)
 groups_again_some e (group ∷ groups) some few each = groups_again e (most_contests e) group groups few (recursion_from_All (IsGroup e) (group ∷ groups) each)
 
-pub line_again : (e : Election) (bytes : List ℕ) (line : RecordLine) → ReadsAs e bytes line → line_of e bytes ≡ Some line
-unfolding line_of
+pub line_again : (e : Election) (bytes : List ℕ) (line : RecordLine) → ReadsAs e bytes line → parsed_line e bytes ≡ Some line
+unfolding parsed_line
 line_again e bytes line reads =
     let p = reads.parts in
     let marks = groups_text line.groups in
     let regrouped : bytes ≡ decimal line.number ++ (32 ∷ (decimal line.style ++ (32 ∷ marks))) = reads.spelled ∙ append_assoc (decimal line.number) (32 ∷ decimal line.style) (32 ∷ marks) in
-    ap (line_of e) regrouped
+    ap (parsed_line e) regrouped
     ∙ rw (
       number_again (2 ^ 64 - 1) line.number (32 ∷ (decimal line.style ++ (32 ∷ marks))) (omega arith) p.some_number (omega (arith, p.short_number)) refl,
       number_again 255 line.style (32 ∷ marks) (omega arith) p.some_style p.short_style refl,

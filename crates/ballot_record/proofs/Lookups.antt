@@ -1,8 +1,6 @@
 -- The ballot with a number, whichever way the ballots are listed.
 use Rattle.std.proofs.Common.{◌≡◌, ◌≢◌, ℕ, zero, suc, ◌⊎◌, inl, inr, ⊎_elim, List, [], ◌∷◌, get_or, Option, Some, None, refl, sym, ap, ◌∙◌, arith}
-use Rattle.std.proofs.lemmas.Bool.{cond-true, cond-false, eq-eqb, ne_eqb, cases_eq}
-use Rattle.std.specs.List.{AllPairs, Contains}
-use Rattle.store_spec.specs.Ballot.{Ballot, ballot_of}
+use Rattle.store_spec.proofs.Common.{AllPairs, Ballot, Contains, ballot_of, cases_eq, cond-false, cond-true, eq-eqb, ne_eqb}
 
 pub option_cases : {A : Type 0} (o : Option A) → (o ≡ None) ⊎ ((x : A) × (o ≡ Some x))
 option_cases None = inl refl

@@ -1,14 +1,10 @@
 -- A group and its mark set determine each other.
 use Rattle.std.proofs.Common.{◌≡◌, ℕ, zero, suc, ◌+◌, ◌-◌, ◌*◌, ◌/◌, ◌%◌, ◌^◌, ◌<◌, ◌≤◌, cond, eqb, inl, inr, List, [], ◌∷◌, refl, sym, ap, ap₂, subst, ◌∙◌, arith, pow-suc, add-one, pow-add, pow_pos, zero-mul, mul-one, mul-div_cancel}
-use Rattle.std.proofs.lemmas.Bool.{cases_lt, cases_eq, eq-eqb, ne_eqb}
+use Rattle.store_spec.proofs.Common.{Election, IsGroup, bit_at, cases_eq, cases_lt, eq-eqb, filter, mark_set, most_choices, ne_eqb, range_with_len, sum_by-cons}
+use Rattle.store_spec.specs.BallotLine.{choices_in}
 use Rattle.std.proofs.Math.Nat.{div-div-eq-div-mul, div-one}
-use Rattle.std.proofs.lemmas.List.Sums.{sum_by-cons}
 use Rattle.std.proofs.lemmas.Nat.Bits.{bit_at-suc, bit_at_above, bit_at_lowest}
-use Rattle.std.specs.Int.{bit_at}
-use Rattle.std.specs.List.{filter, range_with_len}
 use Rattle.std.specs.Prelude.{◌==◌}
-use Rattle.store_spec.specs.BallotLine.{IsGroup, choices_in, mark_set}
-use Rattle.store_spec.specs.Election.{Election, most_choices}
 use Rattle.ballot_record.proofs.Versions.{few_choices}
 use Rattle.ballot_record.proofs.LineGroups.{RisesFrom, IsGroup-from_rises, rises_from_IsGroup}
 

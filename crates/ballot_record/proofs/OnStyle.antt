@@ -1,11 +1,7 @@
 -- Where a contest is on no style.
 use Rattle.std.proofs.Common.{◌≡◌, ◌≢◌, ℕ, ◌-◌, ◌<◌, ◌≤◌, Bool, true, false, cond, eqb, get_or, inl, inr, length, refl, sym, ap, ◌∙◌, arith}
-use Rattle.std.proofs.lemmas.Bool.{cases_lt, ne_eqb}
-use Rattle.std.proofs.lemmas.List.{get_or_past}
+use Rattle.store_spec.proofs.Common.{Election, IsElection, bit_at, cases_lt, get_or_past, is_on_style, ne_eqb, slice_index}
 use Rattle.std.proofs.lemmas.Nat.Bits.{bit_at-zero, bit_at_above}
-use Rattle.std.specs.Prelude.{slice_index}
-use Rattle.std.specs.Int.{bit_at}
-use Rattle.store_spec.specs.Election.{Election, IsElection, is_on_style}
 use Rattle.ballot_record.specs.OnStyle.{AreTheirs}
 
 never : (b c : Bool) → cond b false (cond c false false) ≡ false

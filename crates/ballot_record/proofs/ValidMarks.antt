@@ -1,13 +1,8 @@
 -- What the marks of a valid ballot are: a set for each contest, and nothing behind them.
 use Rattle.std.proofs.Common.{◌≡◌, ℕ, suc, ◌+◌, ◌-◌, ◌^◌, ◌<◌, ◌≤◌, eqb, List, [], ◌∷◌, ◌++◌, length, get_or, take, drop, replicate, Option, Some, None, refl, sym, ap, subst, ◌∙◌, arith, length-drop, take-append-drop, get_or-drop, pow_mono, pow_pos, inl, inr}
-use Rattle.std.specs.Prelude.{slice_get}
-use Rattle.std.specs.Option.{option_map_or}
-use Rattle.std.proofs.lemmas.Bool.{cases_lt, cond_both, ne_eqb}
-use Rattle.std.proofs.lemmas.Option.{slice_get_within, get_or_from_slice_get, slice_get_past}
-use Rattle.store_spec.specs.Ballot.{Ballot, IsValid, MARK_SETS}
-use Rattle.store_spec.specs.Election.{Contest, Election, IsContest, IsElection, choices_of, choices_on, is_on_style, most_choices, set_width}
+use Rattle.store_spec.proofs.Common.{Ballot, Contest, Election, IsContest, IsElection, IsValid, MARK_SETS, cases_lt, choices_of, choices_on, cond_both, get_or_from_slice_get, get_or_past, is_on_style, most_choices, ne_eqb, option_map_or, set_width, slice_get, slice_get_within}
+use Rattle.std.proofs.lemmas.Option.{slice_get_past}
 use Rattle.ballot_record.proofs.Versions.{set_room}
-use Rattle.std.proofs.lemmas.List.{get_or_past}
 
 offered : (o : Option Contest) (P : ℕ → Type 0) → P 0 → ((contest : Contest) → o ≡ Some contest → P contest.choices) → P (option_map_or (λ contest. contest.choices) o 0)
 offered None P none some = none

@@ -1,10 +1,9 @@
 -- What goes with a version is the value of the first one or of the second.
 use Rattle.std.proofs.Common.{◌≡◌, ◌≢◌, ℕ, ◌+◌, ◌-◌, ◌*◌, ◌^◌, ◌≤◌, ◌⊎◌, inl, inr, length, refl, sym, ap, subst, ◌∙◌, arith}
-use Rattle.std.proofs.lemmas.Bool.{cases_eq, cond-true, cond-false, eq-eqb, ne_eqb}
+use Rattle.store_spec.proofs.Common.{Election, IsElection, MARK_SETS, cases_eq, cond-false, cond-true, eq-eqb, most_choices, ne_eqb, set_width}
 use Rattle.std.proofs.Math.Nat.{mul-le-mul}
 use Rattle.ballot_record.specs.Format.{IsSetWidth}
-use Rattle.store_spec.specs.Ballot.{MARK_SETS}
-use Rattle.store_spec.specs.Election.{Election, IsElection, in_version, most_choices, most_contests, set_width}
+use Rattle.store_spec.specs.Election.{in_version, most_contests}
 
 pub version_cases : (version first second : ℕ)
     → ((version ≡ 1) × (in_version version first second ≡ first)) ⊎ ((version ≢ 1) × (in_version version first second ≡ second))

@@ -80,8 +80,8 @@ groups_of most (suc more) bytes =
     (group_at most bytes)
 
 -- all of a line of an election's version
-unfoldable pub line_of : Election → List ℕ → Option RecordLine
-line_of e bytes =
+unfoldable pub parsed_line : Election → List ℕ → Option RecordLine
+parsed_line e bytes =
     option_and_then (λ (number : ℕ × List ℕ).
     past_byte space number.1 (λ bytes.
     option_and_then (λ (style : ℕ × List ℕ).

@@ -2,7 +2,7 @@
 
 ghost use Rattle.std.specs.Prelude.{◌≡◌, ℕ, ◌^◌, ◌<◌, ◌≤◌, ◌↔◌, option_map, option_copied, replicate, Some, None, Ok, Err, IfOk, OnOk};
 ghost use Rattle.store_spec.specs.BallotLine.{IsRecordLine, Spells, IsLineOf};
-ghost use Rattle.ballot_record.specs.LineReading.{digits_at, four_at, eight_at, past_byte, choices_at, group_at, groups_of, line_of};
+ghost use Rattle.ballot_record.specs.LineReading.{digits_at, four_at, eight_at, past_byte, choices_at, group_at, groups_of, parsed_line};
 ghost use Rattle.ballot_record.specs.Line.{set_seen, sets_seen, line_seen};
 ghost use Rattle.ballot_record.specs.Record.{ballot};
 
@@ -224,11 +224,11 @@ fn put_groups(
 }
 
 /// Puts the parts of the record that a line in the grammar spells, and says how many groups it has.
-#[tactic(auto, unfolding(crate::specs::LineReading::line_of))]
+#[tactic(auto, unfolding(crate::specs::LineReading::parsed_line))]
 fn put_parts(line: &[u8], election: &Election, parts: &mut Record) -> Option<usize>
     requires { parts.old.marks ≡ replicate MAX_MARK_SETS 0 }
     ensures { option_map (λ count. (ballot parts.new, count)) result
-        ≡ option_map line_seen (line_of election.now line.now) }
+        ≡ option_map line_seen (parsed_line election.now line.now) }
 {
     let (number, rest) = take_number(line, u64::MAX)?;
     let (style, rest) = take_short(after_byte(rest, b' ')?, MAX_STYLES as u64)?;

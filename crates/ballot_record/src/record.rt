@@ -3,7 +3,7 @@
 ghost use Rattle.std.specs.Prelude.{◌≡◌, ℕ, ◌+◌, ◌-◌, ◌^◌, ◌<◌, ◌≤◌, ◌↔◌, length, replicate, IsTrue, slice_index};
 ghost use Rattle.store_spec.specs.Election.{choices_on};
 ghost use Rattle.store_spec.specs.Ballot.{IsValid, HasMarks};
-ghost use Rattle.ballot_record.specs.OnStyle.{AreOnStyle, AreTheirs};
+ghost use Rattle.ballot_record.specs.OnStyle.{AreOnStyle};
 
 use crate::{Election, MAX_CONTESTS};
 
@@ -18,26 +18,28 @@ pub struct Record {
     pub marks: [u64; MAX_MARK_SETS],
 }
 
-/// Whether a mark set has only the first so many choices, of which there is one at least.
-fn is_within(set: u64, choices: u8) -> bool
+/// What a mark set has behind the first so many choices: 0 where it has none of those.
+fn marked_behind(set: u64, choices: u8) -> u64
     requires some { 1 ≤ choices }
     requires few { choices ≤ 64 }
-    ensures { IsTrue result ↔ set < 2 ^ choices }
+    ensures { result ≡ 0 ↔ set < 2 ^ choices }
 {
-    set >> (choices - 1) <= 1
+    set >> (choices - 1) >> 1
 }
 
-/// Whether a mark set has only choices that the contest at a place offers, where these are the contests on the style.
-fn has_choices(set: u64, election: &Election, contests: u32, place: usize) -> bool
+/// What a mark set has that its contest, which is at a place, does not offer, where these are the contests on the style:
+/// 0 where it has only what is offered. It is found without a branch, so that several are judged at once.
+fn not_offered(set: u64, election: &Election, contests: u32, place: usize) -> u64
+    requires known { place < length election.now.contests }
     requires within { place < MAX_CONTESTS }
-    requires known { AreTheirs election.now contests }
     ensures { (style : ℕ) → AreOnStyle election.now style contests
-        → IsTrue result ↔ set < 2 ^ choices_on election.now style (place + 1) }
+        → result ≡ 0 ↔ set < 2 ^ choices_on election.now style (place + 1) }
 {
+    let behind = marked_behind(set, election.contest(place + 1).choices);
     if contests >> place & 1 == 1 {
-        is_within(set, election.contest(place + 1).choices)
+        behind
     } else {
-        set == 0
+        set
     }
 }
 
@@ -83,11 +85,14 @@ impl Record {
         ensures { IsTrue result ↔ HasMarks election.now self.now.style self.now.marks }
     {
         let contests = election.contests_on(self.style);
-        for place in 0..sets {
-            if !has_choices(self.marks[place], election, contests, place) {
-                return false;
-            }
+        let known = election.contests().min(sets);
+        let mut marked = 0;
+        'known: for place in 0..known {
+            marked |= not_offered(self.marks[place], election, contests, place);
         }
-        true
+        'others: for place in known..sets {
+            marked |= self.marks[place];
+        }
+        marked == 0
     }
 }

@@ -1,7 +1,6 @@
 -- Bytes that are the same up to a place, and from there on.
 use Rattle.std.proofs.Common.{◌≡◌, ℕ, ◌+◌, ◌-◌, ◌++◌, List, length, take, drop, sym, ap, ◌∙◌, arith}
-use Rattle.std.proofs.Math.Seq.{take-add}
-use Rattle.std.proofs.lemmas.List.{length-drop, take_all, take-append-drop}
+use Rattle.store_spec.proofs.Common.{length-drop, take-add, take-append-drop, take_all}
 
 -- one block more
 pub block_more : (at n j : ℕ) (one two : List ℕ) → j ≡ n → take at one ≡ take at two → take j (drop at one) ≡ take j (drop at two) → take (at + n) one ≡ take (at + n) two

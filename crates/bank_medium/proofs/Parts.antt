@@ -1,7 +1,6 @@
 -- Parts of a bank, as parts of the medium.
 use Rattle.std.proofs.Common.{◌≡◌, ℕ, ◌+◌, ◌-◌, ◌≤◌, List, take, drop, sym, ◌∙◌, ap, arith}
-use Rattle.std.proofs.lemmas.List.{drop-drop, drop-take, take-take}
-use Rattle.std.specs.Prelude.{slice_range}
+use Rattle.store_spec.proofs.Common.{drop-drop, drop-take, slice_range, take-take}
 
 -- a range within a range
 pub within_range : (p n at k : ℕ) (xs : List ℕ) → at + k ≤ n → slice_range xs (p + at) (p + at + k) ≡ slice_range (slice_range xs p (p + n)) at (at + k)

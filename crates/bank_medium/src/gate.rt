@@ -4,6 +4,7 @@ ghost use Rattle.std.specs.Prelude.{◌≡◌, ◌↔◌, ◌≤◌, ℕ, List, 
 ghost use Rattle.std.specs.Option.{ForSome};
 ghost use Rattle.bank_medium.specs.Banks.{gate_of, HasMediumSize, HasOpen};
 ghost use Rattle.bank_medium.specs.declared.place.Bank.TheVariants.{A, B};
+ghost use Rattle.crash_disk.specs.MadeCalls.{MakesCalls};
 ghost use Rattle.store_spec.specs.Disk.{overwritten, IsTorn, IsSettled, KeepsCrashImages, LeavesOnly};
 ghost use Rattle.store_spec.specs.Fault.{CountsFault};
 ghost use Rattle.store_spec.specs.Medium.{open_gate, closed_gate};
@@ -27,9 +28,7 @@ pub fn gates<D: Disk>(disk: &mut D, election: &Election) -> Result<(bool, bool),
         (λ bytes. IsTrue which.1 ↔ HasOpen election.now B bytes)) }
     ensures same_bytes { D.seen disk.new ≡ D.seen disk.old }
     ensures crash_images { KeepsCrashImages D.calls D.may_leave disk.old disk.new }
-    ensures later { D.calls disk.old ≤ D.calls disk.new }
-    ensures fault { CountsFault result (D.faults disk.old) (D.faults disk.new) }
-    ensures leads { D.leads_to disk.old disk.new }
+    ensures calls { MakesCalls D.seen D.calls D.faults D.leads_to (CountsFault result) disk.old disk.new }
     ensures fails { OnErr result (D.fails_to disk.old disk.new) }
 {
     let mut gates = [0; 2];
@@ -46,10 +45,7 @@ pub fn close_gate<D: Disk>(disk: &mut D, election: &Election, bank: Bank) -> Res
     ensures settled { OnOk result (IsSettled D.seen D.calls D.may_leave disk.new) }
     ensures any_moment { (old : List ℕ) → D.seen disk.old ≡ Some old → LeavesOnly D.calls
         D.may_leave disk.old disk.new (IsTorn (gate_of election.now bank) 1 old) }
-    ensures told { is_some (D.seen disk.new) ≡ is_some (D.seen disk.old) }
-    ensures later { D.calls disk.old ≤ D.calls disk.new }
-    ensures fault { CountsFault result (D.faults disk.old) (D.faults disk.new) }
-    ensures leads { D.leads_to disk.old disk.new }
+    ensures calls { MakesCalls D.seen D.calls D.faults D.leads_to (CountsFault result) disk.old disk.new }
     ensures fails { OnErr result (D.fails_to disk.old disk.new) }
 {
     write_settled(disk, gate_place(election, bank), &[CLOSED])
@@ -59,15 +55,12 @@ pub fn close_gate<D: Disk>(disk: &mut D, election: &Election, bank: Bank) -> Res
 pub fn open_gate<D: Disk>(disk: &mut D, election: &Election, bank: Bank) -> Result<(), Failed>
     requires settled { IsSettled D.seen D.calls D.may_leave disk.old }
     requires size { HasMediumSize election.now (D.seen disk.old) }
-    ensures told { is_some (D.seen disk.new) ≡ is_some (D.seen disk.old) }
     ensures written { OnOk result (D.seen disk.new
         ≡ option_map (overwritten (gate_of election.now bank) (open_gate ∷ [])) (D.seen disk.old)) }
     ensures settled { OnOk result (IsSettled D.seen D.calls D.may_leave disk.new) }
     ensures any_moment { (old : List ℕ) → D.seen disk.old ≡ Some old → LeavesOnly D.calls
         D.may_leave disk.old disk.new (IsTorn (gate_of election.now bank) 1 old) }
-    ensures later { D.calls disk.old ≤ D.calls disk.new }
-    ensures fault { CountsFault result (D.faults disk.old) (D.faults disk.new) }
-    ensures leads { D.leads_to disk.old disk.new }
+    ensures calls { MakesCalls D.seen D.calls D.faults D.leads_to (CountsFault result) disk.old disk.new }
     ensures fails { OnErr result (D.fails_to disk.old disk.new) }
 {
     write_settled(disk, gate_place(election, bank), &[OPEN])
@@ -82,10 +75,7 @@ pub fn open_both_gates<D: Disk>(disk: &mut D, election: &Election) -> Result<(),
     ensures settled { OnOk result (IsSettled D.seen D.calls D.may_leave disk.new) }
     ensures any_moment { (old : List ℕ) → D.seen disk.old ≡ Some old → LeavesOnly D.calls
         D.may_leave disk.old disk.new (IsTorn (gate_of election.now A) 2 old) }
-    ensures told { is_some (D.seen disk.new) ≡ is_some (D.seen disk.old) }
-    ensures later { D.calls disk.old ≤ D.calls disk.new }
-    ensures fault { CountsFault result (D.faults disk.old) (D.faults disk.new) }
-    ensures leads { D.leads_to disk.old disk.new }
+    ensures calls { MakesCalls D.seen D.calls D.faults D.leads_to (CountsFault result) disk.old disk.new }
     ensures fails { OnErr result (D.fails_to disk.old disk.new) }
 {
     write_settled(disk, gate_place(election, Bank::A), &[OPEN, OPEN])

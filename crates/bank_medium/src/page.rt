@@ -4,6 +4,7 @@
 ghost use Rattle.std.specs.Prelude.{◌≡◌, ◌↔◌, ◌+◌, ◌≤◌, ℕ, List, length, slice_range, Some, option_map, is_some, IfSome, OnOk, OnErr};
 ghost use Rattle.std.specs.Option.{ForSome};
 ghost use Rattle.bank_medium.specs.Banks.{bytes_of, place_of, HasMediumSize, HasOpen, LeavesUnread};
+ghost use Rattle.crash_disk.specs.MadeCalls.{MakesCalls};
 ghost use Rattle.store_spec.specs.Disk.{overwritten, IsTorn, IsSettled, SeenTorn, KeepsCrashImages, AddsNoCrashImage, KeepsThemInside, LeavesOnly, TearsAtMost, TearsExactly};
 ghost use Rattle.store_spec.specs.Election.{bank_size};
 ghost use Rattle.store_spec.specs.Fault.{CountsFault};
@@ -28,9 +29,7 @@ pub fn read_page<D: Disk>(
         out.new ≡ slice_range (bytes_of election.now bank bytes) at (at + length out.old))) }
     ensures same_bytes { D.seen disk.new ≡ D.seen disk.old }
     ensures crash_images { KeepsCrashImages D.calls D.may_leave disk.old disk.new }
-    ensures later { D.calls disk.old ≤ D.calls disk.new }
-    ensures fault { CountsFault result (D.faults disk.old) (D.faults disk.new) }
-    ensures leads { D.leads_to disk.old disk.new }
+    ensures calls { MakesCalls D.seen D.calls D.faults D.leads_to (CountsFault result) disk.old disk.new }
     ensures fails { OnErr result (D.fails_to disk.old disk.new) }
 {
     disk.read(bank_place(election, bank) + at as u64, out)
@@ -56,9 +55,7 @@ pub fn write_page<D: Disk>(
         (place_of election.now bank + at) (length bytes.now) disk.old disk.new }
     ensures any_bytes { OnOk result (TearsExactly D.calls D.may_leave
         (place_of election.now bank + at) (length bytes.now) disk.old disk.new) }
-    ensures later { D.calls disk.old ≤ D.calls disk.new }
-    ensures fault { CountsFault result (D.faults disk.old) (D.faults disk.new) }
-    ensures leads { D.leads_to disk.old disk.new }
+    ensures calls { MakesCalls D.seen D.calls D.faults D.leads_to (CountsFault result) disk.old disk.new }
     ensures fails { OnErr result (D.fails_to disk.old disk.new) }
 {
     disk.write_at(bank_place(election, bank) + at as u64, bytes)
@@ -67,14 +64,11 @@ pub fn write_page<D: Disk>(
 /// Settles what was written.
 pub fn settle<D: Disk>(disk: &mut D) -> Result<(), Failed>
     ensures same_bytes { OnOk result (D.seen disk.new ≡ D.seen disk.old) }
-    ensures told { is_some (D.seen disk.new) ≡ is_some (D.seen disk.old) }
     ensures crash_images { AddsNoCrashImage D.calls D.may_leave disk.old disk.new }
     ensures inside { KeepsThemInside D.calls D.may_leave disk.old disk.new }
     ensures settled { OnOk result (IsSettled D.seen D.calls D.may_leave disk.new) }
     ensures unsettled { OnErr result (KeepsCrashImages D.calls D.may_leave disk.old disk.new) }
-    ensures later { D.calls disk.old ≤ D.calls disk.new }
-    ensures fault { CountsFault result (D.faults disk.old) (D.faults disk.new) }
-    ensures leads { D.leads_to disk.old disk.new }
+    ensures calls { MakesCalls D.seen D.calls D.faults D.leads_to (CountsFault result) disk.old disk.new }
     ensures fails { OnErr result (D.fails_to disk.old disk.new) }
 {
     disk.sync()
@@ -97,10 +91,7 @@ pub fn write_bank<D: Disk>(
     ensures settled { OnOk result (IsSettled D.seen D.calls D.may_leave disk.new) }
     ensures any_moment { (old : List ℕ) → D.seen disk.old ≡ Some old → LeavesOnly D.calls D.may_leave
         disk.old disk.new (IsTorn (place_of election.now bank) (bank_size election.now) old) }
-    ensures told { is_some (D.seen disk.new) ≡ is_some (D.seen disk.old) }
-    ensures later { D.calls disk.old ≤ D.calls disk.new }
-    ensures fault { CountsFault result (D.faults disk.old) (D.faults disk.new) }
-    ensures leads { D.leads_to disk.old disk.new }
+    ensures calls { MakesCalls D.seen D.calls D.faults D.leads_to (CountsFault result) disk.old disk.new }
     ensures fails { OnErr result (D.fails_to disk.old disk.new) }
 {
     write_settled(disk, bank_place(election, bank), bytes)

@@ -2,6 +2,7 @@
 
 ghost use Rattle.std.specs.Prelude.{◌≡◌, ◌≤◌, ℕ, List, length, Some, option_map, is_some, OnOk, OnErr};
 ghost use Rattle.std.specs.Option.{ForSome};
+ghost use Rattle.crash_disk.specs.MadeCalls.{MakesCalls};
 ghost use Rattle.store_spec.specs.Disk.{overwritten, IsTorn, IsSettled, LeavesOnly};
 ghost use Rattle.store_spec.specs.Fault.{CountsFault};
 
@@ -17,10 +18,7 @@ pub(crate) fn write_settled<D: Disk>(disk: &mut D, at: u64, bytes: &[u8]) -> Res
     ensures settled { OnOk result (IsSettled D.seen D.calls D.may_leave disk.new) }
     ensures any_moment { (old : List ℕ) → D.seen disk.old ≡ Some old
         → LeavesOnly D.calls D.may_leave disk.old disk.new (IsTorn at (length bytes.now) old) }
-    ensures told { is_some (D.seen disk.new) ≡ is_some (D.seen disk.old) }
-    ensures later { D.calls disk.old ≤ D.calls disk.new }
-    ensures fault { CountsFault result (D.faults disk.old) (D.faults disk.new) }
-    ensures leads { D.leads_to disk.old disk.new }
+    ensures calls { MakesCalls D.seen D.calls D.faults D.leads_to (CountsFault result) disk.old disk.new }
     ensures fails { OnErr result (D.fails_to disk.old disk.new) }
 {
     disk.write_at(at, bytes)?;

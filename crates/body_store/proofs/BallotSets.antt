@@ -1,26 +1,14 @@
 -- Sets of ballots: their layout, and what a store may hold.
-use Rattle.std.proofs.Common.{◌≡◌, ◌≢◌, ◌==◌, ◌^◌, ℕ, zero, suc, ◌<◌, inl, inr, Bool, true, not, List, [], ◌∷◌, sym, ap, ◌∙◌, subst, arith}
-use Rattle.std.proofs.lemmas.Bool.{cases_Bool, cond-true, cond-false}
-use Rattle.std.proofs.lemmas.List.Elements.{All-contains, All-contains_itself, All-filter, All-map, All-weaker, filter_passes}
-use Rattle.std.proofs.lemmas.List.Kept.{AllPairs-filter}
-use Rattle.std.proofs.lemmas.List.Sorted.{Contains-permutation, IsPermutation-map, IsPermutation-sym, length_permutation}
-use Rattle.std.proofs.lemmas.List.Sums.{length-filter, count_by-le-length}
-use Rattle.std.specs.List.{Contains, filter, list_any}
-use Rattle.std.specs.List.Sorted.{IsPermutation}
+use Rattle.std.proofs.Common.{◌≡◌, ◌≢◌, ◌==◌, ◌^◌, ℕ, ◌<◌, not, List, sym, ap, arith}
+use Rattle.store_spec.proofs.Common.{All-filter, All-map, All-weaker, AllPairs-filter, Ballot, Election, HasRoom, IsBallotSet, IsElection, IsLayout, IsListing, IsPermutation, IsPermutation-map, IsValid, IsWithinLimit, cell_count, cells_of, count_by-le-length, filter, home_in, laid_out, length-filter, length_permutation, list_any, numbers_of}
 use Rattle.ballot_record.proofs.BallotNumbers.{length-numbers_of, pairs_of_numbers}
-use Rattle.ballot_record.proofs.BallotSets.{listing-IsPermutation, listing_from_set, same_members}
-use Rattle.ballot_record.proofs.Lookups.{AreAmong, AreDistinct}
+use Rattle.ballot_record.proofs.BallotSets.{listing-IsPermutation, listing_from_set}
 use Rattle.body_store.proofs.ByNumber.{by_number-IsPermutation, by_number-ascends}
 use Rattle.body_store.specs.ByNumber.{AreNumbered, by_number}
 use Rattle.body_store.specs.Contents.{Contents, IsStored, ballots_without}
 use Rattle.probe_order.specs.Below.{home_of-lt}
 use Rattle.layout_def.proofs.Ascending.{ascending-IsPermutation}
 use Rattle.layout_def.proofs.LaidOut.{layout_of_is}
-use Rattle.store_spec.specs.Ballot.{Ballot, IsBallotSet, IsListing, IsValid, IsWithinLimit, numbers_of}
-use Rattle.store_spec.specs.Election.{Election, IsElection, cell_count}
-use Rattle.store_spec.specs.Home.{home_in}
-use Rattle.store_spec.specs.Image.{cells_of}
-use Rattle.store_spec.specs.Layout.{HasRoom, IsLayout, laid_out}
 
 -- a listing of a set that the election's store may hold
 pub record MayHold (e : Election) (ballots : List Ballot) : Type 0 where

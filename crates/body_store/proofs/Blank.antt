@@ -1,14 +1,8 @@
 -- Ballots with no marks, under the example election.
 use Rattle.std.proofs.Common.{◌≡◌, ◌≢◌, ◌^◌, ◌-◌, ℕ, ◌<◌, ◌≤◌, List, [], ◌∷◌, ap, map, replicate, slice_index, refl, sym, subst, arith}
-use Rattle.std.proofs.lemmas.List.{get_or-replicate}
-use Rattle.std.proofs.lemmas.List.Elements.{All-map}
-use Rattle.std.proofs.lemmas.Nat.{pow_pos}
-use Rattle.std.specs.List.{All, AllPairs}
+use Rattle.store_spec.proofs.Common.{All, All-map, AllPairs, Ballot, Election, IsBallotSet, IsListing, IsPermutation, IsValid, choices_on, example, get_or-replicate, numbers_of, pow_pos}
 use Rattle.ballot_record.proofs.BallotNumbers.{pairs_of_ballots}
 use Rattle.ballot_record.proofs.BallotSets.{same_in_order}
-use Rattle.std.specs.List.Sorted.{IsPermutation}
-use Rattle.store_spec.specs.Ballot.{Ballot, IsBallotSet, IsListing, IsValid, numbers_of}
-use Rattle.store_spec.specs.Election.{Election, example, choices_on}
 
 abbrev pub blank : ℕ → Ballot
 blank number = record { number = number; style = 1; marks = replicate 24 0 }

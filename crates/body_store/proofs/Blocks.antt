@@ -1,8 +1,7 @@
 -- Numbers in a block of cells.
 use Rattle.std.proofs.Common.{◌≡◌, ℕ, ◌-◌, ◌<◌, ◌≤◌, ⊎_elim, List, drop, get_or, length, length-drop, length-take, slice_index, sym, ap, ◌∙◌, arith}
+use Rattle.store_spec.proofs.Common.{cases_lt, get_or-drop, get_or-take}
 use Rattle.std.proofs.Math.ListN.{get_or-eq_default}
-use Rattle.std.proofs.lemmas.Bool.{cases_lt}
-use Rattle.std.proofs.lemmas.List.{get_or-drop, get_or-take}
 use Rattle.std.specs.List.{slice_range}
 
 pub in_range : (xs : List ℕ) (from end k : ℕ) → from ≤ k → k < end

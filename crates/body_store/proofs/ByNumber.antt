@@ -1,18 +1,12 @@
 -- Ballots in ascending order: the same ballots, and the list itself where it ascends.
-use Rattle.std.proofs.Common.{◌≡◌, ◌≢◌, ℕ, ◌<◌, ◌≤◌, inl, inr, List, [], ◌∷◌, length, get_or, map, refl, sym, ap, ◌∙◌, subst, arith}
-use Rattle.std.proofs.lemmas.Bool.{cases_lt, cond-true, cond-false, le-leb, lt-leb}
-use Rattle.std.proofs.lemmas.List.{get_or-map, length-map}
-use Rattle.std.proofs.lemmas.List.Sorted.{Contains-permutation, IsPermutation-cons, IsPermutation-map, IsPermutation-middle, IsPermutation-refl, IsPermutation-sym, IsPermutation-trans}
-use Rattle.std.specs.List.{AllPairs}
-use Rattle.std.specs.List.Sorted.{IsNonDecreasing, IsNonDecreasingBy, IsPermutation}
-use Rattle.ballot_record.proofs.BallotNumbers.{length-numbers_of, no_ballot, number_at, pairs_of_numbers, pairs_of_ballots}
+use Rattle.std.proofs.Common.{◌≡◌, ◌≢◌, ℕ, ◌<◌, ◌≤◌, inl, inr, List, [], ◌∷◌, refl, sym, ap, ◌∙◌, subst}
+use Rattle.store_spec.proofs.Common.{AllPairs, Ballot, IsPermutation, IsPermutation-cons, IsPermutation-middle, IsPermutation-refl, IsPermutation-sym, IsPermutation-trans, ascending, cases_lt, cond-false, cond-true, le-leb, lt-leb, numbers_of, put_in_order}
+use Rattle.ballot_record.proofs.BallotNumbers.{pairs_of_numbers, pairs_of_ballots}
 use Rattle.ballot_record.proofs.BallotSets.{Ascend, same_in_order}
-use Rattle.ballot_record.proofs.Lookups.{AreDistinct, ballot_of-same}
+use Rattle.ballot_record.proofs.Lookups.{AreDistinct}
 use Rattle.body_store.specs.ByNumber.{put_by_number, by_number}
 use Rattle.layout_def.proofs.Ascending as Numbers
-use Rattle.layout_def.proofs.LaidOut.{ascending_from_rising, rising_in_order}
-use Rattle.store_spec.specs.Ballot.{Ballot, ballot_of, numbers_of}
-use Rattle.store_spec.specs.Layout.{ascending, put_in_order}
+use Rattle.layout_def.proofs.LaidOut.{ascending_from_rising}
 
 put_first : (b x : Ballot) (xs : List Ballot) → b.number ≤ x.number → put_by_number b (x ∷ xs) ≡ b ∷ x ∷ xs
 put_first b x xs le = cond-true _ _ _ (le-leb b.number x.number le)

@@ -1,9 +1,7 @@
 -- Cells, and the places of the numbers in them.
-use Rattle.std.proofs.Common.{◌≡◌, ◌≢◌, ◌==◌, ℕ, ◌+◌, ◌<◌, ◌≤◌, ⊎_elim, not, List, length, get_or, take, sym, ap, ◌∙◌, arith}
-use Rattle.std.proofs.lemmas.Bool.{cases_order, cond-true, cond-false, eq-eqb, ne_eqb}
-use Rattle.std.proofs.lemmas.List.Filters.{length-filter_more}
+use Rattle.std.proofs.Common.{◌≡◌, ◌≢◌, ℕ, ◌<◌, ◌≤◌, ⊎_elim, List, get_or, sym, ◌∙◌, arith}
+use Rattle.store_spec.proofs.Common.{IsOrdered, cases_order}
 use Rattle.layout_def.proofs.OrderedCells.{above_before}
-use Rattle.store_spec.specs.Layout.{IsOrdered, numbers_in}
 
 -- ---- ordered cells
 

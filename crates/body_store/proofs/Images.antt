@@ -1,17 +1,9 @@
 -- The bytes of an image: one piece for each cell.
 use Rattle.std.proofs.Common.{◌≡◌, ℕ, zero, suc, ◌+◌, ◌*◌, ◌<◌, ◌≤◌, ⊎_elim, List, [], ◌∷◌, ◌++◌, length, get_or, take, drop, replicate, Some, None, sym, ap, ◌∙◌, arith}
-use Rattle.std.proofs.Math.Seq.{take-add}
-use Rattle.std.proofs.lemmas.List.{length-append, length-drop, length-replicate, take_all, take_at, take-append-drop, drop_at, drop-drop, replicate-append-replicate, take_more, flat_map_more}
-use Rattle.std.proofs.lemmas.List.Concat.{flat_map-cons}
-use Rattle.std.proofs.lemmas.List.Elements.{All-contains}
-use Rattle.std.specs.List.{All, flat_map}
-use Rattle.std.specs.Option.{option_map_or}
+use Rattle.store_spec.proofs.Common.{All, All-contains, Ballot, Election, IsElection, IsValid, ballot_bytes, ballot_of, bank_size, cell_at, cell_bytes, cell_count, cell_size, cells_of, drop-drop, drop_at, first_cells, flat_map, flat_map-cons, header_of, header_size, image_of, length-append, length-drop, length-replicate, option_map_or, replicate-append-replicate, take-add, take-append-drop, take_all, take_at, take_more}
+use Rattle.std.proofs.lemmas.List.{flat_map_more}
 use Rattle.body_store.proofs.BallotSets.{MayHold, held_layout}
 use Rattle.ballot_record.proofs.Lookups.{option_cases, found_in}
-use Rattle.store_spec.specs.Ballot.{Ballot, IsValid, ballot_of}
-use Rattle.store_spec.specs.Damage.{cell_at, first_cells}
-use Rattle.store_spec.specs.Election.{Election, IsElection, bank_size, cell_count, cell_size, header_size}
-use Rattle.store_spec.specs.Image.{ballot_bytes, cell_bytes, cells_of, header_of, image_of}
 use Rattle.ballot_record.proofs.CellFormat.{length-header_of, length-ballot_bytes}
 
 -- ---- lists of pieces of one width

@@ -1,18 +1,12 @@
 -- What is known of what a store keeps.
 use Rattle.std.proofs.Common.{◌≡◌, ◌≢◌, ℕ, ◌+◌, ◌*◌, ◌^◌, ◌<◌, ◌≤◌, ⊎_elim, List, Some, ◌++◌, drop, length, get_or, take, sym, ap, subst, ◌∙◌, arith, mul-le-mul_right}
-use Rattle.std.proofs.lemmas.Bool.{cases_lt}
-use Rattle.std.proofs.lemmas.List.{length-append, length-drop, length-take-le, take_at}
-use Rattle.std.proofs.lemmas.List.Elements.{All-contains}
-use Rattle.std.proofs.lemmas.List.Sorted.{length_permutation}
-use Rattle.std.proofs.lemmas.Nat.{pow_below}
-use Rattle.std.specs.List.{Contains}
-use Rattle.std.specs.List.Sorted.{IsPermutation}
+use Rattle.store_spec.proofs.Common.{All-contains, Ballot, Contains, Election, IsCellOf, IsElection, IsLayout, IsPermutation, IsValid, ascending, ballot_of, bank_size, cases_lt, cell_at, cell_bytes, cell_count, cell_size, cells_of, header_of, header_size, home_in, length-append, length-drop, length-take-le, length_permutation, most_ballots, numbers_in, numbers_of, pow_below, take_at}
 use Rattle.ballot_record.proofs.BallotNumbers.{length-numbers_of, pairs_of_numbers}
 use Rattle.ballot_record.proofs.BallotSets.{Ascend}
 use Rattle.ballot_record.proofs.CellFormat.{length-header_of, spells_itself}
 use Rattle.ballot_record.proofs.Lookups.{found_in}
 use Rattle.ballot_record.specs.Format.{ballot_at}
-use Rattle.body_store.proofs.BallotSets.{MayHold, cells_of-IsPermutation, held_layout, may_hold-IsPermutation, may_hold_set, stored_by_number}
+use Rattle.body_store.proofs.BallotSets.{MayHold, cells_of-IsPermutation, held_layout, may_hold-IsPermutation, stored_by_number}
 use Rattle.body_store.proofs.ByNumber.{by_number-IsPermutation}
 use Rattle.body_store.proofs.Images.{cell_of_found, cell_of_image, length-image_of}
 use Rattle.body_store.proofs.Listings.{image_of-IsPermutation}
@@ -23,12 +17,7 @@ use Rattle.body_store.specs.Held.{Shows, spelled_in}
 use Rattle.body_store.specs.Kept.{IsKept, contents_of}
 use Rattle.body_store.specs.declared.Closed.TheInside.{Inside}
 use Rattle.layout_def.proofs.Ascending.{ascending-IsPermutation, ascending_rising}
-use Rattle.store_spec.specs.Ballot.{Ballot, IsValid, ballot_of, numbers_of}
-use Rattle.store_spec.specs.Damage.{cell_at}
-use Rattle.store_spec.specs.Election.{Election, IsElection, bank_size, cell_count, cell_size, header_size, most_ballots, most_bits, most_cells}
-use Rattle.store_spec.specs.Home.{home_in}
-use Rattle.store_spec.specs.Image.{IsCellOf, cell_bytes, cells_of, header_of}
-use Rattle.store_spec.specs.Layout.{IsLayout, ascending, numbers_in}
+use Rattle.store_spec.specs.Election.{most_bits, most_cells}
 
 -- what is shown is held
 pub shown_held : (e : Election) (ballots : List Ballot) (bytes numbers : List ℕ) → Shows e ballots bytes numbers → MayHold e ballots
@@ -102,15 +91,15 @@ shown_anew e ballots others bytes numbers order shown =
       cells = shown.cells ∙ cells_of-IsPermutation e ballots others order;
     }
 
-pub kept_as : (a : Inside) (ballots : List Ballot) → Shows a.election.value ballots a.image.items a.cells.items → a.held ≡ length (numbers_in a.cells.items) → IsKept a
+pub kept_as : (a : Inside) (ballots : List Ballot) → Shows a.election.value ballots a.image.items a.cells → a.held ≡ length (numbers_in a.cells) → IsKept a
 kept_as a ballots shown counted =
     let e = a.election.value in
-    let held = shown_held e ballots a.image.items a.cells.items shown in
-    let set = sym (shown_by_number e ballots a.image.items a.cells.items shown) in
+    let held = shown_held e ballots a.image.items a.cells shown in
+    let set = sym (shown_by_number e ballots a.image.items a.cells shown) in
     record {
       stored = subst (λ (bs : List Ballot). IsStored (record { election = e; ballots = bs })) set (stored_by_number e ballots shown.election held);
-      shown = subst (λ (bs : List Ballot). Shows e bs a.image.items a.cells.items) set
-          (shown_anew e ballots (by_number ballots) a.image.items a.cells.items (by_number-IsPermutation ballots) shown);
+      shown = subst (λ (bs : List Ballot). Shows e bs a.image.items a.cells) set
+          (shown_anew e ballots (by_number ballots) a.image.items a.cells (by_number-IsPermutation ballots) shown);
       counted = counted;
     }
 
@@ -162,5 +151,5 @@ counted_with e old more bytes numbers now cells before after =
 pub few_counted : (a : Inside) → IsKept a → a.held ≤ most_ballots
 few_counted a kept =
     let own = contents_of a in
-    let was = length_permutation (numbers_of own.ballots) (numbers_in a.cells.items) (shown_in_cells own.election own.ballots a.image.items a.cells.items kept.shown) in
+    let was = length_permutation (numbers_of own.ballots) (numbers_in a.cells) (shown_in_cells own.election own.ballots a.image.items a.cells kept.shown) in
     omega (arith, kept.counted, was, length-numbers_of own.ballots, kept.stored.within_limit, kept.stored.election.few_ballots)

@@ -1,6 +1,7 @@
 mod Blocks
 mod CellPlaces
 pub mod Keeping
+mod Listed
 mod Planning
 mod Relaying
 pub mod BallotSets

@@ -1,16 +1,9 @@
 -- The image of a set, whichever way its ballots are listed.
 use Rattle.std.proofs.Common.{◌≡◌, ℕ, List, [], ◌∷◌, ◌++◌, replicate, refl, sym, ap, ◌∙◌}
-use Rattle.std.proofs.lemmas.List.Concat.{flat_map-cons}
-use Rattle.std.proofs.lemmas.List.Sorted.{Contains-permutation, IsPermutation-sym}
-use Rattle.std.specs.List.{flat_map}
-use Rattle.std.specs.List.Sorted.{IsPermutation}
-use Rattle.std.specs.Option.{option_map_or}
+use Rattle.store_spec.proofs.Common.{Ballot, Contains-permutation, Election, IsListing, IsPermutation, IsPermutation-sym, ballot_bytes, ballot_of, cell_bytes, cell_size, cells_of, flat_map, flat_map-cons, header_of, image_of, option_map_or}
 use Rattle.ballot_record.proofs.BallotSets.{members-IsPermutation}
 use Rattle.ballot_record.proofs.Lookups.{AreDistinct, AreAmong, ballot_of-same}
 use Rattle.body_store.proofs.BallotSets.{cells_of-IsPermutation}
-use Rattle.store_spec.specs.Ballot.{Ballot, IsListing, ballot_of}
-use Rattle.store_spec.specs.Election.{Election, cell_size}
-use Rattle.store_spec.specs.Image.{ballot_bytes, cell_bytes, cells_of, header_of, image_of}
 
 flat_map-same : (f g : ℕ → List ℕ) (xs : List ℕ) → ((x : ℕ) → f x ≡ g x) → flat_map f xs ≡ flat_map g xs
 flat_map-same f g [] same = refl

@@ -1,21 +1,12 @@
 -- What a binary search finds in numbers and in ballots that are in order.
-use Rattle.std.proofs.Common.{◌≡◌, ◌≢◌, ◌==◌, ◌||◌, ℕ, zero, suc, ◌+◌, ◌<◌, ◌≤◌, ⊎_elim, true, false, not, List, [], ◌∷◌, ◌++◌, length, get_or, take, filter, Option, Some, None, IfSome, is_some, subst, Result, Ok, Err, MatchResult, refl, sym, ap, ◌∙◌, arith}
-use Rattle.std.proofs.lemmas.Bool.{true≢false, or_right, cond-true, cond-false, eq-eqb, ne_eqb, cases_lt}
-use Rattle.std.proofs.lemmas.Bool.Decides.{nat_tests}
-use Rattle.std.proofs.lemmas.List.{append-nil, get_or-map, length-map, map_push}
-use Rattle.std.proofs.lemmas.List.Elements.{All-contains, filter-append}
-use Rattle.std.specs.List.{All, Contains, list_any}
-use Rattle.std.specs.Ordering.{nat_cmp, ordering_index}
-use Rattle.std.specs.declared.cmp.Ordering.TheVariants.{Less, Equal, Greater}
-use Rattle.std.specs.Result.{is_ok}
+use Rattle.std.proofs.Common.{◌≡◌, ◌≢◌, ◌==◌, ◌||◌, ℕ, zero, suc, ◌+◌, ◌<◌, ◌≤◌, ⊎_elim, true, false, not, List, [], ◌∷◌, ◌++◌, length, get_or, take, filter, Option, Some, None, IfSome, is_some, subst, refl, sym, ap, ◌∙◌, arith}
+use Rattle.store_spec.proofs.Common.{All, Ballot, Contains, Equal, Greater, Less, ballot_of, cond-true, eq-eqb, filter-append, list_any, map_push, nat_cmp, nat_tests, ne_eqb, numbers_of, or_right, ordering_index, true≢false}
 use Rattle.ballot_record.specs.declared.record.Record.{Record}
 use Rattle.ballot_record.specs.Record.{ballot}
-use Rattle.ballot_record.proofs.BallotNumbers.{ballot_with, contains_number}
-use Rattle.ballot_record.proofs.Lookups.{found_in, found_once, option_cases}
-use Rattle.body_store.specs.ByNumber.{AreNumbered}
+use Rattle.ballot_record.proofs.BallotNumbers.{contains_number}
+use Rattle.ballot_record.proofs.Lookups.{found_in, option_cases}
 use Rattle.body_store.specs.Contents.{ballots_of, ballots_without}
 use Rattle.layout_def.proofs.OrderedCells.{contains_from_place}
-use Rattle.store_spec.specs.Ballot.{Ballot, ballot_of, numbers_of}
 
 -- ---- numbers
 

@@ -1,49 +1,53 @@
 -- The bytes of new ballots, which wait one behind another.
-use Rattle.std.proofs.Common.{◌≡◌, ℕ, ◌*◌, ◌^◌, ◌<◌, ◌≤◌, List, [], Some, inl, length, get_or, take, drop, sym, ap, ◌∙◌, arith, mul-le-mul}
-use Rattle.std.proofs.lemmas.Option.{slice_get-get_or}
-use Rattle.std.specs.List.{All, flat_map, slice_get}
+use Rattle.std.proofs.Common.{◌≡◌, ℕ, ◌+◌, ◌*◌, ◌<◌, List, [], Some, inl, length, get_or, take, drop, sym, ap, ◌∙◌, arith}
+use Rattle.store_spec.proofs.Common.{All, Ballot, IsValid, ballot_bytes, cell_size, numbers_of, slice_get-get_or}
+use Rattle.std.specs.List.{slice_get}
 use Rattle.ballot_record.proofs.BallotLists.{cell_at_place, cell_within, holds_at_place, length-cells, number_at_place}
-use Rattle.ballot_record.proofs.CellFormat.{cell_fits, largest_cell_width, length-ballot_bytes}
-use Rattle.body_store.specs.Moves.{WaitsIn}
-use Rattle.store_spec.specs.Ballot.{Ballot, IsValid, numbers_of}
-use Rattle.store_spec.specs.Election.{Election, IsElection, cell_size, most_ballots}
-use Rattle.store_spec.specs.Image.{ballot_bytes}
+use Rattle.body_store.specs.Moves.{AreArrivals, Arrivals, StandsFrom, WaitsIn, arriving_bytes}
+
+nobody : Ballot
+nobody = record { number = 0; style = 0; marks = [] }
+
+pub all_valid : (new : Arrivals) → AreArrivals new → All (IsValid new.election) new.ballots
+all_valid new are = λ k d lt. (are.each k d lt).0
+
+-- so many they are
+pub length-front : (new : Arrivals) → AreArrivals new → length (arriving_bytes new) ≡ length new.ballots * cell_size new.election
+length-front new are = length-cells new.election new.ballots are.election (all_valid new are)
 
 -- those of the ballot at a place wait there
-pub new_waits : (e : Election) (f : ℕ → List ℕ) (ballots : List Ballot) (place size : ℕ) (behind : List ℕ) → IsElection e → All (IsValid e) ballots
-    → All (λ b. ballot_bytes e b ≡ f b.number) ballots → size ≡ cell_size e → place < length ballots
-    → WaitsIn f (flat_map (ballot_bytes e) ballots) behind (place * size) (get_or (numbers_of ballots) place 0)
-new_waits e f ballots place size behind election valid same wide within =
-    let none : Ballot = record { number = 0; style = 0; marks = [] } in
-    let b = get_or ballots place none in
-    let there : slice_get ballots place ≡ Some b = slice_get-get_or ballots place none within in
-    let number = number_at_place ballots place b there in
-    let bytes : f (get_or (numbers_of ballots) place 0) ≡ ballot_bytes e b =
-    ap f number ∙ sym (holds_at_place (λ b. ballot_bytes e b ≡ f b.number) ballots place b same there) in
-    let own = holds_at_place (IsValid e) ballots place b valid there in
-    let long : length (f (get_or (numbers_of ballots) place 0)) ≡ size = ap length bytes ∙ length-ballot_bytes e b election own ∙ sym wide in
-    let all = flat_map (ballot_bytes e) ballots in
-    let whole : length all ≡ length ballots * size = length-cells e ballots election valid ∙ ap (λ size. length ballots * size) (sym wide) in
+pub new_waits : (new : Arrivals) (place : ℕ) (behind : List ℕ) → AreArrivals new → place < length new.ballots
+    → WaitsIn new.bytes_of (arriving_bytes new) behind place (get_or (numbers_of new.ballots) place 0)
+new_waits new place behind are within =
+    let e = new.election in
+    let ballots = new.ballots in
+    let f = new.bytes_of in
+    let n = get_or (numbers_of ballots) place 0 in
+    let b = get_or ballots place nobody in
+    let there : slice_get ballots place ≡ Some b = slice_get-get_or ballots place nobody within in
+    let own = holds_at_place (λ b. IsValid e b × (ballot_bytes e b ≡ f b.number)) ballots place b are.each there in
+    let bytes : f n ≡ ballot_bytes e b = ap f (number_at_place ballots place b there) ∙ sym own.1 in
+    let wide = are.wide n in
+    let all = arriving_bytes new in
     inl (record {
-      within = omega (arith, cell_within place (length ballots) size within, long, whole);
+      within = omega (arith, cell_within place (length ballots) (cell_size e) within, ap (λ size. place * size + size) wide, length-front new are);
       same =
-          ap (λ n. take n (drop (place * size) all)) (long ∙ wide)
-          ∙ ap (λ size. take (cell_size e) (drop (place * size) all)) wide
-          ∙ cell_at_place e ballots place b election valid there
+          ap (λ size. take size (drop (place * size) all)) wide
+          ∙ cell_at_place e ballots place b are.election (all_valid new are) there
           ∙ sym bytes;
     })
 
--- they are not too many
-pub few_bytes : (e : Election) (count size place : ℕ) → IsElection e → size ≡ cell_size e → count ≤ most_ballots → place < count → place * size < 2 ^ 32
-few_bytes e count size place election wide few within =
-    let narrow : size ≤ 201 = omega (arith, wide, cell_fits e election, largest_cell_width) in
-    let fits : place * size ≤ most_ballots * 201 = mul-le-mul (let le : place ≤ most_ballots = omega arith in le) narrow in
-    omega arith
-
 -- no number of theirs is 0
-pub number_some : (e : Election) (ballots : List Ballot) (place : ℕ) → All (IsValid e) ballots → place < length ballots → get_or (numbers_of ballots) place 0 ≡ 0 → ⊥
-number_some e ballots place valid within none =
-    let nobody : Ballot = record { number = 0; style = 0; marks = [] } in
-    let b = get_or ballots place nobody in
-    let there : slice_get ballots place ≡ Some b = slice_get-get_or ballots place nobody within in
-    omega (arith, (holds_at_place (IsValid e) ballots place b valid there).some_number, number_at_place ballots place b there, none)
+pub number_some : (new : Arrivals) (place : ℕ) → AreArrivals new → place < length new.ballots → get_or (numbers_of new.ballots) place 0 ≡ 0 → ⊥
+number_some new place are within none =
+    let b = get_or new.ballots place nobody in
+    let there : slice_get new.ballots place ≡ Some b = slice_get-get_or new.ballots place nobody within in
+    omega (arith, (holds_at_place (IsValid new.election) new.ballots place b (all_valid new are) there).some_number, number_at_place new.ballots place b there, none)
+
+-- the number at a place of a list that stands among others
+pub same_number : (first place : ℕ) (some all : List Ballot) → StandsFrom first some all → place < length some
+    → get_or (numbers_of some) place 0 ≡ get_or (numbers_of all) (first + place) 0
+same_number first place some all here within =
+    let b = get_or some place nobody in
+    let there : slice_get some place ≡ Some b = slice_get-get_or some place nobody within in
+    number_at_place some place b there ∙ sym (number_at_place all (first + place) b (here.each place within ∙ there))

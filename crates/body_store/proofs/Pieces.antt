@@ -1,13 +1,8 @@
 -- The bytes of an image, cell by cell.
-use Rattle.std.proofs.Common.{◌≡◌, ◌≢◌, ℕ, zero, suc, ◌+◌, ◌*◌, ◌<◌, ◌≤◌, ⊎_elim, List, [], ◌∷◌, ◌++◌, length, get_or, take, drop, sym, ap, ◌∙◌, arith, length-append, length-drop, mul-le-mul_right, take-append-drop}
-use Rattle.std.proofs.lemmas.Bool.{cases_order}
-use Rattle.std.proofs.lemmas.List.{drop-drop, drop-take, drop_at, length-take-le, nil_from_length, take_at}
-use Rattle.std.proofs.lemmas.List.Concat.{flat_map-cons}
+use Rattle.std.proofs.Common.{◌≡◌, ◌≢◌, ℕ, zero, suc, ◌+◌, ◌*◌, ◌<◌, ◌≤◌, ⊎_elim, List, [], ◌∷◌, ◌++◌, length, get_or, take, drop, sym, ap, ◌∙◌, arith, length-append, mul-le-mul_right}
+use Rattle.store_spec.proofs.Common.{cases_order, drop-drop, drop-take, drop_at, flat_map, flat_map-cons, header_size, length-take-le, take_at}
 use Rattle.std.proofs.lemmas.Slice.{take-put_mid, take-put_mid_below, drop-put_mid}
-use Rattle.std.specs.List.{flat_map}
-use Rattle.body_store.specs.Moves.{AreCells, cell_in}
-use Rattle.store_spec.specs.Damage.{cell_at}
-use Rattle.store_spec.specs.Election.{Election, cell_size, header_size}
+use Rattle.body_store.specs.Moves.{cell_in}
 use borrow.Rule.Slice.PartMut.{put_mid}
 
 -- a cell ends before a later one begins

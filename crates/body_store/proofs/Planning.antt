@@ -1,19 +1,12 @@
 -- What waits to be written in an image, and for which cells, as more is added.
-use Rattle.std.proofs.Common.{◌≡◌, ◌≢◌, ◌⊎◌, ℕ, ◌+◌, ◌-◌, ◌<◌, ◌≤◌, inl, inr, ⊎_elim, List, [], ◌∷◌, ◌++◌, length, get_or, take, drop, map, sym, ap, ◌∙◌, subst, arith, length-append, length-drop}
-use Rattle.std.proofs.lemmas.Bool.{cases_eq, cases_lt}
-use Rattle.std.proofs.lemmas.List.{drop-append-le, drop_at, get_or-map, length-map, map_push, take-append-le, take_all}
-use Rattle.std.proofs.lemmas.List.Elements.{All-contains, All-push, All-weaker, Contains-append_left, Contains-push, Contains-push_cases}
-use Rattle.std.proofs.lemmas.List.Sorted.{Contains-permutation, IsPermutation-map}
-use Rattle.std.specs.List.{All, Contains}
-use Rattle.std.specs.List.Sorted.{IsPermutation}
-use Rattle.ballot_record.specs.Format.{largest_cell}
+use Rattle.std.proofs.Common.{◌≡◌, ◌≢◌, ◌⊎◌, ℕ, ◌+◌, ◌-◌, ◌*◌, ◌<◌, ◌≤◌, inl, inr, ⊎_elim, List, [], ◌∷◌, ◌++◌, length, get_or, take, drop, map, sym, ap, ◌∙◌, subst, arith, length-append, length-drop}
+use Rattle.store_spec.proofs.Common.{All, All-contains, All-push, All-weaker, Contains, Contains-append_left, Contains-permutation, Contains-push, Contains-push_cases, IsOrdered, IsPermutation, IsPermutation-map, cases_eq, cases_lt, drop-append-le, drop_at, get_or-map, length-map, map_push, take-append-le, take_all}
 use Rattle.body_store.proofs.CellPlaces.{stands_once}
-use Rattle.body_store.specs.Moves.{AreRight, AwaitsCell, IsLeftUpTo, IsNoted, IsRight, IsRightMove, IsSought, Moves, StayNoted, Waits, WaitsIn}
+use Rattle.body_store.specs.Moves.{AreRight, AwaitsCell, IsLeftUpTo, IsMoved, IsNoted, IsRight, IsRightMove, IsSought, StayNoted, Waits, WaitsIn}
 use Rattle.body_store.specs.declared.moves.Move.{Move}
 use Rattle.body_store.specs.declared.moves.Plan.{Plan}
 use Rattle.body_store.specs.declared.moves.Waiting.{Waiting}
 use Rattle.layout_def.proofs.OrderedCells.{place_from_contains}
-use Rattle.store_spec.specs.Layout.{IsOrdered}
 
 -- ---- numbers by which a list is known
 
@@ -71,7 +64,7 @@ waits_in_still : (f : ℕ → List ℕ) (front bytes more : List ℕ) (from numb
     → WaitsIn f front (bytes ++ more) from number
 waits_in_still f front bytes more from number = elim [
   | inl in_front ↦ inl in_front
-  | inr behind ↦ inr (behind.0, waits_still f bytes more (from - length front) number behind.1)
+  | inr behind ↦ inr (behind.0, waits_still f bytes more (from * length (f number) - length front) number behind.1)
 ]
 
 right_move_still : (f : ℕ → List ℕ) (cells front bytes more : List ℕ) (move : Move) → IsRightMove f cells front bytes move
@@ -122,21 +115,23 @@ right_far f cells front bytes moves far one h waits = record {
 }
 
 -- bytes that were put behind wait there
-pub waits_behind : (f : ℕ → List ℕ) (front bytes more : List ℕ) (from number : ℕ) → from ≡ length front + length bytes
-    → more ≡ f number → WaitsIn f front (bytes ++ more) from number
-waits_behind f front bytes more from number last same =
-    inr (omega arith, waits_last f bytes more (from - length front) number (omega arith) same)
+pub waits_behind : (f : ℕ → List ℕ) (front bytes more : List ℕ) (place number : ℕ)
+    → length front + length bytes ≡ place * length more → more ≡ f number → WaitsIn f front (bytes ++ more) place number
+waits_behind f front bytes more place number last same =
+    let from : place * length (f number) ≡ length front + length bytes =
+    ap (λ (more : List ℕ). place * length more) (sym same) ∙ sym last in
+    inr (omega arith, waits_last f bytes more (place * length (f number) - length front) number (omega arith) same)
 
 -- ---- cells that are noted
 
 abbrev pub NotedIn : List ℕ → List Move → List Waiting → ℕ → Type 0
-NotedIn cells moves far cell = Moves moves cell ⊎ AwaitsCell far (get_or cells cell 0)
+NotedIn cells moves far cell = IsMoved moves cell ⊎ AwaitsCell far (get_or cells cell 0)
 
 pub noted_moved : (cells : List ℕ) (was_moves moves : List Move) (was_far far : List Waiting) (move : Move) (cell : ℕ)
     → moves ≡ was_moves ++ move ∷ [] → far ≡ was_far → NotedIn cells was_moves was_far cell
     → NotedIn cells moves far cell
 noted_moved cells was_moves moves was_far far move cell pushed same = elim [
-  | inl there ↦ inl (subst (λ (moves : List Move). Moves moves cell) (sym pushed)
+  | inl there ↦ inl (subst (λ (moves : List Move). IsMoved moves cell) (sym pushed)
       (among_still (λ (move : Move). move.cell) was_moves move cell there))
   | inr waits ↦ inr (subst (λ (far : List Waiting). AwaitsCell far (get_or cells cell 0)) (sym same) waits)
 ]
@@ -145,7 +140,7 @@ pub noted_far : (cells : List ℕ) (was_moves moves : List Move) (was_far far : 
     → moves ≡ was_moves → far ≡ was_far ++ one ∷ [] → NotedIn cells was_moves was_far cell
     → NotedIn cells moves far cell
 noted_far cells was_moves moves was_far far one cell same pushed = elim [
-  | inl there ↦ inl (subst (λ (moves : List Move). Moves moves cell) (sym same) there)
+  | inl there ↦ inl (subst (λ (moves : List Move). IsMoved moves cell) (sym same) there)
   | inr waits ↦ inr (subst (λ (far : List Waiting). AwaitsCell far (get_or cells cell 0)) (sym pushed)
       (among_still (λ (one : Waiting). one.number) was_far one (get_or cells cell 0) waits))
 ]
@@ -155,9 +150,9 @@ noted_far cells was_moves moves was_far far one cell same pushed = elim [
 pub record FarUpTo (old cells : List ℕ) (far : List Waiting) (was moves : List Move) (n : ℕ) : Type 0 where
   pub right : (f : ℕ → List ℕ) (front bytes : List ℕ) → All (λ one. WaitsIn f front bytes one.from one.number) far
       → All (IsRightMove f cells front bytes) was → All (IsRightMove f cells front bytes) moves
-  pub still : (cell : ℕ) → Moves was cell → Moves moves cell
+  pub still : (cell : ℕ) → IsMoved was cell → IsMoved moves cell
   pub moved : (cell : ℕ) → cell < n → get_or old cell 0 ≢ get_or cells cell 0 → AwaitsCell far (get_or cells cell 0)
-      → Moves moves cell
+      → IsMoved moves cell
 
 pub far_found : (old cells : List ℕ) (far : List Waiting) (was moves : List Move) (n from : ℕ)
     → FarUpTo old cells far was moves n → n < length cells
@@ -179,7 +174,7 @@ far_found old cells far was moves n from h within found =
           among_still (λ (move : Move). move.cell) moves move cell (h.moved cell before changed waits))
           (λ (after : n ≤ cell).
           let last : n ≡ cell = omega arith in
-          subst (λ k. Moves (moves ++ move ∷ []) k) last (among_pushed (λ (move : Move). move.cell) moves move))
+          subst (λ k. IsMoved (moves ++ move ∷ []) k) last (among_pushed (λ (move : Move). move.cell) moves move))
           (cases_lt cell n);
     }
 
@@ -204,7 +199,6 @@ pub record IsAdded (f : ℕ → List ℕ) (cells front : List ℕ) (was plan : P
   pub right : IsRight f cells front plan
   pub still : StayNoted cells was plan
   pub sought : number ≢ 0 → IsSought cells plan number
-  pub short : length plan.bytes.items ≤ length was.bytes.items + largest_cell
 
 -- a cell is noted, if it is to be empty
 pub record IsEmptied (f : ℕ → List ℕ) (cells front : List ℕ) (was plan : Plan) (cell : ℕ) : Type 0 where

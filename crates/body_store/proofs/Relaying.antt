@@ -1,27 +1,15 @@
 -- What a close makes of an image: each cell gets the bytes of its number among all ballots of before and after.
 use Rattle.std.proofs.Common.{◌≡◌, ◌≢◌, ◌⊎◌, inl, inr, ⊎_elim, ℕ, ◌<◌, List, [], ◌++◌, length, get_or, take, replicate, refl, sym, ap, subst, ◌∙◌, arith}
-use Rattle.std.proofs.lemmas.Bool.{cases_eq}
-use Rattle.std.proofs.lemmas.List.Elements.{All-contains, All-contains_itself, All-filter, Contains-append_cases, Contains-append_left, Contains-append_right, Contains-get_or}
-use Rattle.std.proofs.lemmas.List.{length-append}
-use Rattle.std.proofs.lemmas.List.Sorted.{IsPermutation-sym}
-use Rattle.std.specs.List.{All, Contains}
-use Rattle.std.specs.List.Sorted.{IsPermutation}
+use Rattle.store_spec.proofs.Common.{All, All-contains, All-contains_itself, All-filter, Ballot, Contains, Contains-append_cases, Contains-append_left, Contains-append_right, Contains-get_or, Election, IsElection, IsListing, IsOrdered, IsPermutation, IsPermutation-sym, IsValid, IsWithinLimit, ballot_bytes, cases_eq, cell_at, cell_bytes, cell_count, cell_size, cells_of, header_size, home_in, length-append, numbers_of}
 use Rattle.ballot_record.proofs.BallotNumbers.{ballot_with, contains_number}
 use Rattle.ballot_record.proofs.Lookups.{AreAmong, found_once}
 use Rattle.body_store.proofs.BallotSets.{MayHold, cells_of-IsPermutation, held_layout, may_hold-IsPermutation, may_hold_without}
-use Rattle.body_store.proofs.CellPlaces.{stands_once}
 use Rattle.body_store.proofs.Images.{cell_of_found, cell_of_image, cell_of_zero, image_from_cells, length-cell_bytes}
 use Rattle.body_store.proofs.Keeping.{shown_header, shown_held, shown_layout, shown_size}
 use Rattle.body_store.proofs.Spelled.{ballot_known, held_of_some, known_in_layout}
 use Rattle.body_store.specs.Closing.{Change, IsClose}
 use Rattle.body_store.specs.Contents.{ballots_without}
 use Rattle.body_store.specs.Held.{Shows, held_in}
-use Rattle.store_spec.specs.Ballot.{Ballot, IsListing, IsValid, IsWithinLimit, numbers_of}
-use Rattle.store_spec.specs.Damage.{cell_at}
-use Rattle.store_spec.specs.Election.{Election, IsElection, cell_count, cell_size, header_size}
-use Rattle.store_spec.specs.Home.{home_in}
-use Rattle.store_spec.specs.Image.{ballot_bytes, cell_bytes, cells_of}
-use Rattle.store_spec.specs.Layout.{IsOrdered}
 
 pub all_held : (e : Election) (more : List Ballot) (change : Change) → IsClose e more change → MayHold e change.all
 all_held e more change close = record { listing = close.all_listing; within_limit = close.all_within_limit }

@@ -1,12 +1,6 @@
 -- The ballots that the bytes of cells spell are those whose numbers stand there, and all cells of a layout hold the set.
 use Rattle.std.proofs.Common.{◌≡◌, ◌≢◌, ◌==◌, if◌then◌else◌, not, ℕ, zero, suc, ◌+◌, ◌-◌, ◌<◌, ◌≤◌, inl, inr, ⊎_elim, List, [], ◌∷◌, ◌++◌, length, get_or, take, drop, Option, Some, None, refl, sym, ap, ap₂, subst, ◌∙◌, arith, append_assoc}
-use Rattle.std.proofs.lemmas.Bool.{cases_eq, cond-true, cond-false, eq-eqb, ne_eqb}
-use Rattle.std.proofs.lemmas.List.{append-nil, drop_at, get_or-drop, length-drop, take_at, take_more}
-use Rattle.std.proofs.lemmas.List.Concat.{flat_map-cons}
-use Rattle.std.proofs.lemmas.List.Elements.{All-contains, Contains-append_cases, Contains-append_left, Contains-append_right, Contains-get_or, Contains-push_cases}
-use Rattle.std.proofs.lemmas.List.Sorted.{IsPermutation-map, IsPermutation-sym, IsPermutation-trans}
-use Rattle.std.specs.List.{All, AllPairs, Contains, flat_map}
-use Rattle.std.specs.List.Sorted.{IsPermutation}
+use Rattle.store_spec.proofs.Common.{All, All-contains, AllPairs, Ballot, Contains, Contains-append_cases, Contains-append_left, Contains-append_right, Contains-get_or, Contains-push_cases, Election, IsElection, IsListing, IsPermutation, IsPermutation-map, IsPermutation-sym, IsPermutation-trans, IsValid, append-nil, ballot_bytes, ballot_of, cases_eq, cell_bytes, cell_size, cells_of, cond-false, cond-true, drop_at, eq-eqb, flat_map, flat_map-cons, get_or-drop, header_size, home_in, image_of, length-drop, ne_eqb, numbers_in, numbers_of, take_at, take_more}
 use Rattle.ballot_record.proofs.BallotNumbers.{ballot_with, contains_number, pairs_of_ballots}
 use Rattle.ballot_record.proofs.BallotSets.{members-IsPermutation}
 use Rattle.ballot_record.proofs.CellFormat.{spells_itself}
@@ -19,11 +13,6 @@ use Rattle.body_store.specs.ByNumber.{by_number}
 use Rattle.body_store.specs.Held.{as_list, held_in, spelled_in}
 use Rattle.layout_def.proofs.Fronts.{distinct_in, holds_own}
 use Rattle.layout_def.proofs.OrderedCells.{contains_from_place, place_from_contains, place_within}
-use Rattle.store_spec.specs.Ballot.{Ballot, IsListing, IsValid, ballot_of, numbers_of}
-use Rattle.store_spec.specs.Election.{Election, IsElection, cell_size, header_size}
-use Rattle.store_spec.specs.Home.{home_in}
-use Rattle.store_spec.specs.Image.{ballot_bytes, cell_bytes, cells_of, image_of}
-use Rattle.store_spec.specs.Layout.{numbers_in}
 
 -- what stands in cells is 0 or the number of one of these
 abbrev pub AreKnown : List Ballot → List ℕ → Type 0

@@ -1,5 +1,6 @@
 -- What a closed store holds.
-use Rattle.std.specs.Prelude.{List, map}
+use Rattle.std.specs.Prelude.{List, flat_map, map}
+use Rattle.ballot_record.specs.BallotList.{ListedBallots}
 use Rattle.ballot_record.specs.declared.record.Record.{Record}
 use Rattle.ballot_record.specs.Record.{ballot}
 use Rattle.store_spec.specs.Ballot.{Ballot, IsBallotSet, IsWithinLimit}
@@ -19,3 +20,7 @@ pub record IsStored (store : Contents) : Type 0 where
 
 abbrev pub ballots_of : List Record → List Ballot
 ballots_of records = map ballot records
+
+-- the ballots of lists, one list behind another
+abbrev pub all_listed : List ListedBallots → List Ballot
+all_listed lists = flat_map (λ list. list.ballots) lists

@@ -1,5 +1,5 @@
 -- An image and its cells, and the ballots that stand in some cells: by their numbers, and as the bytes spell them.
-use Rattle.std.specs.Prelude.{◌≡◌, ◌==◌, ℕ, if◌then◌else◌, List, [], ◌∷◌, ◌++◌, drop, length, take, Option, Some, None}
+use Rattle.std.specs.Prelude.{◌≡◌, ◌==◌, ℕ, if◌then◌else◌, List, [], ◌∷◌, ◌++◌, drop, take, Option, Some, None}
 use Rattle.ballot_record.specs.Format.{ballot_at}
 use Rattle.store_spec.specs.Ballot.{Ballot, IsListing, IsWithinLimit, ballot_of}
 use Rattle.store_spec.specs.Election.{Election, IsElection, cell_size}

@@ -11,10 +11,10 @@ use Rattle.store_spec.specs.Layout.{numbers_in}
 abbrev pub contents_of : Inside → Contents
 contents_of a = record {
   election = a.election.value;
-  ballots = by_number (spelled_in a.election.value a.cells.items (drop header_size a.image.items));
+  ballots = by_number (spelled_in a.election.value a.cells (drop header_size a.image.items));
 }
 
 pub record IsKept (a : Inside) : Type 0 where
   pub stored : IsStored (contents_of a)
-  pub shown : Shows a.election.value (contents_of a).ballots a.image.items a.cells.items
-  pub counted : a.held ≡ length (numbers_in a.cells.items)
+  pub shown : Shows a.election.value (contents_of a).ballots a.image.items a.cells
+  pub counted : a.held ≡ length (numbers_in a.cells)

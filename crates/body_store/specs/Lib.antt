@@ -1,6 +1,8 @@
 pub mod ByNumber
+pub mod Cells
 pub mod Closing
 pub mod Contents
+pub mod Fronts
 pub mod Held
 pub mod Kept
 pub mod Moves

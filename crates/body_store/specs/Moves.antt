@@ -1,5 +1,5 @@
 -- How the bytes of an image are changed in place: which bytes wait, and in which cells they belong.
-use Rattle.std.specs.Prelude.{◌≡◌, ◌≢◌, ◌⊎◌, ℕ, ◌+◌, ◌-◌, ◌*◌, ◌<◌, ◌≤◌, List, All, Contains, drop, length, map, replicate, slice_index, take}
+use Rattle.std.specs.Prelude.{◌≡◌, ◌≢◌, ◌⊎◌, ℕ, ◌+◌, ◌-◌, ◌*◌, ◌<◌, ◌≤◌, ◌++◌, List, All, Contains, drop, flat_map, length, map, replicate, slice_get, slice_index, take}
 use Rattle.body_store.specs.declared.moves.Move.{Move}
 use Rattle.body_store.specs.declared.moves.Near.{Near}
 use Rattle.body_store.specs.declared.moves.Near.TheVariants.{At, Nowhere, Far}
@@ -7,7 +7,7 @@ use Rattle.body_store.specs.declared.moves.Plan.{Plan}
 use Rattle.body_store.specs.declared.moves.Waiting.{Waiting}
 use Rattle.store_spec.specs.Ballot.{Ballot, IsValid, numbers_of}
 use Rattle.store_spec.specs.Damage.{cell_at}
-use Rattle.store_spec.specs.Election.{Election, cell_size, header_size, most_ballots, most_cells}
+use Rattle.store_spec.specs.Election.{Election, IsElection, cell_size, header_size, most_ballots, most_cells}
 use Rattle.store_spec.specs.Image.{ballot_bytes}
 use Rattle.store_spec.specs.Layout.{IsOrdered}
 
@@ -22,10 +22,15 @@ pub record Waits (f : ℕ → List ℕ) (bytes : List ℕ) (from number : ℕ) :
   pub within : from + length (f number) ≤ length bytes
   pub same : take (length (f number)) (drop from bytes) ≡ f number
 
--- they wait among the bytes of new ballots, which stand in front, or behind these
+-- they wait at a place, counted in cells, among the bytes of new ballots, which stand in front, or behind these
 abbrev pub WaitsIn : (ℕ → List ℕ) → List ℕ → List ℕ → ℕ → ℕ → Type 0
-WaitsIn f front bytes from number =
+WaitsIn f front bytes place number =
+    let from = place * length (f number) in
     Waits f front from number ⊎ ((length front ≤ from) × Waits f bytes (from - length front) number)
+
+-- the place behind one at which bytes were put behind others, or that one where none were
+abbrev pub IsNextPlace : ℕ → List ℕ → List ℕ → ℕ → List ℕ → Type 0
+IsNextPlace place old bytes next new = ((next ≡ place) × (new ≡ old)) ⊎ ((next ≡ place + 1) × (new ≡ old ++ bytes))
 
 -- what waits for a cell is the bytes of the number that it is to have
 pub record IsRightMove (f : ℕ → List ℕ) (cells front bytes : List ℕ) (move : Move) : Type 0 where
@@ -42,8 +47,8 @@ abbrev pub IsRight : (ℕ → List ℕ) → List ℕ → List ℕ → Plan → T
 IsRight f cells front plan = AreRight f cells front plan.bytes.items plan.moves.items plan.far.items
 
 -- something is to be written in a cell
-abbrev pub Moves : List Move → ℕ → Type 0
-Moves moves cell = Contains (map (λ move. move.cell) moves) cell
+abbrev pub IsMoved : List Move → ℕ → Type 0
+IsMoved moves cell = Contains (map (λ move. move.cell) moves) cell
 
 -- a number is one of those that are far from their homes
 abbrev pub AwaitsCell : List Waiting → ℕ → Type 0
@@ -51,7 +56,7 @@ AwaitsCell far number = Contains (map (λ one. one.number) far) number
 
 -- something is to be written in a cell, or its number is far from its home
 abbrev pub IsNoted : List ℕ → Plan → ℕ → Type 0
-IsNoted cells plan cell = Moves plan.moves.items cell ⊎ AwaitsCell plan.far.items (slice_index cells cell)
+IsNoted cells plan cell = IsMoved plan.moves.items cell ⊎ AwaitsCell plan.far.items (slice_index cells cell)
 
 -- cells that were noted are noted still
 abbrev pub StayNoted : List ℕ → Plan → Plan → Type 0
@@ -74,19 +79,42 @@ abbrev pub cell_in : ℕ → ℕ → List ℕ → List ℕ
 cell_in size cell image = take size (drop (header_size + cell * size) image)
 
 -- the cells of an image have the bytes of their numbers
-pub record AreCells (e : Election) (f : ℕ → List ℕ) (cells image : List ℕ) : Type 0 where
+pub record AreImageCells (e : Election) (f : ℕ → List ℕ) (cells image : List ℕ) : Type 0 where
   pub long : length image ≡ header_size + length cells * cell_size e
   pub each : (cell : ℕ) → cell < length cells → cell_at e cell image ≡ f (slice_index cells cell)
+
+-- The new ballots of a close: their election, the bytes of the cell of each number, and all of them in their order.
+pub record Arrivals : Type 0 where
+  pub election : Election
+  pub bytes_of : ℕ → List ℕ
+  pub ballots : List Ballot
+
+-- the bytes of their cells, one behind another
+abbrev pub arriving_bytes : Arrivals → List ℕ
+arriving_bytes new = flat_map (ballot_bytes new.election) new.ballots
+
+-- they are valid and not too many, and their cells have the bytes of their numbers
+pub record AreArrivals (new : Arrivals) : Type 0 where
+  pub election : IsElection new.election
+  pub wide : (number : ℕ) → length (new.bytes_of number) ≡ cell_size new.election
+  pub each : All (λ b. IsValid new.election b × (ballot_bytes new.election b ≡ new.bytes_of b.number)) new.ballots
+  pub few : length new.ballots ≤ most_ballots
+
+-- a list of ballots stands among others from one on
+pub record StandsFrom (first : ℕ) (some all : List Ballot) : Type 0 where
+  pub within : first + length some ≤ length all
+  pub each : (place : ℕ) → place < length some → slice_get all (first + place) ≡ slice_get some place
 
 -- The bytes of an image's cells are those of their numbers, and other cells are to be written over them: each number in
 -- these stands in one of the old cells, or is that of a new ballot.
 pub record IsRelay (e : Election) (f : ℕ → List ℕ) (home : ℕ → ℕ) (ballots : List Ballot)
     (old_cells cells image : List ℕ) : Type 0 where
+  pub election : IsElection e
   pub wide : (number : ℕ) → length (f number) ≡ cell_size e
   pub blank : f 0 ≡ replicate (cell_size e) 0
   pub new_ballots : All (λ b. IsValid e b × (ballot_bytes e b ≡ f b.number)) ballots
   pub as_many : length old_cells ≡ length cells
-  pub before : AreCells e f old_cells image
+  pub before : AreImageCells e f old_cells image
   pub known : (cell : ℕ) → slice_index cells cell ≢ 0
       → Contains old_cells (slice_index cells cell) ⊎ Contains (numbers_of ballots) (slice_index cells cell)
   pub ordered : IsOrdered home cells

@@ -1,6 +1,7 @@
 //! The closed store: the image of the ballots that are held, and the cells in which their numbers stand.
 #![tactic(auto)]
 
+mod cells;
 mod changed;
 mod closing;
 pub mod laws;
@@ -11,10 +12,10 @@ mod relay;
 mod zeros;
 
 ghost use Rattle.body_store.specs.ByNumber.{by_number};
-ghost use Rattle.body_store.specs.Contents.{Contents, IsStored, ballots_of, ballots_without};
+ghost use Rattle.body_store.specs.Contents.{Contents, IsStored, all_listed, ballots_of, ballots_without};
 ghost use Rattle.body_store.specs.Held.{Shows, held_in};
 ghost use Rattle.body_store.specs.Places.{AreAt};
-ghost use Rattle.std.specs.Prelude.{◌≡◌, ◌++◌, ◌+◌, ◌-◌, ◌<◌, ◌≤◌, ℕ, List, [], All, IfOk, IsPermutation, MatchOption, None, OnErr, OnOk, Some, drop, length, map, option_map, slice_index, take};
+ghost use Rattle.std.specs.Prelude.{◌≡◌, ◌++◌, ◌+◌, ◌-◌, ◌<◌, ◌≤◌, ℕ, List, [], All, IfOk, IsPermutation, MatchOption, None, OnErr, OnOk, Some, drop, length, map, option_map, replicate, slice_index, take};
 ghost use Rattle.ballot_record.specs.Record.{ballot};
 ghost use Rattle.store_spec.specs.Ballot.{Ballot, IsListing, IsWithinLimit, ballot_of, numbers_of};
 ghost use Rattle.store_spec.specs.Election.{IsElection, bank_size, cell_count, cell_size};
@@ -22,11 +23,13 @@ ghost use Rattle.store_spec.specs.Home.{home_in};
 ghost use Rattle.store_spec.specs.Image.{IsCellOf, cells_of, image_of};
 ghost use Rattle.store_spec.specs.Layout.{IsLayout};
 
+use crate::cells::Cells;
 use ballot_record::{BallotList, Election, Record};
 pub use lookup::{Place, layout};
 use outside_io::Memory;
 use std::alloc::Global;
 use std::marker::Model;
+use std::slice::from_ref;
 pub use zeros::lengthen;
 
 /// A store between two phases: its election, the bytes of its image, the number in each of its cells, and how many have
@@ -36,7 +39,7 @@ pub use zeros::lengthen;
 pub struct Closed {
     election: Box<Election>,
     image: Vec<u8>,
-    cells: Vec<u64>,
+    cells: Cells,
     held: usize,
 }
 
@@ -77,7 +80,7 @@ impl Closed {
     {
         let cells = lookup::layout(alloc, election, ballots)?;
         let mut store = Closed::empty(alloc, election)?;
-        store.merge(alloc, ballots, cells)?;
+        store.merge(alloc, from_ref(ballots), cells)?;
         Ok(store)
     }
 
@@ -100,7 +103,7 @@ impl Closed {
         Ok(Closed {
             election: own,
             image,
-            cells,
+            cells: Cells::new(cells, 0),
             held,
         })
     }
@@ -137,7 +140,17 @@ impl Closed {
             (cell_count self.now.election) (numbers_of self.now.ballots) result.now }
         ensures stored { IsStored self.now }
     {
-        &self.cells
+        self.cells.numbers()
+    }
+
+    /// Its cells, and behind them words that are 0: in general as many as it has room for ballots, if a casting phase gave
+    /// the cells, and else none.
+    pub fn words(&self) -> &Vec<u64>
+        ensures words { result.now.items ≡ cells_of self.now.election self.now.ballots
+            ++ replicate (length result.now.items - cell_count self.now.election) 0 }
+        ensures stored { IsStored self.now }
+    {
+        self.cells.words()
     }
 
     /// The numbers of its ballots in ascending order, each with its cell.
@@ -148,14 +161,14 @@ impl Closed {
             (λ places. AreAt (cells_of self.now.election self.now.ballots) places.items) }
         ensures stored { IsStored self.now }
     {
-        lookup::in_order(alloc, &self.cells)
+        lookup::in_order(alloc, self.cells.numbers())
     }
 
     /// The ballot with this number. `None` where it holds none.
     pub fn record_of(&self, number: u64) -> Option<Record>
         ensures { option_map ballot result ≡ ballot_of self.now.ballots number }
     {
-        lookup::with_number(&self.election, &self.image, &self.cells, number)
+        lookup::with_number(&self.election, &self.image, self.cells.numbers(), number)
     }
 
     /// The ballot whose number stands in a cell. `None` where the cell is empty.
@@ -165,7 +178,7 @@ impl Closed {
             ≡ ballot_of self.now.ballots
             (slice_index (cells_of self.now.election self.now.ballots) cell) }
     {
-        lookup::in_cell(&self.election, &self.image, &self.cells, cell)
+        lookup::in_cell(&self.election, &self.image, self.cells.numbers(), cell)
     }
 
     /// The bytes of a cell: those of the ballot whose number stands there.
@@ -186,39 +199,41 @@ impl Closed {
             (λ bytes. (b : Ballot) × (ballot_of self.now.ballots number ≡ Some b)
             × IsCellOf self.now.election bytes.now b) }
     {
-        let cell = lookup::cell_with(&self.election, &self.cells, number)?;
+        let cell = lookup::cell_with(&self.election, self.cells.numbers(), number)?;
         Some(self.cell(cell))
     }
 
-    /// Adds ballots whose numbers are new to the store. `cells` is the layout of all. After `Memory` it is as it was.
+    /// Adds the ballots of lists, whose numbers are new to the store. `cells` is the layout of all. After `Memory` it is as
+    /// it was.
     pub fn merge(
         &mut self,
         alloc: Global,
-        ballots: &BallotList,
+        lists: &[BallotList],
         cells: Vec<u64>,
     ) -> Result<(), Memory>
-        requires election { ballots.now.election ≡ self.old.election }
-        requires listing { IsListing self.old.election (self.old.ballots ++ ballots.now.ballots) }
+        requires election { All (λ list. list.election ≡ self.old.election) lists.now }
+        requires listing { IsListing self.old.election (self.old.ballots ++ all_listed lists.now) }
         requires within_limit { IsWithinLimit self.old.election
-            (self.old.ballots ++ ballots.now.ballots) }
+            (self.old.ballots ++ all_listed lists.now) }
         requires layout { cells.items
-            ≡ cells_of self.old.election (self.old.ballots ++ ballots.now.ballots) }
+            ≡ cells_of self.old.election (self.old.ballots ++ all_listed lists.now) }
         ensures election { self.new.election ≡ self.old.election }
         ensures union { OnOk result
-            (IsPermutation (self.old.ballots ++ ballots.now.ballots) self.new.ballots) }
+            (IsPermutation (self.old.ballots ++ all_listed lists.now) self.new.ballots) }
         ensures unchanged { OnErr result (self.new ≡ self.old) }
         ensures stored { IsStored self.new }
     {
         closing::close(
             alloc,
             &self.election,
-            ballots,
-            &self.cells,
+            lists,
+            self.cells.numbers(),
             &cells,
             &mut self.image,
         )?;
-        self.cells = cells;
-        self.held += ballots.len();
+        self.held += relay::count(lists);
+        let room = (self.election.limit() as usize).saturating_sub(self.held);
+        self.cells = Cells::new(cells, room);
         Ok(())
     }
 
@@ -237,17 +252,16 @@ impl Closed {
         ensures stored { IsStored self.new }
         ensures unchanged { OnErr result (self.new ≡ self.old) }
     {
-        let none = BallotList::new(alloc, &self.election);
         closing::close(
             alloc,
             &self.election,
-            &none,
-            &self.cells,
+            &[],
+            self.cells.numbers(),
             &cells,
             &mut self.image,
         )?;
         let held = lookup::count(&cells);
-        self.cells = cells;
+        self.cells = Cells::new(cells, 0);
         self.held = held;
         Ok(())
     }

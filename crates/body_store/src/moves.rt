@@ -1,6 +1,6 @@
 //! In which cells the ballots of an image belong, and the bytes of those that are to be written.
 
-ghost use Rattle.body_store.specs.Moves.{AwaitsCell, IsNear, IsNoted, IsRight, IsRightMove, IsSought, Moves, StayNoted, WaitsIn};
+ghost use Rattle.body_store.specs.Moves.{AwaitsCell, IsMoved, IsNear, IsNextPlace, IsNoted, IsRight, IsRightMove, IsSought, StayNoted, WaitsIn};
 ghost use Rattle.std.specs.List.Sorted.{IsNonDecreasingBy};
 ghost use Rattle.std.specs.Prelude.{◌≡◌, ◌≢◌, ℕ, ◌+◌, ◌*◌, ◌^◌, ◌<◌, ◌≤◌, [], List, All, Contains, IfOk, MatchOption, OnOk, length, replicate, slice_index};
 ghost use Rattle.store_spec.specs.Election.{most_cells};
@@ -16,14 +16,15 @@ use std::alloc::Global;
 /// many have one home.
 const NEAR: usize = 32;
 
-/// The bytes that wait from one on belong in this cell.
+/// The bytes that wait at a place belong in this cell. Places are counted in cells: those of new ballots, in their order,
+/// and behind them an empty one and those that were copied.
 #[derive(Clone, Copy)]
 pub struct Move {
     pub from: u32,
     pub cell: u32,
 }
 
-/// A number, and from where on the bytes of its cell wait.
+/// A number, and the place at which the bytes of its cell wait.
 #[derive(Clone, Copy)]
 pub struct Waiting {
     pub number: u64,
@@ -31,6 +32,7 @@ pub struct Waiting {
 }
 
 /// Where a number stands.
+#[derive(Clone, Copy)]
 enum Near {
     /// In this cell, near its home.
     At(usize),
@@ -64,7 +66,7 @@ impl Plan {
         })
     }
 
-    /// Notes in which cell the bytes of a number's cell belong, which wait from one on. A number that stands in none is left
+    /// Notes in which cell the bytes of a number's cell belong, which wait at a place. A number that stands in none is left
     /// out.
     pub fn note(
         &mut self,
@@ -84,8 +86,33 @@ impl Plan {
         ensures still { OnOk result (StayNoted cells.now self.old self.new) }
         ensures bytes { self.new.bytes.items ≡ self.old.bytes.items }
     {
+        let near = find_near(order, cells, number);
+        self.note_near(order, cells, near, number, from)
+    }
+
+    /// The same of a number that stands there.
+    fn note_near(
+        &mut self,
+        order: &Salted,
+        cells: &[u64],
+        near: Near,
+        number: u64,
+        from: usize,
+    ) -> Result<(), Memory>
+        requires near { IsNear cells.now number near }
+        requires some { number ≢ 0 }
+        requires ordered { IsOrdered (home_of order.now.bits order.now.salt) cells.now }
+        requires few_cells { length cells.now ≤ most_cells }
+        requires short { from < 2 ^ 32 }
+        ensures right { OnOk result ((f : ℕ → List ℕ) (front : List ℕ)
+            → WaitsIn f front self.old.bytes.items from number
+            → IsRight f cells.now front self.old → IsRight f cells.now front self.new) }
+        ensures sought { OnOk result (IsSought cells.now self.new number) }
+        ensures still { OnOk result (StayNoted cells.now self.old self.new) }
+        ensures bytes { self.new.bytes.items ≡ self.old.bytes.items }
+    {
         let from = from as u32;
-        match find_near(order, cells, number) {
+        match near {
             Near::At(cell) => {
                 self.moves.push(Move {
                     from,
@@ -98,39 +125,44 @@ impl Plan {
         Ok(())
     }
 
-    /// Copies the bytes of a number's cell, and notes in which cell they belong. Those of new ballots are so many.
+    /// Copies the bytes of a number's cell to wait at a place, and notes in which cell they belong. Those of a number that
+    /// stands in none are left out. It gives the place for the next.
     pub fn add(
         &mut self,
         order: &Salted,
         cells: &[u64],
-        front: usize,
+        place: usize,
         number: u64,
         bytes: &[u8],
-    ) -> Result<(), Memory>
+    ) -> Result<usize, Memory>
         requires some { number ≢ 0 }
         requires ordered { IsOrdered (home_of order.now.bits order.now.salt) cells.now }
         requires few_cells { length cells.now ≤ most_cells }
-        requires short { front + length self.old.bytes.items < 2 ^ 32 }
+        requires short { place < 2 ^ 32 }
         ensures right { OnOk result ((f : ℕ → List ℕ) (new : List ℕ)
-            → length new ≡ front → bytes.now ≡ f number
+            → length new + length self.old.bytes.items ≡ place * length bytes.now → bytes.now ≡ f number
             → IsRight f cells.now new self.old → IsRight f cells.now new self.new) }
         ensures sought { OnOk result (IsSought cells.now self.new number) }
         ensures still { OnOk result (StayNoted cells.now self.old self.new) }
-        ensures longer { OnOk result
-            (length self.new.bytes.items ≤ length self.old.bytes.items + length bytes.now) }
+        ensures next { IfOk result
+            (λ next. IsNextPlace place self.old.bytes.items bytes.now next self.new.bytes.items) }
     {
-        let from = front + self.bytes.len();
+        let near = find_near(order, cells, number);
+        if let Near::Nowhere = near {
+            return Ok(place);
+        }
         self.bytes.extend_from_slice(bytes)?;
-        self.note(order, cells, number, from)
+        self.note_near(order, cells, near, number, place)?;
+        Ok(place + 1)
     }
 
-    /// Notes that a cell is to be empty. The bytes of new ballots are so many.
+    /// Notes that a cell is to be empty. New ballots are so many.
     pub fn empty(&mut self, cells: &[u64], front: usize, cell: usize) -> Result<(), Memory>
         requires within { cell < length cells.now }
         requires none { slice_index cells.now cell ≡ 0 }
         requires few_cells { length cells.now ≤ most_cells }
         requires short { front < 2 ^ 32 }
-        ensures right { OnOk result ((f : ℕ → List ℕ) (new : List ℕ) → length new ≡ front
+        ensures right { OnOk result ((f : ℕ → List ℕ) (new : List ℕ) → length new ≡ front * length (f 0)
             → IsRight f cells.now new self.old → IsRight f cells.now new self.new) }
         ensures noted { OnOk result (IsNoted cells.now self.new cell) }
         ensures still { OnOk result (StayNoted cells.now self.old self.new) }
@@ -154,7 +186,7 @@ impl Plan {
             → IsRight f cells.now front self.old → IsRight f cells.now front self.new) }
         ensures noted { OnOk result ((cell : ℕ) → cell < length cells.now
             → slice_index old_cells.now cell ≢ slice_index cells.now cell
-            → Moves self.new.moves.items cell) }
+            → IsMoved self.new.moves.items cell) }
     {
         if !self.far.is_empty() {
             self.far.sort_unstable_by_key(|one| one.number);
@@ -199,10 +231,10 @@ fn move_far(
         → All (λ one. WaitsIn f front bytes one.from one.number) far.now
         → All (IsRightMove f cells.now front bytes) moves.old.items
         → All (IsRightMove f cells.now front bytes) moves.new.items) }
-    ensures still { OnOk result ((cell : ℕ) → Moves moves.old.items cell → Moves moves.new.items cell) }
+    ensures still { OnOk result ((cell : ℕ) → IsMoved moves.old.items cell → IsMoved moves.new.items cell) }
     ensures moved { OnOk result ((cell : ℕ) → cell < length cells.now
         → slice_index old_cells.now cell ≢ slice_index cells.now cell
-        → AwaitsCell far.now (slice_index cells.now cell) → Moves moves.new.items cell) }
+        → AwaitsCell far.now (slice_index cells.now cell) → IsMoved moves.new.items cell) }
 {
     let mut cell = next_changed(old_cells, cells, 0);
     while cell < cells.len() {

@@ -1,10 +1,12 @@
 //! The bytes of an image, changed in place where a ballot belongs in another cell.
 
-ghost use Rattle.ballot_record.specs.Format.{largest_cell};
-ghost use Rattle.body_store.specs.Moves.{AreCells, IsLeftUpTo, IsRelay, IsRight, IsSought, Moves, StayNoted, WaitsIn, cell_in};
-ghost use Rattle.std.specs.Prelude.{◌≡◌, ◌≢◌, ℕ, ◌+◌, ◌*◌, ◌<◌, ◌≤◌, List, All, IfOk, OnErr, OnOk, flat_map, length, slice_index, take};
-ghost use Rattle.store_spec.specs.Ballot.{numbers_of};
-ghost use Rattle.store_spec.specs.Election.{cell_size, header_size, most_ballots, most_cells};
+ghost use Rattle.ballot_record.specs.BallotList.{ListedBallots};
+ghost use Rattle.body_store.specs.Contents.{all_listed};
+ghost use Rattle.body_store.specs.Fronts.{IsListStart};
+ghost use Rattle.body_store.specs.Moves.{AreArrivals, AreImageCells, Arrivals, IsLeftUpTo, IsMoved, IsRelay, IsRight, IsSought, StandsFrom, StayNoted, WaitsIn, cell_in, arriving_bytes};
+ghost use Rattle.std.specs.Prelude.{◌≡◌, ◌≢◌, ℕ, ◌+◌, ◌*◌, ◌^◌, ◌<◌, ◌≤◌, List, All, IfOk, OnErr, OnOk, flat_map, length, slice_index, slice_index_or, take};
+ghost use Rattle.store_spec.specs.Ballot.{IsValid, numbers_of};
+ghost use Rattle.store_spec.specs.Election.{cell_size, header_size, most_cells};
 ghost use Rattle.store_spec.specs.Home.{home_of};
 ghost use Rattle.store_spec.specs.Image.{ballot_bytes};
 ghost use Rattle.store_spec.specs.Layout.{IsOrdered};
@@ -17,28 +19,28 @@ use probe_order::Salted;
 use std::alloc::Global;
 
 /// Changes the bytes of an image from those of the old cells to those of the new ones, in which each ballot of the image
-/// stands that is not withdrawn, and these new ballots. Cells whose number is the same stay. It takes all memory before
-/// the first byte changes, and time near n log n of the ballots that move, whatever their homes.
+/// stands that is not withdrawn, and the new ballots of these lists. Cells whose number is the same stay. It takes all
+/// memory before the first byte changes, and time near n log n of the ballots that move, whatever their homes.
 pub fn relay(
     alloc: Global,
     order: &Salted,
     election: &Election,
-    ballots: &BallotList,
+    lists: &[BallotList],
     old_cells: &[u64],
     cells: &[u64],
     image: &mut [u8],
 ) -> Result<(), Memory>
     ghost f: { ℕ → List ℕ }
-    requires election { ballots.now.election ≡ election.now }
-    requires cells { IsRelay election.now f (home_of order.now.bits order.now.salt) ballots.now.ballots
+    requires election { All (λ list. list.election ≡ election.now) lists.now }
+    requires cells { IsRelay election.now f (home_of order.now.bits order.now.salt) (all_listed lists.now)
         old_cells.now cells.now image.old }
-    ensures after { OnOk result (AreCells election.now f cells.now image.new) }
+    ensures after { OnOk result (AreImageCells election.now f cells.now image.new) }
     ensures header { take header_size image.new ≡ take header_size image.old }
     ensures unchanged { OnErr result (image.new ≡ image.old) }
 {
-    let plan = make_plan(alloc, order, election, ballots, old_cells, cells, image)?;
+    let plan = make_plan(alloc, order, election, lists, old_cells, cells, image)?;
     let size = election.cell_bytes();
-    carry_out(&plan, ballots.bytes(), old_cells, cells, size, image);
+    carry_out(&plan, election, lists, old_cells, cells, size, image);
     Ok(())
 }
 
@@ -47,63 +49,91 @@ fn make_plan(
     alloc: Global,
     order: &Salted,
     election: &Election,
-    ballots: &BallotList,
+    lists: &[BallotList],
     old_cells: &[u64],
     cells: &[u64],
     image: &[u8],
 ) -> Result<Plan, Memory>
-    ghost f: { ℕ → List ℕ }
-    requires election { ballots.now.election ≡ election.now }
-    requires cells { IsRelay election.now f (home_of order.now.bits order.now.salt) ballots.now.ballots
+    ghost new: { Arrivals }
+    requires election { new.election ≡ election.now }
+    requires lists { new.ballots ≡ all_listed lists.now }
+    requires cells { IsRelay new.election new.bytes_of (home_of order.now.bits order.now.salt) new.ballots
         old_cells.now cells.now image.now }
-    ensures right { IfOk result (IsRight f cells.now
-        (flat_map (ballot_bytes ballots.now.election) ballots.now.ballots)) }
+    ensures right { IfOk result (IsRight new.bytes_of cells.now (arriving_bytes new)) }
     ensures noted { IfOk result (λ plan. (cell : ℕ) → cell < length cells.now
         → slice_index old_cells.now cell ≢ slice_index cells.now cell
-        → Moves plan.moves.items cell) }
+        → IsMoved plan.moves.items cell) }
 {
     let size = election.cell_bytes();
-    let mut plan = Plan::new(alloc, size, ballots.len())?;
-    take_in(&mut plan, order, size, ballots, cells)?;
-    take_out(
-        &mut plan,
-        order,
-        size,
-        ballots.bytes(),
-        old_cells,
-        cells,
-        image,
-    )?;
+    let front = count(lists);
+    let mut plan = Plan::new(alloc, size, front)?;
+    take_in(&mut plan, order, lists, cells)?;
+    take_out(&mut plan, order, size, front, old_cells, cells, image)?;
     plan.find_far(old_cells, cells)?;
     Ok(plan)
 }
 
-/// Notes where new ballots belong.
+/// How many ballots lists have.
+pub fn count(lists: &[BallotList]) -> usize
+    requires { length (all_listed lists.now) < 2 ^ 32 }
+    ensures { result ≡ length (all_listed lists.now) }
+{
+    let mut count = 0;
+    'lists: for list in lists {
+        count += list.len();
+    }
+    count
+}
+
+/// Notes where the ballots of lists belong.
 fn take_in(
     plan: &mut Plan,
     order: &Salted,
-    size: usize,
-    ballots: &BallotList,
+    lists: &[BallotList],
     cells: &[u64],
 ) -> Result<(), Memory>
-    ghost f: { ℕ → List ℕ }
+    ghost new: { Arrivals }
     requires ordered { IsOrdered (home_of order.now.bits order.now.salt) cells.now }
     requires few_cells { length cells.now ≤ most_cells }
-    requires few_ballots { length ballots.now.ballots ≤ most_ballots }
-    requires new_ballots { All (λ b. ballot_bytes ballots.now.election b ≡ f b.number)
-        ballots.now.ballots }
-    requires wide { size ≡ cell_size ballots.now.election }
-    requires right { IsRight f cells.now
-        (flat_map (ballot_bytes ballots.now.election) ballots.now.ballots) plan.old }
-    ensures right { OnOk result (IsRight f cells.now
-        (flat_map (ballot_bytes ballots.now.election) ballots.now.ballots) plan.new) }
-    ensures sought { OnOk result ((k : ℕ) → k < length ballots.now.ballots
-        → IsSought cells.now plan.new (slice_index (numbers_of ballots.now.ballots) k)) }
+    requires new { AreArrivals new }
+    requires lists { new.ballots ≡ all_listed lists.now }
+    requires right { IsRight new.bytes_of cells.now (arriving_bytes new) plan.old }
+    ensures right { OnOk result (IsRight new.bytes_of cells.now (arriving_bytes new) plan.new) }
+    ensures sought { OnOk result ((k : ℕ) → k < length new.ballots
+        → IsSought cells.now plan.new (slice_index (numbers_of new.ballots) k)) }
     ensures bytes { OnOk result (plan.new.bytes.items ≡ plan.old.bytes.items) }
 {
-    let count = ballots.len();
-    'ballots: for place in 0..count {
-        plan.note(order, cells, ballots.number(place), place * size)?;
+    let mut first = 0;
+    'lists: for list in lists {
+        let count = list.len();
+        take_list(plan, order, list, first, cells)?;
+        first += count;
+    }
+    Ok(())
+}
+
+/// Notes where the ballots of a list belong, which stand among all from one on.
+fn take_list(
+    plan: &mut Plan,
+    order: &Salted,
+    list: &BallotList,
+    first: usize,
+    cells: &[u64],
+) -> Result<(), Memory>
+    ghost new: { Arrivals }
+    requires ordered { IsOrdered (home_of order.now.bits order.now.salt) cells.now }
+    requires few_cells { length cells.now ≤ most_cells }
+    requires new { AreArrivals new }
+    requires here { StandsFrom first list.now.ballots new.ballots }
+    requires right { IsRight new.bytes_of cells.now (arriving_bytes new) plan.old }
+    ensures right { OnOk result (IsRight new.bytes_of cells.now (arriving_bytes new) plan.new) }
+    ensures sought { OnOk result ((k : ℕ) → first ≤ k → k < first + length list.now.ballots
+        → IsSought cells.now plan.new (slice_index (numbers_of new.ballots) k)) }
+    ensures still { OnOk result (StayNoted cells.now plan.old plan.new) }
+    ensures bytes { OnOk result (plan.new.bytes.items ≡ plan.old.bytes.items) }
+{
+    'ballots: for place in 0..list.len() {
+        plan.note(order, cells, list.number(place), first + place)?;
     }
     Ok(())
 }
@@ -114,48 +144,52 @@ fn take_out(
     plan: &mut Plan,
     order: &Salted,
     size: usize,
-    front: &[u8],
+    front: usize,
     old_cells: &[u64],
     cells: &[u64],
     image: &[u8],
 ) -> Result<(), Memory>
-    ghost f: { ℕ → List ℕ }
+    ghost new: { Arrivals }
+    requires new { AreArrivals new }
+    requires front { front ≡ length new.ballots }
+    requires size { size ≡ cell_size new.election }
     requires ordered { IsOrdered (home_of order.now.bits order.now.salt) cells.now }
     requires few_cells { length cells.now ≤ most_cells }
     requires as_many { length old_cells.now ≡ length cells.now }
     requires long { length image.now ≡ header_size + length old_cells.now * size }
     requires before { (cell : ℕ) → cell < length cells.now
-        → cell_in size cell image.now ≡ f (slice_index old_cells.now cell) }
-    requires narrow { size ≤ largest_cell }
-    requires right { IsRight f cells.now front.now plan.old }
-    requires short { length front.now + length plan.old.bytes.items
-        ≤ (most_ballots + 1) * largest_cell }
-    ensures right { OnOk result (IsRight f cells.now front.now plan.new) }
+        → cell_in size cell image.now ≡ new.bytes_of (slice_index old_cells.now cell) }
+    requires right { IsRight new.bytes_of cells.now (arriving_bytes new) plan.old }
+    requires one { length plan.old.bytes.items ≡ size }
+    ensures right { OnOk result (IsRight new.bytes_of cells.now (arriving_bytes new) plan.new) }
     ensures left { OnOk result (IsLeftUpTo old_cells.now cells.now plan.new (length cells.now)) }
     ensures still { OnOk result (StayNoted cells.now plan.old plan.new) }
 {
+    let mut place = front + 1;
     let mut cell = next_left(old_cells, cells, 0);
     while cell < cells.len() {
         let at = HEADER_BYTES + cell * size;
-        plan.add(
-            order,
-            cells,
-            front.len(),
-            old_cells[cell],
-            &image[at..at + size],
-        )?;
+        place = plan.add(order, cells, place, old_cells[cell], &image[at..at + size])?;
         if cells[cell] == 0 {
-            plan.empty(cells, front.len(), cell)?;
+            plan.empty(cells, front, cell)?;
         }
         cell = next_left(old_cells, cells, cell + 1);
     }
     Ok(())
 }
 
+/// One of some lists, and the place of its first ballot among those of all.
+#[derive(Clone, Copy)]
+struct Front {
+    list: usize,
+    first: usize,
+}
+
 /// Writes what waits where it belongs.
 fn carry_out(
     plan: &Plan,
-    front: &[u8],
+    election: &Election,
+    lists: &[BallotList],
     old_cells: &[u64],
     cells: &[u64],
     size: usize,
@@ -163,37 +197,83 @@ fn carry_out(
 )
     ghost f: { ℕ → List ℕ }
     requires wide { (number : ℕ) → length (f number) ≡ size }
-    requires some { 0 < size }
+    requires size { size ≡ cell_size election.now }
+    requires election { All (λ list. list.election ≡ election.now) lists.now }
+    requires valid { All (IsValid election.now) (all_listed lists.now) }
     requires long { length image.old ≡ header_size + length cells.now * size }
     requires before { (cell : ℕ) → cell < length cells.now
         → cell_in size cell image.old ≡ f (slice_index old_cells.now cell) }
-    requires right { IsRight f cells.now front.now plan.now }
+    requires right { IsRight f cells.now
+        (flat_map (ballot_bytes election.now) (all_listed lists.now)) plan.now }
     requires noted { (cell : ℕ) → cell < length cells.now
         → slice_index old_cells.now cell ≢ slice_index cells.now cell
-        → Moves plan.now.moves.items cell }
+        → IsMoved plan.now.moves.items cell }
     ensures after { (cell : ℕ) → cell < length cells.now
         → cell_in size cell image.new ≡ f (slice_index cells.now cell) }
     ensures header { take header_size image.new ≡ take header_size image.old }
 {
+    let mut front = Front { list: 0, first: 0 };
     for one in &plan.moves {
-        let bytes = waiting(front, &plan.bytes, one.from as usize, size);
+        let place = one.from as usize;
+        front = list_with(lists, front, place);
+        let bytes = waiting(election, lists, &plan.bytes, front, place);
         put_cell_at(image, size, one.cell as usize, bytes);
     }
 }
 
-/// So many bytes that wait from one on, in front or behind.
-fn waiting<'a>(front: &'a [u8], behind: &'a [u8], from: usize, size: usize) -> &'a [u8]
-    ghost f: { ℕ → List ℕ }
-    requires some { 0 < size }
-    requires waits { (number : ℕ) × (length (f number) ≡ size)
-        × WaitsIn f front.now behind.now from number }
-    ensures { (number : ℕ) → length (f number) ≡ size
-        → WaitsIn f front.now behind.now from number → result.now ≡ f number }
+/// The list that has the ballot at a place of all, or past the last; it is looked for from one on.
+fn list_with(lists: &[BallotList], front: Front, place: usize) -> Front
+    requires front { IsListStart lists.now front }
+    ensures front { IsListStart lists.now result }
+    ensures past { result.first ≤ place }
+    ensures before { result.list < length lists.now → (d : ListedBallots)
+        → place < result.first + length (slice_index_or lists.now result.list d).ballots }
 {
-    if from < front.len() {
-        return &front[from..from + size];
+    let mut front = if place < front.first {
+        Front { list: 0, first: 0 }
+    } else {
+        front
+    };
+    'lists: while front.list < lists.len() {
+        let count = lists[front.list].len();
+        if place - front.first < count {
+            return front;
+        }
+        front = Front {
+            list: front.list + 1,
+            first: front.first + count,
+        };
     }
-    let at = from - front.len();
+    front
+}
+
+/// The bytes of the cell that waits at a place, in the list that has that, or behind all.
+fn waiting<'a>(
+    election: &Election,
+    lists: &'a [BallotList],
+    behind: &'a [u8],
+    front: Front,
+    place: usize,
+) -> &'a [u8]
+    ghost f: { ℕ → List ℕ }
+    requires election { All (λ list. list.election ≡ election.now) lists.now }
+    requires valid { All (IsValid election.now) (all_listed lists.now) }
+    requires front { IsListStart lists.now front }
+    requires past { front.first ≤ place }
+    requires before { front.list < length lists.now → (d : ListedBallots)
+        → place < front.first + length (slice_index_or lists.now front.list d).ballots }
+    requires waits { (number : ℕ) × (length (f number) ≡ cell_size election.now)
+        × WaitsIn f (flat_map (ballot_bytes election.now) (all_listed lists.now)) behind.now place number }
+    ensures { (number : ℕ) → length (f number) ≡ cell_size election.now
+        → WaitsIn f (flat_map (ballot_bytes election.now) (all_listed lists.now)) behind.now place number
+        → result.now ≡ f number }
+{
+    let size = election.cell_bytes();
+    let place = place - front.first;
+    if front.list < lists.len() {
+        return lists[front.list].cell(place);
+    }
+    let at = place * size;
     &behind[at..at + size]
 }
 

@@ -1,11 +1,9 @@
 -- The runs of calls that renew a bank.
 use Rattle.std.proofs.Common.{◌≡◌, ℕ, List, [], ◌∷◌, length}
+use Rattle.store_spec.proofs.Common.{AddsNoCrashImage, Bank, Election, IsOpen, IsTorn, LeavesOnly, bank_place, bank_size, closed_gate, gate_place, medium_size, overwritten}
 use Rattle.crash_disk.proofs.Moments.{goes_on_same, joined, weaker}
 use Rattle.checkpoint.proofs.Renewing.{closing_half, half_on, opening_half, pages_half}
 use Rattle.checkpoint.specs.Renewal.{IsHalfRenewed}
-use Rattle.store_spec.specs.Disk.{overwritten, AddsNoCrashImage, IsTorn, LeavesOnly}
-use Rattle.store_spec.specs.Election.{Election, bank_size, medium_size}
-use Rattle.store_spec.specs.Medium.{Bank, IsOpen, bank_place, closed_gate, gate_place}
 
 module _ {D : Type 0} (calls : D → ℕ) (may_leave : D → ℕ → List ℕ → Type 0) (e : Election) (bank : Bank) (image old : List ℕ) (long : length old ≡ medium_size e) where
   -- pages are written behind a closed gate

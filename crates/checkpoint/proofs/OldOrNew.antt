@@ -1,15 +1,10 @@
 -- While both banks of a medium are renewed, bank B first, it holds the old set or the new one.
 use Rattle.std.proofs.Common.{◌≡◌, ℕ, List, get_or, ◌∙◌, inl, inr, ⊎_elim, ◌⊎◌}
-use Rattle.std.proofs.lemmas.Bool.{cases_eq}
+use Rattle.store_spec.proofs.Common.{A, B, Ballot, Bank, Election, HoldsSet, IsBallotSet, IsImageOf, IsMediumOf, IsOpen, IsWithinLimit, bank_of, cases_eq, gate_place, image_of, open_gate}
 use Rattle.checkpoint.proofs.Pages.{Fits}
 use Rattle.checkpoint.specs.Renewal.{IsRenewed, IsHalfRenewed}
 use Rattle.image_builder.proofs.Held.{medium_parts}
 use Rattle.image_builder.proofs.MediumParts.{AreBoth}
-use Rattle.store_spec.specs.Ballot.{Ballot, IsBallotSet, IsWithinLimit}
-use Rattle.store_spec.specs.Election.{Election}
-use Rattle.store_spec.specs.Image.{IsImageOf, image_of}
-use Rattle.store_spec.specs.Medium.{Bank, HoldsSet, IsMediumOf, IsOpen, bank_of, gate_place, open_gate}
-use Rattle.store_spec.specs.Medium.Bank.{A, B}
 
 is_image : (e : Election) (ballots : List Ballot) (bank : List ℕ) → IsBallotSet e ballots → IsWithinLimit e ballots → bank ≡ image_of e ballots → IsImageOf e bank ballots
 is_image e ballots bank set few is = record { set = set; within_limit = few; bytes = is }

@@ -1,8 +1,6 @@
 -- The pages of a bank, written one after another behind a closed gate.
 use Rattle.std.proofs.Common.{◌≡◌, ℕ, ◌+◌, ◌-◌, ◌≤◌, List, ◌++◌, length, max, take, drop, Option, Some, None, refl, sym, ◌∙◌, ap, subst, inr, arith}
-use Rattle.std.proofs.Math.Seq.{take-add}
-use Rattle.std.proofs.lemmas.List.{length-drop, length-take, take_all}
-use Rattle.std.specs.Prelude.{slice_range, option_map, is_some, IsSome, IfSome, Result, Ok, Err, OnOk}
+use Rattle.store_spec.proofs.Common.{Ballot, Election, Err, IfSome, IsBallotSet, IsElection, IsSome, IsTorn, IsWithinLimit, KeepsCrashImages, LeavesOnly, Ok, OnOk, Result, TearsAtMost, bank_size, image_of, is_some, length-drop, length-take, option_map, overwritten, slice_range, take-add, take_all}
 use Rattle.bank_medium.proofs.Parts.{within_range}
 use Rattle.bank_medium.specs.Banks.{bank_named, place_of, HasOpen, LeavesUnread}
 use Rattle.bank_medium.specs.declared.place.Bank.{Bank}
@@ -12,10 +10,7 @@ use Rattle.crash_disk.proofs.TornBytes.{overwritten-next, overwritten-same}
 use Rattle.crash_disk.specs.SeenIsImage.{length-overwritten}
 use Rattle.checkpoint.proofs.Renewing.{torn_bank_gate}
 use Rattle.image_builder.proofs.Held.{image_fits}
-use Rattle.store_spec.specs.Ballot.{Ballot, IsBallotSet, IsWithinLimit}
-use Rattle.store_spec.specs.Disk.{overwritten, IsTorn, KeepsCrashImages, LeavesOnly, LeavesTorn, TearsAtMost}
-use Rattle.store_spec.specs.Election.{Election, IsElection, bank_size}
-use Rattle.store_spec.specs.Image.{image_of}
+use Rattle.store_spec.specs.Disk.{LeavesTorn}
 
 -- what a store's election and set are under another name of the election
 pub record Fits (e : Election) (ballots : List Ballot) : Type 0 where

@@ -1,13 +1,9 @@
 -- What torn and written ranges leave of a medium, part by part.
 use Rattle.std.proofs.Common.{◌≡◌, ℕ, ◌+◌, ◌*◌, ◌≤◌, List, [], ◌∷◌, length, get_or, Option, Some, sym, ◌∙◌, ap, subst, inl, inr, ⊎_elim, arith}
-use Rattle.std.specs.Prelude.{slice_range, option_map}
+use Rattle.store_spec.proofs.Common.{A, B, Bank, Election, IsOpen, IsTorn, bank_of, bank_place, bank_size, closed_gate, gate_place, medium_size, open_gate, option_map, overwritten, slice_range}
 use Rattle.crash_disk.proofs.TornBytes.{torn-before, torn-behind, torn-byte_before, torn-byte_behind, torn-size, overwritten-range, overwritten-byte}
 use Rattle.crash_disk.specs.SeenIsImage.{overwritten-torn}
 use Rattle.checkpoint.specs.Renewal.{KeepsOther, IsRenewed, IsHalfRenewed}
-use Rattle.store_spec.specs.Disk.{overwritten, IsTorn}
-use Rattle.store_spec.specs.Election.{Election, bank_size, medium_size}
-use Rattle.store_spec.specs.Medium.{Bank, IsOpen, bank_of, bank_place, gate_place, open_gate, closed_gate}
-use Rattle.store_spec.specs.Medium.Bank.{A, B}
 
 pub gate_within : (e : Election) (bank : Bank) → gate_place e bank + 1 ≤ medium_size e
 gate_within e A = omega arith

@@ -1,18 +1,12 @@
 -- The runs of calls that make an unused disk the medium of a set.
 use Rattle.std.proofs.Common.{◌≡◌, ℕ, ◌+◌, ◌*◌, ◌≤◌, List, [], ◌∷◌, ◌++◌, length, Option, Some, None, is_some, refl, sym, ◌∙◌, ap, inl, inr, arith}
-use Rattle.std.specs.Prelude.{option_map}
-use Rattle.std.specs.Option.{ForSome}
+use Rattle.store_spec.proofs.Common.{Ballot, Election, ForSome, IsMediumOf, IsTorn, IsUnused, LeavesOnly, TearsAtMost, bank_size, image_of, leaves_now, medium_of, open_gate, option_map, overwritten, torn_from}
 use Rattle.crash_disk.proofs.Moments.{goes_on, joined, weaker}
 use Rattle.crash_disk.proofs.TornBytes.{overwritten-next}
 use Rattle.checkpoint.proofs.Pages.{Fits}
 use Rattle.checkpoint.proofs.Unused.{opened_medium, opening_holds, unused_small, unused_torn}
 use Rattle.checkpoint.specs.Unused.{IsUntouchedOr, IsUnusedOrHolds}
 use Rattle.outside_io.specs.Told.{IfTold}
-use Rattle.store_spec.specs.Ballot.{Ballot}
-use Rattle.store_spec.specs.Disk.{leaves_now, overwritten, torn_from, IsTorn, LeavesOnly, TearsAtMost}
-use Rattle.store_spec.specs.Election.{Election, bank_size}
-use Rattle.store_spec.specs.Image.{image_of}
-use Rattle.store_spec.specs.Medium.{IsMediumOf, IsUnused, medium_of, open_gate}
 
 -- one page more of its banks is written
 pub run_page : {D : Type 0} (calls : D → ℕ) (may_leave : D → ℕ → List ℕ → Type 0) (e : Election) (first mid new : D) (at k : ℕ) → at + k ≤ 2 * bank_size e → LeavesOnly calls may_leave first mid (IsUnused e)

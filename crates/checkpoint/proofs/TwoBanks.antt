@@ -1,5 +1,6 @@
 -- The runs of calls that renew both banks of a medium, bank B first.
 use Rattle.std.proofs.Common.{◌≡◌, ℕ, List, Option, Some, ◌∙◌, inl, ◌⊎◌, length}
+use Rattle.store_spec.proofs.Common.{A, B, Ballot, Bank, Election, HoldsSet, IsMediumOf, IsOpen, LeavesOnly, image_of, medium_size}
 use Rattle.crash_disk.proofs.Moments.{joined, weaker}
 use Rattle.checkpoint.proofs.OldOrNew.{both_new, first_half, second_half}
 use Rattle.checkpoint.proofs.Pages.{Fits, told_back}
@@ -7,12 +8,6 @@ use Rattle.checkpoint.specs.Renewal.{IsRenewed, IsHalfRenewed}
 use Rattle.image_builder.proofs.Held.{medium_parts, parts_medium}
 use Rattle.outside_io.proofs.Told.{told_on}
 use Rattle.outside_io.specs.Told.{IfTold}
-use Rattle.store_spec.specs.Ballot.{Ballot}
-use Rattle.store_spec.specs.Disk.{LeavesOnly}
-use Rattle.store_spec.specs.Election.{Election, medium_size}
-use Rattle.store_spec.specs.Image.{image_of}
-use Rattle.store_spec.specs.Medium.{Bank, HoldsSet, IsMediumOf, IsOpen}
-use Rattle.store_spec.specs.Medium.Bank.{A, B}
 
 module _ {D : Type 0} (calls : D → ℕ) (may_leave : D → ℕ → List ℕ → Type 0) (e : Election) (old new : List Ballot) (bytes : List ℕ) (was : IsMediumOf e bytes old) (fits : Fits e new) where
   -- bank B is renewed

@@ -1,17 +1,10 @@
 -- An unused disk becomes the medium of the empty set.
 use Rattle.std.proofs.Common.{◌≡◌, ℕ, ◌+◌, ◌*◌, ◌≤◌, ◌<◌, List, [], ◌∷◌, ◌++◌, length, get_or, drop, sym, ◌∙◌, ap, inl, inr, ⊎_elim, arith, length-append}
-use Rattle.std.proofs.lemmas.Bool.{cases_eq}
-use Rattle.std.proofs.lemmas.List.{append-nil, drop_all, length-drop}
+use Rattle.store_spec.proofs.Common.{A, B, Ballot, Bank, Election, HoldsSet, IsChosen, IsOpen, IsTorn, IsUnused, append-nil, bank_of, bank_size, cases_eq, drop_all, gate_place, image_of, length-drop, medium_of, medium_size, open_gate, overwritten}
 use Rattle.crash_disk.proofs.TornBytes.{overwritten-next, torn-before, torn-byte_behind, torn-size}
 use Rattle.checkpoint.proofs.Pages.{Fits}
 use Rattle.checkpoint.specs.Unused.{IsUnusedOrHolds}
 use Rattle.image_builder.proofs.MediumParts.{bank_a, bank_b, part_a, part_b}
-use Rattle.store_spec.specs.Ballot.{Ballot}
-use Rattle.store_spec.specs.Disk.{overwritten, IsTorn}
-use Rattle.store_spec.specs.Election.{Election, bank_size, medium_size}
-use Rattle.store_spec.specs.Image.{image_of}
-use Rattle.store_spec.specs.Medium.{Bank, HoldsSet, IsChosen, IsOpen, IsUnused, bank_of, gate_place, medium_of, open_gate}
-use Rattle.store_spec.specs.Medium.Bank.{A, B}
 
 -- while its banks are written it stays unused
 pub unused_torn : (e : Election) (at k : ℕ) (old c : List ℕ) → at + k ≤ 2 * bank_size e → IsUnused e old → IsTorn at k old c → IsUnused e c

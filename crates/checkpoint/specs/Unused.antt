@@ -18,21 +18,21 @@ init_fault fills.DiskFault = DiskFault
 
 -- There are more bytes than a medium has, or as many and a gate is open. Faults of the disk and want of memory are told
 -- by no bytes.
-abbrev pub IsRefusedDisk : Election → List ℕ → InitFault → Type 0
-IsRefusedDisk e bytes (WrongSize size) = (size ≡ length bytes) × (medium_size e < size)
-IsRefusedDisk e bytes Exists = (length bytes ≡ medium_size e) × (IsOpen e A bytes ⊎ IsOpen e B bytes)
-IsRefusedDisk e bytes DiskFault = Unit {0}
-IsRefusedDisk e bytes Memory = Unit {0}
+abbrev pub IsInitRefused : Election → List ℕ → InitFault → Type 0
+IsInitRefused e bytes (WrongSize size) = (size ≡ length bytes) × (medium_size e < size)
+IsInitRefused e bytes Exists = (length bytes ≡ medium_size e) × (IsOpen e A bytes ⊎ IsOpen e B bytes)
+IsInitRefused e bytes DiskFault = Unit {0}
+IsInitRefused e bytes Memory = Unit {0}
 
 -- nothing was written, unless the disk failed
-abbrev pub IsUnchangedAt : InitFault → Option (List ℕ) → Option (List ℕ) → Type 0
-IsUnchangedAt DiskFault old new = Unit {0}
-IsUnchangedAt fault old new = new ≡ old
+abbrev pub IsUnchangedByInit : InitFault → Option (List ℕ) → Option (List ℕ) → Type 0
+IsUnchangedByInit DiskFault old new = Unit {0}
+IsUnchangedByInit fault old new = new ≡ old
 
 -- nor does a crash at any moment leave what it might not have left before, unless the disk failed
-abbrev pub IsUnharmedAt : {D : Type 0} → DiskModel D → InitFault → D → D → Type 0
-IsUnharmedAt model DiskFault old new = Unit {0}
-IsUnharmedAt model fault old new =
+abbrev pub IsUnharmedByInit : {D : Type 0} → DiskModel D → InitFault → D → D → Type 0
+IsUnharmedByInit model DiskFault old new = Unit {0}
+IsUnharmedByInit model fault old new =
     LeavesOnly model.calls model.may_leave old new (leaves_now model.calls model.may_leave old)
 
 -- these are unused still, or hold this set

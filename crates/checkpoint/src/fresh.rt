@@ -3,8 +3,9 @@
 ghost use Rattle.std.specs.Prelude.{◌≡◌, ◌⊎◌, ◌+◌, ◌≤◌, ◌++◌, ℕ, List, [], Some, option_map, is_some, IsErrOf, IfErr, IfSome, OnOk, length};
 ghost use Rattle.std.specs.Option.{ForSome};
 ghost use Rattle.bank_medium.specs.Banks.{place_of};
-ghost use Rattle.checkpoint.specs.Unused.{init_fault, IsRefusedDisk, IsUnchangedAt, IsUnharmedAt, IsUntouchedOr, IsUntouchedOrNew, IsUnusedOrHolds};
+ghost use Rattle.checkpoint.specs.Unused.{init_fault, IsInitRefused, IsUnchangedByInit, IsUnharmedByInit, IsUntouchedOr, IsUntouchedOrNew, IsUnusedOrHolds};
 ghost use Rattle.outside_io.specs.Told.{AsTold};
+ghost use Rattle.crash_disk.specs.MadeCalls.{MakesCalls};
 ghost use Rattle.store_spec.specs.Disk.{disk_model, leaves_now, overwritten, IsSettled, LeavesOnly, SyncsFirst};
 ghost use Rattle.store_spec.specs.Fault.{CountsFault, CountsFaultIf};
 ghost use Rattle.store_spec.specs.Election.{bank_size};
@@ -76,18 +77,15 @@ pub fn init<D: Disk>(alloc: Global, disk: &mut D, election: &Election) -> Result
     ensures settled { OnOk result (IsSettled D.seen D.calls D.may_leave disk.new) }
     ensures unused { OnOk result (IfSome (D.seen disk.old) (IsUnused election.now)) }
     ensures refused { IfErr result
-        (λ fault. IfSome (D.seen disk.old) (λ bytes. IsRefusedDisk election.now bytes fault)) }
+        (λ fault. IfSome (D.seen disk.old) (λ bytes. IsInitRefused election.now bytes fault)) }
     ensures unchanged { IfErr result
-        (λ fault. IsUnchangedAt fault (D.seen disk.old) (D.seen disk.new)) }
+        (λ fault. IsUnchangedByInit fault (D.seen disk.old) (D.seen disk.new)) }
     ensures unharmed { IfErr result (λ fault. (bytes : List ℕ) → D.seen disk.old ≡ Some bytes
-        → IsUnharmedAt (disk_model D.seen D.calls D.may_leave D.faults) fault disk.old disk.new) }
-    ensures told { is_some (D.seen disk.new) ≡ is_some (D.seen disk.old) }
+        → IsUnharmedByInit (disk_model D.seen D.calls D.may_leave D.faults) fault disk.old disk.new) }
     ensures any_moment { (bytes : List ℕ) → D.seen disk.old ≡ Some bytes
         → SyncsFirst D.calls D.may_leave disk.old disk.new (IsUntouchedOrNew election.now bytes) }
-    ensures later { D.calls disk.old ≤ D.calls disk.new }
-    ensures fault { CountsFaultIf (IsErrOf result InitFault.DiskFault)
-        (D.faults disk.old) (D.faults disk.new) }
-    ensures leads { D.leads_to disk.old disk.new }
+    ensures calls { MakesCalls D.seen D.calls D.faults D.leads_to (CountsFaultIf (IsErrOf result InitFault.DiskFault))
+        disk.old disk.new }
 {
     match Closed::empty(alloc, election) {
         Ok(closed) => Ok(fill(disk, &closed, election)?),
@@ -108,20 +106,17 @@ pub fn fill<D: Disk>(disk: &mut D, closed: &Closed, election: &Election) -> Resu
     ensures settled { OnOk result (IsSettled D.seen D.calls D.may_leave disk.new) }
     ensures unused { OnOk result (IfSome (D.seen disk.old) (IsUnused election.now)) }
     ensures refused { IfErr result (λ fault. IfSome (D.seen disk.old)
-        (λ bytes. IsRefusedDisk election.now bytes (init_fault fault))) }
+        (λ bytes. IsInitRefused election.now bytes (init_fault fault))) }
     ensures unchanged { IfErr result
-        (λ fault. IsUnchangedAt (init_fault fault) (D.seen disk.old) (D.seen disk.new)) }
+        (λ fault. IsUnchangedByInit (init_fault fault) (D.seen disk.old) (D.seen disk.new)) }
     ensures unharmed { IfErr result (λ fault. (bytes : List ℕ) → D.seen disk.old ≡ Some bytes
-        → IsUnharmedAt (disk_model D.seen D.calls D.may_leave D.faults) (init_fault fault)
+        → IsUnharmedByInit (disk_model D.seen D.calls D.may_leave D.faults) (init_fault fault)
         disk.old disk.new) }
-    ensures told { is_some (D.seen disk.new) ≡ is_some (D.seen disk.old) }
     ensures any_moment { (bytes : List ℕ) → D.seen disk.old ≡ Some bytes
         → SyncsFirst D.calls D.may_leave disk.old disk.new
         (IsUntouchedOr election.now closed.now.ballots bytes) }
-    ensures later { D.calls disk.old ≤ D.calls disk.new }
-    ensures fault { CountsFaultIf (IsErrOf result FillFault.DiskFault)
-        (D.faults disk.old) (D.faults disk.new) }
-    ensures leads { D.leads_to disk.old disk.new }
+    ensures calls { MakesCalls D.seen D.calls D.faults D.leads_to (CountsFaultIf (IsErrOf result FillFault.DiskFault))
+        disk.old disk.new }
 {
     settle(disk)?;
     look(disk, election)?;
@@ -141,13 +136,10 @@ pub fn fill_unused<D: Disk>(
     ensures medium { OnOk result (AsTold D.seen disk.old disk.new
         (λ _ bytes. IsMediumOf election.now bytes closed.now.ballots)) }
     ensures settled { OnOk result (IsSettled D.seen D.calls D.may_leave disk.new) }
-    ensures told { is_some (D.seen disk.new) ≡ is_some (D.seen disk.old) }
     ensures any_moment { (bytes : List ℕ) → D.seen disk.old ≡ Some bytes
         → LeavesOnly D.calls D.may_leave disk.old disk.new
         (IsUnusedOrHolds election.now closed.now.ballots) }
-    ensures later { D.calls disk.old ≤ D.calls disk.new }
-    ensures fault { CountsFault result (D.faults disk.old) (D.faults disk.new) }
-    ensures leads { D.leads_to disk.old disk.new }
+    ensures calls { MakesCalls D.seen D.calls D.faults D.leads_to (CountsFault result) disk.old disk.new }
 {
     write_banks(disk, election, closed.image())?;
     open_both_gates(disk, election)
@@ -157,19 +149,16 @@ pub fn fill_unused<D: Disk>(
 fn find_unused<D: Disk>(disk: &mut D, election: &Election) -> Result<(), FillFault>
     ensures same_bytes { OnOk result (D.seen disk.new ≡ D.seen disk.old) }
     ensures refused { IfErr result (λ fault. IfSome (D.seen disk.old)
-        (λ bytes. IsRefusedDisk election.now bytes (init_fault fault))) }
+        (λ bytes. IsInitRefused election.now bytes (init_fault fault))) }
     ensures unchanged { IfErr result
-        (λ fault. IsUnchangedAt (init_fault fault) (D.seen disk.old) (D.seen disk.new)) }
+        (λ fault. IsUnchangedByInit (init_fault fault) (D.seen disk.old) (D.seen disk.new)) }
     ensures unharmed { (bytes : List ℕ) → D.seen disk.old ≡ Some bytes
         → LeavesOnly D.calls D.may_leave disk.old disk.new
         (leaves_now D.calls D.may_leave disk.old) }
-    ensures told { is_some (D.seen disk.new) ≡ is_some (D.seen disk.old) }
     ensures any_moment { (bytes : List ℕ) → D.seen disk.old ≡ Some bytes
         → SyncsFirst D.calls D.may_leave disk.old disk.new (IsUntouchedOrNew election.now bytes) }
-    ensures later { D.calls disk.old ≤ D.calls disk.new }
-    ensures fault { CountsFaultIf (IsErrOf result FillFault.DiskFault)
-        (D.faults disk.old) (D.faults disk.new) }
-    ensures leads { D.leads_to disk.old disk.new }
+    ensures calls { MakesCalls D.seen D.calls D.faults D.leads_to (CountsFaultIf (IsErrOf result FillFault.DiskFault))
+        disk.old disk.new }
 {
     settle(disk)?;
     look(disk, election)
@@ -180,15 +169,13 @@ fn look<D: Disk>(disk: &mut D, election: &Election) -> Result<(), FillFault>
     requires { IsSettled D.seen D.calls D.may_leave disk.old }
     ensures unused { OnOk result (IfSome (D.seen disk.old) (IsUnused election.now)) }
     ensures refused { IfErr result (λ fault. IfSome (D.seen disk.old)
-        (λ bytes. IsRefusedDisk election.now bytes (init_fault fault))) }
+        (λ bytes. IsInitRefused election.now bytes (init_fault fault))) }
     ensures same_bytes { D.seen disk.new ≡ D.seen disk.old }
     ensures settled { IsSettled D.seen D.calls D.may_leave disk.new }
     ensures any_moment { (bytes : List ℕ) → D.seen disk.old ≡ Some bytes
         → LeavesOnly D.calls D.may_leave disk.old disk.new (λ c. c ≡ bytes) }
-    ensures later { D.calls disk.old ≤ D.calls disk.new }
-    ensures fault { CountsFaultIf (IsErrOf result FillFault.DiskFault)
-        (D.faults disk.old) (D.faults disk.new) }
-    ensures leads { D.leads_to disk.old disk.new }
+    ensures calls { MakesCalls D.seen D.calls D.faults D.leads_to (CountsFaultIf (IsErrOf result FillFault.DiskFault))
+        disk.old disk.new }
 {
     let size = disk.size()?;
     if size > election.medium_bytes() {
@@ -210,11 +197,9 @@ fn write_banks<D: Disk>(disk: &mut D, election: &Election, made: &[u8]) -> Resul
     requires unused { ForSome (D.seen disk.old) (IsUnused election.now) }
     ensures written { OnOk result (D.seen disk.new
         ≡ option_map (overwritten 0 (made.now ++ made.now)) (D.seen disk.old)) }
-    ensures told { is_some (D.seen disk.new) ≡ is_some (D.seen disk.old) }
     ensures settled { OnOk result (IsSettled D.seen D.calls D.may_leave disk.new) }
     ensures any_moment { LeavesOnly D.calls D.may_leave disk.old disk.new (IsUnused election.now) }
-    ensures fault { CountsFault result (D.faults disk.old) (D.faults disk.new) }
-    ensures leads { D.leads_to disk.old disk.new }
+    ensures calls { MakesCalls D.seen D.calls D.faults D.leads_to (CountsFault result) disk.old disk.new }
 {
     write_each_page(disk, election, Bank::A, made)?;
     write_each_page(disk, election, Bank::B, made)?;
@@ -234,10 +219,8 @@ fn write_each_page<D: Disk>(
         → IsUnused election.now c }
     ensures written { OnOk result (D.seen disk.new
         ≡ option_map (overwritten (place_of election.now bank) made.now) (D.seen disk.old)) }
-    ensures told { is_some (D.seen disk.new) ≡ is_some (D.seen disk.old) }
     ensures any_moment { LeavesOnly D.calls D.may_leave disk.old disk.new (IsUnused election.now) }
-    ensures fault { CountsFault result (D.faults disk.old) (D.faults disk.new) }
-    ensures leads { D.leads_to disk.old disk.new }
+    ensures calls { MakesCalls D.seen D.calls D.faults D.leads_to (CountsFault result) disk.old disk.new }
 {
     let end = made.len();
     let mut at = 0;

@@ -4,6 +4,7 @@ ghost use Rattle.std.specs.Prelude.{◌≡◌, ◌≤◌, ◌⊎◌, ℕ, List, 
 ghost use Rattle.std.specs.Option.{ForSome};
 ghost use Rattle.body_store.specs.Contents.{IsStored};
 ghost use Rattle.outside_io.specs.Told.{AsTold};
+ghost use Rattle.crash_disk.specs.MadeCalls.{MakesCalls};
 ghost use Rattle.store_spec.specs.Ballot.{Ballot};
 ghost use Rattle.store_spec.specs.Disk.{IsSettled, LeavesOnly};
 ghost use Rattle.store_spec.specs.Fault.{CountsFault};
@@ -34,10 +35,7 @@ pub fn checkpoint<D: Disk>(
     ensures any_moment { (bytes : List ℕ) (old : List Ballot) → D.seen disk.old ≡ Some bytes
         → IsMediumOf closed.now.election bytes old → LeavesOnly D.calls D.may_leave disk.old disk.new
         (λ c. HoldsSet closed.now.election c old ⊎ HoldsSet closed.now.election c closed.now.ballots) }
-    ensures told { is_some (D.seen disk.new) ≡ is_some (D.seen disk.old) }
-    ensures later { D.calls disk.old ≤ D.calls disk.new }
-    ensures fault { CountsFault result (D.faults disk.old) (D.faults disk.new) }
-    ensures leads { D.leads_to disk.old disk.new }
+    ensures calls { MakesCalls D.seen D.calls D.faults D.leads_to (CountsFault result) disk.old disk.new }
     ensures fails { OnErr result (D.fails_to disk.old disk.new) }
 {
     let election = closed.election();

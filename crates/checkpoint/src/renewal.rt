@@ -6,6 +6,7 @@ ghost use Rattle.bank_medium.specs.Banks.{bank_named, place_of, HasMediumSize, H
 ghost use Rattle.image_builder.specs.Page.{page_size};
 ghost use Rattle.checkpoint.specs.Renewal.{IsHalfRenewed, IsRenewed};
 ghost use Rattle.outside_io.specs.Told.{AsTold};
+ghost use Rattle.crash_disk.specs.MadeCalls.{MakesCalls};
 ghost use Rattle.store_spec.specs.Disk.{overwritten, IsTorn, IsSettled, LeavesOnly, LeavesTorn};
 ghost use Rattle.store_spec.specs.Election.{bank_size};
 ghost use Rattle.store_spec.specs.Fault.{CountsFault};
@@ -36,10 +37,7 @@ fn renew_page<D: Disk>(
         (place_of election.now bank) (bank_size election.now) start disk.old
         → LeavesOnly D.calls D.may_leave disk.old disk.new
         (IsTorn (place_of election.now bank) (bank_size election.now) start) }
-    ensures told { is_some (D.seen disk.new) ≡ is_some (D.seen disk.old) }
-    ensures later { D.calls disk.old ≤ D.calls disk.new }
-    ensures fault { CountsFault result (D.faults disk.old) (D.faults disk.new) }
-    ensures leads { D.leads_to disk.old disk.new }
+    ensures calls { MakesCalls D.seen D.calls D.faults D.leads_to (CountsFault result) disk.old disk.new }
     ensures fails { OnErr result (D.fails_to disk.old disk.new) }
 {
     read_page(disk, election, bank, at, found)?;
@@ -67,10 +65,7 @@ fn write_pages<D: Disk>(
     ensures any_moment { (old : List ℕ) → D.seen disk.old ≡ Some old
         → LeavesOnly D.calls D.may_leave disk.old disk.new
         (IsTorn (place_of election.now bank) (bank_size election.now) old) }
-    ensures told { is_some (D.seen disk.new) ≡ is_some (D.seen disk.old) }
-    ensures later { D.calls disk.old ≤ D.calls disk.new }
-    ensures fault { CountsFault result (D.faults disk.old) (D.faults disk.new) }
-    ensures leads { D.leads_to disk.old disk.new }
+    ensures calls { MakesCalls D.seen D.calls D.faults D.leads_to (CountsFault result) disk.old disk.new }
     ensures fails { OnErr result (D.fails_to disk.old disk.new) }
 {
     let end = made.len();
@@ -104,10 +99,7 @@ pub fn fill_bank<D: Disk>(
     ensures any_moment { (old : List ℕ) → D.seen disk.old ≡ Some old
         → LeavesOnly D.calls D.may_leave disk.old disk.new
         (IsHalfRenewed election.now (bank_named bank) made.now old) }
-    ensures told { is_some (D.seen disk.new) ≡ is_some (D.seen disk.old) }
-    ensures later { D.calls disk.old ≤ D.calls disk.new }
-    ensures fault { CountsFault result (D.faults disk.old) (D.faults disk.new) }
-    ensures leads { D.leads_to disk.old disk.new }
+    ensures calls { MakesCalls D.seen D.calls D.faults D.leads_to (CountsFault result) disk.old disk.new }
     ensures fails { OnErr result (D.fails_to disk.old disk.new) }
 {
     write_pages(disk, election, bank, made, found)?;
@@ -135,10 +127,7 @@ pub fn renew_bank<D: Disk>(
     ensures any_moment { (old : List ℕ) → D.seen disk.old ≡ Some old
         → LeavesOnly D.calls D.may_leave disk.old disk.new
         (IsHalfRenewed election.now (bank_named bank) made.now old) }
-    ensures told { is_some (D.seen disk.new) ≡ is_some (D.seen disk.old) }
-    ensures later { D.calls disk.old ≤ D.calls disk.new }
-    ensures fault { CountsFault result (D.faults disk.old) (D.faults disk.new) }
-    ensures leads { D.leads_to disk.old disk.new }
+    ensures calls { MakesCalls D.seen D.calls D.faults D.leads_to (CountsFault result) disk.old disk.new }
     ensures fails { OnErr result (D.fails_to disk.old disk.new) }
 {
     close_gate(disk, election, bank)?;

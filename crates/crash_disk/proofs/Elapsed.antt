@@ -3,7 +3,7 @@ use Rattle.std.proofs.Common.{◌≡◌, ℕ, ◌+◌, ◌*◌, ◌≤◌, ◌<�
 use Rattle.std.specs.Prelude.{Some, Result, Ok, Err, is_ok, OnOk, OnErr}
 use Rattle.store_spec.specs.Disk.{leaves_now, torn_from, LeavesAtMost, MayLeaveInside, KeepsCrashImages, AddsNoCrashImage, KeepsThemInside, TearsAtMost, TearsExactly, IsSettled}
 use Rattle.crash_disk.specs.Calls.{MadeCall, plain_call, write_call, event_of, events_of, with_one_more}
-use Rattle.crash_disk.specs.History.{State, settled_state, state_after, state_inside, state_at, left_in}
+use Rattle.crash_disk.specs.History.{DiskState, settled_state, state_after, state_inside, state_at, left_in}
 use Rattle.crash_disk.specs.History.Event.{Wrote, Synced, Unchanged}
 use Rattle.crash_disk.specs.SeenIsImage.{state_at-end}
 use Rattle.crash_disk.proofs.Histories.{state-past, state-inside, state-after}
@@ -38,11 +38,11 @@ module _ (old new : Recording) (made : MadeCall) (notes : Notes made old new) (f
 -- the state now has the bytes that a read gives
 seen-now : (m : Recording) → (state_of m (2 * m.calls)).seen ≡ m.bytes.items
 seen-now m =
-    ap (λ (s : State). s.seen) (state_at-end (settled_state m.first.items) (history_of m) (2 * m.calls) (omega (arith, length-history m))) ∙ sym m.replayed
+    ap (λ (s : DiskState). s.seen) (state_at-end (settled_state m.first.items) (history_of m) (2 * m.calls) (omega (arith, length-history m))) ∙ sym m.replayed
 
 -- images of states that are one
-along : (s t : State) (c : List ℕ) → s ≡ t → left_in s c → left_in t c
-along s t c same left = subst (λ (u : State). left_in u c) same left
+along : (s t : DiskState) (c : List ℕ) → s ≡ t → left_in s c → left_in t c
+along s t c same left = subst (λ (u : DiskState). left_in u c) same left
 
 -- A disk in memory, whichever of its calls fail.
 module _ {W : Type 0} where

@@ -1,10 +1,8 @@
 -- How runs of disk calls go on. A proof about a layer cites these at each call, and looks at no bytes.
 use Rattle.std.proofs.Common.{◌≡◌, ℕ, ◌+◌, ◌≤◌, ◌<◌, List, sym, ◌∙◌, subst, inl, inr, arith, ⊎_elim}
-use Rattle.std.proofs.lemmas.Bool.{cases_lt, cond-true, lt-ltb}
-use Rattle.std.proofs.lemmas.Bool.Decides.{nat_tests}
-use Rattle.std.specs.Prelude.{Option, Some, nat_lt}
-use Rattle.store_spec.specs.Fault.{last_count, next_count}
-use Rattle.store_spec.specs.Disk.{after_calls, inside_next, leaves_now, torn_from, IsTorn, LeavesAtMost, AddsNoCrashImage, TearsAtMost, LeavesTorn, IsSettled, EachCrashImage, LeavesOnly, LeavesOnlyOnceSynced, SyncsFirst}
+use Rattle.store_spec.proofs.Common.{AddsNoCrashImage, IsSettled, IsTorn, LeavesOnly, LeavesOnlyOnceSynced, Some, SyncsFirst, TearsAtMost, after_calls, cases_lt, cond-true, last_count, leaves_now, lt-ltb, nat_lt, nat_tests, next_count}
+use Rattle.std.specs.Prelude.{Option}
+use Rattle.store_spec.specs.Disk.{inside_next, torn_from, LeavesAtMost, LeavesTorn, EachCrashImage}
 use Rattle.crash_disk.proofs.TornBytes.{torn-same, torn-again}
 
 -- a count never falls

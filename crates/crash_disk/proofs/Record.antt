@@ -1,14 +1,11 @@
 -- How the record of a disk in memory grows.
 use Rattle.std.proofs.Common.{◌≡◌, ℕ, ◌+◌, ◌-◌, ◌*◌, ◌≤◌, ◌<◌, Bool, true, false, IsTrue, cond, List, [], ◌∷◌, ◌++◌, length, take, drop, refl, sym, ◌∙◌, ap, subst, arith, length-append, nat_lt}
-use Rattle.std.specs.Prelude.{map, slice_range}
-use Rattle.std.proofs.lemmas.List.{map-append, length-map, take-append-le, take_all, drop_at}
+use Rattle.store_spec.proofs.Common.{All-append, All-cons, All-nil, and_from, drop_at, le-leb, length-map, lt-ltb, map-append, overwritten, slice_range, take-append-le, take_all}
+use Rattle.std.specs.Prelude.{map}
 use Rattle.std.proofs.lemmas.Slice.{between_is}
-use Rattle.std.proofs.lemmas.Bool.{and_from, lt-ltb, le-leb}
 use Rattle.std.specs.Prelude.{suc, nat_le}
-use Rattle.std.proofs.lemmas.List.Elements.{All-append, All-cons, All-nil}
-use Rattle.store_spec.specs.Disk.{overwritten}
 use Rattle.crash_disk.specs.Calls.{MadeCall, event_of, events_of, made_call, made_calls_in, AreStored, ChangesNothing, with_one_more}
-use Rattle.crash_disk.specs.History.{Event, State, settled_state, state_after, state_at, seen_after, begin_within}
+use Rattle.crash_disk.specs.History.{Event, DiskState, settled_state, state_after, state_at, seen_after, begin_within}
 use Rattle.crash_disk.specs.History.Event.{Wrote, Synced, Unchanged}
 use Rattle.crash_disk.proofs.Histories.{state_at-after, begin_within-append}
 use Rattle.crash_disk.specs.declared.entry.DiskCall.{DiskCall}
@@ -31,7 +28,7 @@ puts_nothing Sync true put h = tt
 pub seen_after-append : (first : List ℕ) (es : List Event) (e : Event) → seen_after first (es ++ e ∷ []) ≡ (state_after (state_at (settled_state first) es (2 * length es)) e).seen
 seen_after-append first es e =
     let n : 2 * length (es ++ e ∷ []) ≡ 2 * length es + 2 = omega (arith, length-append es (e ∷ [])) in
-    ap (λ m. (state_at (settled_state first) (es ++ e ∷ []) m).seen) n ∙ ap (λ (s : State). s.seen) (state_at-after (settled_state first) es e)
+    ap (λ m. (state_at (settled_state first) (es ++ e ∷ []) m).seen) n ∙ ap (λ (s : DiskState). s.seen) (state_at-after (settled_state first) es e)
 
 -- a call that puts nothing leaves what a read gives
 pub seen_after-nothing : (first : List ℕ) (es : List Event) (e : Event) → PutsNothing e → seen_after first (es ++ e ∷ []) ≡ seen_after first es

@@ -1,11 +1,10 @@
 -- What a stop leaves of a disk in memory, call by call.
 use Rattle.std.proofs.Common.{◌≡◌, ℕ, zero, suc, ◌+◌, ◌*◌, ◌≤◌, ◌<◌, Bool, true, false, List, [], ◌∷◌, length, get_or, replicate, refl, sym, ◌∙◌, ap, subst, arith}
-use Rattle.std.proofs.lemmas.Bool.{and_parts, leb-true}
-use Rattle.std.proofs.lemmas.List.{length-replicate, length-map, get_or-map}
-use Rattle.std.specs.Prelude.{nat_le, if◌then◌else◌, slice_range}
+use Rattle.store_spec.proofs.Common.{IsTorn, and_parts, get_or-map, leb-true, length-map, length-replicate, overwritten, slice_range}
+use Rattle.std.specs.Prelude.{nat_le, if◌then◌else◌}
 use Rattle.crash_disk.proofs.TornBytes.{torn-same}
 use Rattle.crash_disk.specs.Calls.{event_of, event_of_call, made_call}
-use Rattle.crash_disk.specs.History.{Event, State, settled_state, state_after, state_inside, state_at, left_in, begin_within}
+use Rattle.crash_disk.specs.History.{Event, DiskState, settled_state, state_after, state_inside, state_at, left_in, begin_within}
 use Rattle.crash_disk.specs.History.Event.{Wrote, Synced, Unchanged}
 use Rattle.crash_disk.specs.Notes.{made_calls, history_of, state_of}
 use Rattle.crash_disk.specs.SeenIsImage.{later, length-overwritten, overwritten-torn, state_at-end}
@@ -16,16 +15,15 @@ use Rattle.crash_disk.specs.declared.entry.Entry.{Entry}
 use Rattle.crash_disk.specs.declared.recording.Recording.{Recording}
 use Rattle.crash_disk.specs.declared.stop.Torn.{Torn}
 use Rattle.crash_disk.specs.declared.stop.Torn.TheVariants.{Old, New, Fill}
-use Rattle.store_spec.specs.Disk.{overwritten, IsTorn}
 
 -- ---- the state, one call after another
 
-pub state_at-zero : (s : State) (es : List Event) → state_at s es 0 ≡ s
+pub state_at-zero : (s : DiskState) (es : List Event) → state_at s es 0 ≡ s
 state_at-zero s [] = refl
 state_at-zero s (x ∷ es) = refl
 
 -- after the call with this index
-pub state_at-next : (s : State) (es : List Event) (i : ℕ) (d : Event) → i < length es → state_at s es (2 * i + 2) ≡ state_after (state_at s es (2 * i)) (get_or es i d)
+pub state_at-next : (s : DiskState) (es : List Event) (i : ℕ) (d : Event) → i < length es → state_at s es (2 * i + 2) ≡ state_after (state_at s es (2 * i)) (get_or es i d)
 state_at-next s [] i d lt = absurd (omega arith)
 state_at-next s (x ∷ es) zero d lt = state_at-zero (state_after s x) es
 state_at-next s (x ∷ es) (suc i) d lt =
@@ -33,7 +31,7 @@ state_at-next s (x ∷ es) (suc i) d lt =
     ∙ ap (λ t. state_after t (get_or es i d)) (sym (later s x es _ (2 * i) (omega arith)))
 
 -- and inside it
-pub state_at-begun : (s : State) (es : List Event) (i : ℕ) (d : Event) → i < length es → state_at s es (2 * i + 1) ≡ state_inside (state_at s es (2 * i)) (get_or es i d)
+pub state_at-begun : (s : DiskState) (es : List Event) (i : ℕ) (d : Event) → i < length es → state_at s es (2 * i + 1) ≡ state_inside (state_at s es (2 * i)) (get_or es i d)
 state_at-begun s [] i d lt = absurd (omega arith)
 state_at-begun s (x ∷ es) zero d lt = refl
 state_at-begun s (x ∷ es) (suc i) d lt =
@@ -42,21 +40,21 @@ state_at-begun s (x ∷ es) (suc i) d lt =
 
 -- ---- where writes begin
 
-abbrev pub Begins : State → Event → Type 0
+abbrev pub Begins : DiskState → Event → Type 0
 Begins s (Wrote at bytes) = at ≤ length s.seen
 Begins s event = Unit {0}
 
-begins-first : (s : State) (e : Event) (es : List Event) → begin_within s (e ∷ es) ≡ true → Begins s e
+begins-first : (s : DiskState) (e : Event) (es : List Event) → begin_within s (e ∷ es) ≡ true → Begins s e
 begins-first s (Wrote at bytes) es ok = leb-true _ _ (and_parts (nat_le at (length s.seen)) _ ok).0
 begins-first s Synced es ok = tt
 begins-first s Unchanged es ok = tt
 
-begins-rest : (s : State) (e : Event) (es : List Event) → begin_within s (e ∷ es) ≡ true → begin_within (state_after s e) es ≡ true
+begins-rest : (s : DiskState) (e : Event) (es : List Event) → begin_within s (e ∷ es) ≡ true → begin_within (state_after s e) es ≡ true
 begins-rest s (Wrote at bytes) es ok = (and_parts (nat_le at (length s.seen)) _ ok).1
 begins-rest s Synced es ok = ok
 begins-rest s Unchanged es ok = ok
 
-begins-next : (s : State) (es : List Event) (i : ℕ) (d : Event) → begin_within s es ≡ true → i < length es → Begins (state_at s es (2 * i)) (get_or es i d)
+begins-next : (s : DiskState) (es : List Event) (i : ℕ) (d : Event) → begin_within s es ≡ true → i < length es → Begins (state_at s es (2 * i)) (get_or es i d)
 begins-next s [] i d ok lt = absurd (omega arith)
 begins-next s (x ∷ es) zero d ok lt = begins-first s x es ok
 begins-next s (x ∷ es) (suc i) d ok lt =
@@ -64,20 +62,20 @@ begins-next s (x ∷ es) (suc i) d ok lt =
 
 -- ---- what a read gives never gets shorter
 
-grows-after : (s : State) (e : Event) → Begins s e → length s.seen ≤ length (state_after s e).seen
+grows-after : (s : DiskState) (e : Event) → Begins s e → length s.seen ≤ length (state_after s e).seen
 grows-after s (Wrote at bytes) le = omega (arith, length-overwritten at bytes s.seen le)
 grows-after s Synced le = omega arith
 grows-after s Unchanged le = omega arith
 
-grows-inside : (s : State) (e : Event) → Begins s e → length (state_inside s e).seen ≤ length (state_after s e).seen
+grows-inside : (s : DiskState) (e : Event) → Begins s e → length (state_inside s e).seen ≤ length (state_after s e).seen
 grows-inside s (Wrote at bytes) le = omega arith
 grows-inside s Synced le = omega arith
 grows-inside s Unchanged le = omega arith
 
-abbrev seen_length : State → ℕ
+abbrev seen_length : DiskState → ℕ
 seen_length s = length s.seen
 
-seen-grows : (s : State) (es : List Event) (m : ℕ) → begin_within s es ≡ true → seen_length (state_at s es m) ≤ seen_length (state_at s es (2 * length es))
+seen-grows : (s : DiskState) (es : List Event) (m : ℕ) → begin_within s es ≡ true → seen_length (state_at s es m) ≤ seen_length (state_at s es (2 * length es))
 seen-grows s [] m ok = omega arith
 seen-grows s (e ∷ es) zero ok =
     let first = begins-first s e es ok in
@@ -99,7 +97,7 @@ seen-grows s (e ∷ es) (suc (suc m)) ok =
 -- ---- what a stop leaves
 
 -- It is one of the images of the state, no longer than what a read gives, and reached by each write to that.
-pub record IsLeft (torn : Torn) (s : State) : Type 0 where
+pub record IsLeft (torn : Torn) (s : DiskState) : Type 0 where
   pub image : left_in s (left_as torn s)
   pub short : length (left_as torn s) ≤ length s.seen
   pub begins : (at : ℕ) → at ≤ length s.seen → MayTear torn at (left_as torn s)
@@ -109,7 +107,7 @@ left-settled Old bytes = record { image = refl; short = omega arith; begins = λ
 left-settled New bytes = record { image = refl; short = omega arith; begins = λ at le. le }
 left-settled (Fill byte) bytes = record { image = refl; short = omega arith; begins = λ at le. le }
 
-left-wrote : (torn : Torn) (s : State) (at : ℕ) (bytes : List ℕ) → at ≤ length s.seen → IsLeft torn s → IsLeft torn (state_after s (Wrote at bytes))
+left-wrote : (torn : Torn) (s : DiskState) (at : ℕ) (bytes : List ℕ) → at ≤ length s.seen → IsLeft torn s → IsLeft torn (state_after s (Wrote at bytes))
 left-wrote Old s at bytes le left = record {
   image = (s.settled, left.image, torn-same at (length bytes) s.settled);
   short = omega (arith, left.short, length-overwritten at bytes s.seen le);
@@ -132,17 +130,17 @@ left-wrote (Fill byte) s at bytes le left =
       begins = λ k within. omega (arith, reached, many, length-overwritten at bytes s.seen le, length-overwritten at put f begun);
     }
 
-left-after : (torn : Torn) (s : State) (e : Event) → Begins s e → IsLeft torn s → IsLeft torn (state_after s e)
+left-after : (torn : Torn) (s : DiskState) (e : Event) → Begins s e → IsLeft torn s → IsLeft torn (state_after s e)
 left-after torn s (Wrote at bytes) le left = left-wrote torn s at bytes le left
 left-after torn s Synced le left = left-settled torn s.seen
 left-after torn s Unchanged le left = left
 
-left-inside : (torn : Torn) (s : State) (e : Event) → Begins s e → IsLeft torn s → IsLeft torn (state_inside s e)
+left-inside : (torn : Torn) (s : DiskState) (e : Event) → Begins s e → IsLeft torn s → IsLeft torn (state_inside s e)
 left-inside torn s (Wrote at bytes) le left = left-wrote torn s at bytes le left
 left-inside torn s Synced le left = left
 left-inside torn s Unchanged le left = left
 
-left-at : (torn : Torn) (s : State) (es : List Event) (m : ℕ) → begin_within s es ≡ true → IsLeft torn s → IsLeft torn (state_at s es m)
+left-at : (torn : Torn) (s : DiskState) (es : List Event) (m : ℕ) → begin_within s es ≡ true → IsLeft torn s → IsLeft torn (state_at s es m)
 left-at torn s [] m ok left = left
 left-at torn s (e ∷ es) zero ok left = left
 left-at torn s (e ∷ es) (suc zero) ok left = left-inside torn s e (begins-first s e es ok) left
@@ -150,7 +148,7 @@ left-at torn s (e ∷ es) (suc (suc m)) ok left =
     left-at torn (state_after s e) es m (begins-rest s e es ok) (left-after torn s e (begins-first s e es ok) left)
 
 -- what a write and a sync make of it
-pub left_as-wrote : (torn : Torn) (s : State) (at : ℕ) (bytes : List ℕ) → left_as torn (state_after s (Wrote at bytes)) ≡ torn_write torn at bytes (left_as torn s)
+pub left_as-wrote : (torn : Torn) (s : DiskState) (at : ℕ) (bytes : List ℕ) → left_as torn (state_after s (Wrote at bytes)) ≡ torn_write torn at bytes (left_as torn s)
 left_as-wrote Old s at bytes = refl
 left_as-wrote New s at bytes = refl
 left_as-wrote (Fill byte) s at bytes = refl
@@ -174,14 +172,14 @@ event-passed written entry call passed is =
     ∙ ap (λ (c : DiskCall). event_of_call c (slice_range written entry.start (entry.start + entry.count))) is
 
 -- but for a write the state inside a call is that before it
-quiet-inside : (s : State) (call : DiskCall) (put : List ℕ) → ((x y : ℕ) → call ≡ Write x y → ⊥) → state_inside s (event_of_call call put) ≡ s
+quiet-inside : (s : DiskState) (call : DiskCall) (put : List ℕ) → ((x y : ℕ) → call ≡ Write x y → ⊥) → state_inside s (event_of_call call put) ≡ s
 quiet-inside s Size put other = refl
 quiet-inside s (Read x y) put other = refl
 quiet-inside s (Write x y) put other = absurd (other x y refl)
 quiet-inside s Sync put other = refl
 
 -- and but for a sync so is the state after it
-quiet-after : (s : State) (call : DiskCall) (put : List ℕ) → ((x y : ℕ) → call ≡ Write x y → ⊥) → (call ≡ Sync → ⊥) → state_after s (event_of_call call put) ≡ s
+quiet-after : (s : DiskState) (call : DiskCall) (put : List ℕ) → ((x y : ℕ) → call ≡ Write x y → ⊥) → (call ≡ Sync → ⊥) → state_after s (event_of_call call put) ≡ s
 quiet-after s Size put other unsynced = refl
 quiet-after s (Read x y) put other unsynced = refl
 quiet-after s (Write x y) put other unsynced = absurd (other x y refl)
@@ -235,8 +233,8 @@ module _ (m : Recording) where
   -- before the first call
   pub replays-none : (torn : Torn) (seen left : List ℕ) → seen ≡ m.first.items → left ≡ m.first.items → Replays torn (state_of m 0) seen left
   replays-none torn seen left sees leaves =
-      let start : State = settled_state m.first.items in
-      subst (λ (s : State). Replays torn s seen left) (sym (state_at-zero start (history_of m)))
+      let start : DiskState = settled_state m.first.items in
+      subst (λ (s : DiskState). Replays torn s seen left) (sym (state_at-zero start (history_of m)))
       (record { sees = sees; leaves = leaves ∙ sym (left_as-settled torn m.first.items) })
 
 -- one call of a recording
@@ -260,17 +258,17 @@ module _ (m : Recording) (i : ℕ) (entry : Entry) (lt : i < length m.entries.it
   module _ (torn : Torn) (seen left : List ℕ) (before : Replays torn (state_of m (2 * i)) seen left) where
     pub replays-failed : entry.passed ≡ false → Replays torn (state_of m (2 * (i + 1))) seen left
     replays-failed failed =
-        subst (λ (t : State). Replays torn t seen left) (sym (state-next m i entry lt is ∙ ap (state_after (state_of m (2 * i))) (event-failed m.written.items entry failed))) before
+        subst (λ (t : DiskState). Replays torn t seen left) (sym (state-next m i entry lt is ∙ ap (state_after (state_of m (2 * i))) (event-failed m.written.items entry failed))) before
 
     pub replays-quiet : entry.passed ≡ true → ((x y : ℕ) → entry.call ≡ Write x y → ⊥) → (entry.call ≡ Sync → ⊥) → Replays torn (state_of m (2 * (i + 1))) seen left
     replays-quiet passed other unsynced =
         let same = quiet-after (state_of m (2 * i)) entry.call (slice_range m.written.items entry.start (entry.start + entry.count)) other unsynced in
-        subst (λ (t : State). Replays torn t seen left)
+        subst (λ (t : DiskState). Replays torn t seen left)
         (sym (state-next m i entry lt is ∙ ap (state_after (state_of m (2 * i))) (event-passed m.written.items entry entry.call passed refl) ∙ same)) before
 
     pub replays-synced : entry.passed ≡ true → entry.call ≡ Sync → (now : List ℕ) → now ≡ seen → Replays torn (state_of m (2 * (i + 1))) seen now
     replays-synced passed call now same =
-        subst (λ (t : State). Replays torn t seen now)
+        subst (λ (t : DiskState). Replays torn t seen now)
         (sym (state-next m i entry lt is ∙ ap (state_after (state_of m (2 * i))) (event-passed m.written.items entry Sync passed call)))
         (record { sees = before.sees; leaves = same ∙ before.sees ∙ sym (left_as-settled torn (state_of m (2 * i)).seen) })
 
@@ -295,7 +293,7 @@ module _ (m : Recording) (i : ℕ) (entry : Entry) (lt : i < length m.entries.it
 
       pub write-replays : (sees leaves : List ℕ) → sees ≡ overwritten at bytes seen → leaves ≡ torn_write torn at bytes left → Replays torn (state_of m (2 * (i + 1))) sees leaves
       write-replays sees leaves written torn_so =
-          subst (λ (t : State). Replays torn t sees leaves) (sym next)
+          subst (λ (t : DiskState). Replays torn t sees leaves) (sym next)
           (record {
             sees = written ∙ ap (overwritten at bytes) before.sees;
             leaves = torn_so ∙ ap (torn_write torn at bytes) before.leaves ∙ sym (left_as-wrote torn (state_of m (2 * i)) at bytes);

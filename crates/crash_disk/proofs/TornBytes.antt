@@ -1,9 +1,7 @@
 -- What a torn range, and a write that succeeds, leave of the bytes.
 use Rattle.std.proofs.Common.{◌≡◌, ℕ, ◌+◌, ◌-◌, ◌≤◌, ◌<◌, List, [], ◌∷◌, ◌++◌, length, get_or, take, drop, refl, sym, ◌∙◌, ap, arith, length-append, append_assoc}
-use Rattle.std.proofs.lemmas.List.{length-take, take-take, drop-drop, take_at, drop_at, get_or-take, get_or-drop, get_or-append_right, take-append-drop}
+use Rattle.store_spec.proofs.Common.{IsTorn, drop-drop, drop_at, get_or-append_right, get_or-drop, get_or-take, length-take, overwritten, slice_range, take-append-drop, take-take, take_at}
 use Rattle.std.proofs.lemmas.Slice.{between_is}
-use Rattle.std.specs.Prelude.{slice_range}
-use Rattle.store_spec.specs.Disk.{overwritten, IsTorn}
 
 -- the same front gives the same shorter front
 take-same : (a b : ℕ) (xs ys : List ℕ) → a ≤ b → take b xs ≡ take b ys → take a xs ≡ take a ys

@@ -2,7 +2,7 @@
 use Rattle.std.specs.Prelude.{◌≡◌, ℕ, ◌+◌, ◌≤◌, nat_le, Bool, ◌&&◌, if◌then◌else◌, List, length}
 use Rattle.store_spec.specs.Fault.{next_count}
 use Rattle.crash_disk.specs.Calls.{MadeCall, made_calls_in, events_of, with_one_more}
-use Rattle.crash_disk.specs.History.{Event, State, settled_state, state_at, left_at}
+use Rattle.crash_disk.specs.History.{Event, DiskState, settled_state, state_at, left_at}
 use Rattle.crash_disk.specs.declared.recording.Recording.{Recording}
 
 -- the record of all calls, in order
@@ -28,7 +28,7 @@ abbrev pub history_of : Recording → List Event
 history_of recording = events_of (made_calls recording)
 
 -- the state at a moment
-abbrev pub state_of : Recording → ℕ → State
+abbrev pub state_of : Recording → ℕ → DiskState
 state_of recording m = state_at (settled_state recording.first.items) (history_of recording) m
 
 -- what a crash at a moment may leave

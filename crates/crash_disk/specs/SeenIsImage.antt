@@ -5,7 +5,7 @@ use Rattle.std.proofs.lemmas.Bool.{and_parts, leb-true}
 use Rattle.std.proofs.lemmas.List.{drop_at, length-map, length-take, take_at}
 use Rattle.store_spec.specs.Disk.{overwritten, IsTorn}
 use Rattle.crash_disk.specs.Calls.{event_of, made_call}
-use Rattle.crash_disk.specs.History.{Event, State, settled_state, state_after, state_at, left_in, left_at, seen_after, begin_within}
+use Rattle.crash_disk.specs.History.{Event, DiskState, settled_state, state_after, state_at, left_in, left_at, seen_after, begin_within}
 use Rattle.crash_disk.specs.History.Event.{Wrote, Synced, Unchanged}
 use Rattle.crash_disk.specs.Notes.{made_calls, history_of, left_of}
 use Rattle.crash_disk.specs.declared.recording.Recording.{Recording}
@@ -23,18 +23,18 @@ overwritten-torn at bytes old le = record {
 }
 
 -- two moments on, one call less is left
-pub later : (s : State) (x : Event) (es : List Event) (m n : ℕ) → m ≡ suc (suc n) → state_at s (x ∷ es) m ≡ state_at (state_after s x) es n
+pub later : (s : DiskState) (x : Event) (es : List Event) (m n : ℕ) → m ≡ suc (suc n) → state_at s (x ∷ es) m ≡ state_at (state_after s x) es n
 later s x es m n e = ap (state_at s (x ∷ es)) e
 
 -- where no call is left the state stays
-pub state_at-end : (s : State) (es : List Event) (m : ℕ) → 2 * length es ≤ m → state_at s es m ≡ state_at s es (2 * length es)
+pub state_at-end : (s : DiskState) (es : List Event) (m : ℕ) → 2 * length es ≤ m → state_at s es m ≡ state_at s es (2 * length es)
 state_at-end s [] m le = refl
 state_at-end s (x ∷ es) zero le = absurd (omega arith)
 state_at-end s (x ∷ es) (suc zero) le = absurd (omega arith)
 state_at-end s (x ∷ es) (suc (suc m)) le = state_at-end (state_after s x) es m (omega arith) ∙ sym (later s x es _ (2 * length es) (omega arith))
 
 -- what a read gives may be left, whatever the moment
-pub seen-left : (s : State) (es : List Event) (m : ℕ) → begin_within s es ≡ true → left_in s s.seen → left_in (state_at s es m) (state_at s es m).seen
+pub seen-left : (s : DiskState) (es : List Event) (m : ℕ) → begin_within s es ≡ true → left_in s s.seen → left_in (state_at s es m) (state_at s es m).seen
 seen-left s [] m ok now = now
 seen-left s (e ∷ es) zero ok now = now
 seen-left s (Wrote at bytes ∷ es) (suc zero) ok now = (s.seen, now, overwritten-torn at bytes s.seen (leb-true _ _ (and_parts (nat_le at (length s.seen)) _ ok).0))
@@ -49,7 +49,7 @@ seen-left s (Unchanged ∷ es) (suc (suc m)) ok now = seen-left s es m ok now
 pub seen-left_at : (first bytes : List ℕ) (es : List Event) (calls : ℕ) → length es ≤ calls → begin_within (settled_state first) es ≡ true → bytes ≡ seen_after first es → left_at first es (2 * calls) bytes
 seen-left_at first bytes es calls le ok is =
     let s = settled_state first in
-    let P : State → Type 0 = λ t. left_in t bytes in
+    let P : DiskState → Type 0 = λ t. left_in t bytes in
     let Q : List ℕ → Type 0 = λ xs. left_in (state_at s es (2 * length es)) xs in
     subst P (sym (state_at-end s es (2 * calls) (omega arith))) (subst Q (sym is) (seen-left s es (2 * length es) ok refl))
 

@@ -1,6 +1,6 @@
 -- What a stop leaves of a disk in memory, by what becomes of the bytes that are not settled.
 use Rattle.std.specs.Prelude.{◌≡◌, ℕ, ◌≤◌, Bool, List, [], ◌∷◌, length, replicate, if◌then◌else◌}
-use Rattle.crash_disk.specs.History.{State}
+use Rattle.crash_disk.specs.History.{DiskState}
 use Rattle.crash_disk.specs.declared.stop.Torn.{Torn}
 use Rattle.crash_disk.specs.declared.stop.Torn.TheVariants.{Old, New, Fill}
 use Rattle.store_spec.specs.Disk.{after_calls, inside_next, overwritten}
@@ -16,7 +16,7 @@ filled byte bytes (range ∷ ranges) = overwritten range.0 (replicate range.1 by
 
 -- What a stop in this state leaves: what was settled, what a read gives, or what was settled with each range that was
 -- written since then filled.
-abbrev pub left_as : Torn → State → List ℕ
+abbrev pub left_as : Torn → DiskState → List ℕ
 left_as Old s = s.settled
 left_as New s = s.seen
 left_as (Fill byte) s = filled byte s.settled s.ranges
@@ -35,6 +35,6 @@ MayTear New at left = at ≤ length left
 MayTear (Fill byte) at left = at ≤ length left
 
 -- what a read gives in a state, and what a stop leaves
-pub record Replays (torn : Torn) (s : State) (seen left : List ℕ) : Type 0 where
+pub record Replays (torn : Torn) (s : DiskState) (seen left : List ℕ) : Type 0 where
   pub sees : seen ≡ s.seen
   pub leaves : left ≡ left_as torn s

@@ -2,7 +2,7 @@
 
 ghost use Rattle.std.specs.Prelude.{◌≡◌, ℕ, None, true, OnOk, OnErr};
 ghost use Rattle.store_spec.specs.Fault.{next_count, CountsFault};
-ghost use Rattle.outside_io.specs.Count.{count_of};
+ghost use Rattle.outside_io.specs.Count.{count_value};
 
 use crate::disk::Disk;
 use crate::lock::FileLock;
@@ -52,8 +52,8 @@ pub struct FileDisk<'a, F: Files> {
 impl<'a, F: Files> FileDisk<'a, F> {
     /// A disk over the file of this path. It opens nothing yet.
     pub fn new(rt: &'a F, path: &'a str) -> FileDisk<'a, F>
-        ensures no_calls { count_of result.calls ≡ 0 }
-        ensures no_faults { count_of result.faults ≡ 0 }
+        ensures no_calls { count_value result.calls ≡ 0 }
+        ensures no_faults { count_value result.faults ≡ 0 }
     {
         FileDisk {
             files: rt,
@@ -83,8 +83,8 @@ impl<'a, F: Files> FileDisk<'a, F> {
 
     /// Counts a call, and hands on what came of it.
     fn count<T: Drop>(&mut self, outcome: io::Result<T>) -> Result<T, Failed>
-        ensures calls { count_of self.new.calls ≡ next_count (count_of self.old.calls) }
-        ensures fault { CountsFault result (count_of self.old.faults) (count_of self.new.faults) }
+        ensures calls { count_value self.new.calls ≡ next_count (count_value self.old.calls) }
+        ensures fault { CountsFault result (count_value self.old.faults) (count_value self.new.faults) }
     {
         self.calls.add_one();
         self.faults.counted(outcome)
@@ -288,9 +288,9 @@ where
 
     ghost may_leave = { λ _ _ _. ⊥ };
 
-    ghost calls = { λ disk. count_of disk.calls };
+    ghost calls = { λ disk. count_value disk.calls };
 
-    ghost faults = { λ disk. count_of disk.faults };
+    ghost faults = { λ disk. count_value disk.faults };
 
     ghost leads_to = { λ _ _. Unit {0} };
 

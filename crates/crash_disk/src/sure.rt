@@ -12,11 +12,11 @@ pub struct SureDisk {
 }
 
 impl SureDisk {
-    ghost use Rattle.outside_io.specs.Count.{count_of};
+    ghost use Rattle.outside_io.specs.Count.{count_value};
 
     /// A disk that has made no calls.
     pub fn new() -> SureDisk
-        ensures { count_of result.calls ≡ 0 }
+        ensures { count_value result.calls ≡ 0 }
     {
         SureDisk {
             calls: Count::zero(),
@@ -26,13 +26,13 @@ impl SureDisk {
 
 impl Disk for SureDisk {
     ghost use Rattle.std.proofs.Common.{arith};
-    ghost use Rattle.outside_io.specs.Count.{count_of};
+    ghost use Rattle.outside_io.specs.Count.{count_value};
 
     ghost seen = { λ _. None };
 
     ghost may_leave = { λ _ _ _. ⊥ };
 
-    ghost calls = { λ disk. count_of disk.calls };
+    ghost calls = { λ disk. count_value disk.calls };
 
     ghost faults = { λ _. 0 };
 

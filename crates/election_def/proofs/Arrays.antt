@@ -1,14 +1,13 @@
 -- The items of an array, read one after another.
 use Rattle.std.proofs.Common.{◌≡◌, ℕ, suc, ◌+◌, ◌<◌, ◌≤◌, List, [], ◌∷◌, ◌++◌, length, get_or, map, take, drop, Option, Some, sym, ap, ◌∙◌, subst, arith, add-one, drop-cons}
+use Rattle.store_spec.proofs.Common.{AllZip, map-append, take_all, take_more}
 use Rattle.std.proofs.Math.ListN.{get_or-map, length-map}
-use Rattle.std.proofs.lemmas.List.{take_more, take_all, map-append}
-use Rattle.std.specs.List.{AllZip}
 use Rattle.std.specs.Prelude.{IsSomeAnd}
 use Rattle.serde_json.specs.Data.{Data, Items}
 use Rattle.serde_json.specs.Find.{as_array}
 use Rattle.serde_json.specs.View.{view, items_view, items_of}
 use Rattle.serde_json.specs.declared.value.Value.{Value}
-use Rattle.election_def.specs.Text.{listed, IsArrayOf}
+use Rattle.election_def.specs.Text.{array_items, IsArrayOf}
 use Rattle.election_def.proofs.Zips.{listed-items_of, one_more, partner}
 
 -- what is left is an item and the rest
@@ -25,13 +24,13 @@ listed_items d vs items is same = ap (λ vs. Some (items_of (map view vs))) same
 
 pub in_array : {A : Type 0} (R : Data → A → Type 0) (xs : List A) (d : Data) (vs items : List Value) → Some (items_view vs) ≡ as_array d → items ≡ vs → AllZip R (map view items) xs → IsArrayOf R xs d
 in_array R xs d vs items is same all =
-    let P : Option Items → Type 0 = λ found. IsSomeAnd found (λ items. AllZip R (listed items) xs) in
+    let P : Option Items → Type 0 = λ found. IsSomeAnd found (λ items. AllZip R (array_items items) xs) in
     let Q : List Data → Type 0 = λ ds. AllZip R ds xs in
     subst P (listed_items d vs items is same) (subst Q (sym (listed-items_of (map view items))) all)
 
 pub from_array : {A : Type 0} (R : Data → A → Type 0) (xs : List A) (d : Data) (vs items : List Value) → Some (items_view vs) ≡ as_array d → items ≡ vs → IsArrayOf R xs d → AllZip R (map view items) xs
 from_array R xs d vs items is same all =
-    let P : Option Items → Type 0 = λ found. IsSomeAnd found (λ items. AllZip R (listed items) xs) in
+    let P : Option Items → Type 0 = λ found. IsSomeAnd found (λ items. AllZip R (array_items items) xs) in
     let Q : List Data → Type 0 = λ ds. AllZip R ds xs in
     subst Q (listed-items_of (map view items)) (subst P (sym (listed_items d vs items is same)) all)
 

@@ -1,9 +1,8 @@
 -- The keys of an object, beside the keys that it may have.
 use Rattle.std.proofs.Common.{◌≡◌, ℕ, zero, suc, ◌⊎◌, inl, inr, List, [], ◌∷◌, map, Option, Some, IsSome, String, Global, Bool, true, false, true≢false, bytes_eq, string_bytes, Bor, refl, sym, ap, ◌∙◌, subst, arith}
+use Rattle.store_spec.proofs.Common.{bytes_eq-Decides, list_all, list_any}
 use Rattle.std.specs.Prelude.{◌||◌, ◌&&◌, Contains}
-use Rattle.std.specs.List.{list_any, list_all}
 use Rattle.std.specs.Map.{keys_of}
-use Rattle.std.proofs.lemmas.Slice.Eq.{bytes_eq-Decides}
 use Rattle.serde_json.specs.Data.{Data, null, boolean, number, string, array, object, Members}
 use Rattle.serde_json.specs.Find.{get, get_member, as_object}
 use Rattle.serde_json.specs.View.{members_view}

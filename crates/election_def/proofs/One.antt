@@ -1,14 +1,13 @@
 -- A value describes one election at most.
 use Rattle.std.proofs.Common.{◌≡◌, ◌↔◌, ℕ, suc, inl, inr, Result, Ok, Err, IsSome, List, [], ◌∷◌, length, Option, None, Some, refl, sym, ap, ap₂, ◌∙◌, subst}
-use Rattle.std.specs.Prelude.{IfOk, IfSome, IsSomeAnd, codes, option_and_then}
+use Rattle.store_spec.proofs.Common.{Contest, Election, IfOk, IfSome, IsElection, codes, in_version, most_choices, none-some, same_Some}
+use Rattle.std.specs.Prelude.{IsSomeAnd, option_and_then}
 use Rattle.std.specs.Result.{result_ok}
-use Rattle.std.proofs.lemmas.Option.{none-some, same_Some}
 use Rattle.serde_json.specs.Data.{Data}
 use Rattle.serde_json.specs.Find.{get, as_array, as_str}
 use Rattle.serde_json.specs.Read.{read}
-use Rattle.store_spec.specs.Election.{Contest, Election, IsElection, in_version, most_choices}
 use Rattle.election_def.proofs.Salts.{one_salt}
-use Rattle.election_def.specs.Text.{HasNoKeyBut, election_keys, listed, number_in, number_at, contest_set, IsArrayOf, IsContestIn, IsStyleIn, IsSaltText, IsVersionIn, IsElectionIn, Describes}
+use Rattle.election_def.specs.Text.{HasNoKeyBut, election_keys, array_items, number_in, number_by_key, contest_set, IsArrayOf, IsContestIn, IsStyleIn, IsSaltText, IsVersionIn, IsElectionIn, Describes}
 use Rattle.ballot_record.specs.Contest.{contests_of}
 use Rattle.ballot_record.specs.declared.contest.Contest as program
 use Rattle.election_def.proofs.Zips.{one_list}
@@ -19,7 +18,7 @@ both None P Q p q f = absurd p
 both (Some x) P Q p q f = f x p q
 
 pub one_array : {A : Type 0} (R : Data → A → Type 0) → ((x : Data) (y z : A) → R x y → R x z → y ≡ z) → (d : Data) (xs ys : List A) → IsArrayOf R xs d → IsArrayOf R ys d → xs ≡ ys
-one_array R one d xs ys all more = both (as_array d) _ _ all more (λ items a b. one_list R one (listed items) xs ys a b)
+one_array R one d xs ys all more = both (as_array d) _ _ all more (λ items a b. one_list R one (array_items items) xs ys a b)
 
 same_number : (o : Option ℕ) (m n : ℕ) → o ≡ Some m → o ≡ Some n → m ≡ n
 same_number o m n p q = same_Some m n (sym p ∙ q)
@@ -35,14 +34,14 @@ none_number o n none some = none-some n (sym (ap (option_and_then number_in) non
 pub one_contest : (most : ℕ) (d : Data) (a b : Contest) → IsContestIn most d a → IsContestIn most d b → a ≡ b
 one_contest most d a b x y =
     let make : ℕ → ℕ → Contest = λ choices allowed. record { choices = choices; allowed = allowed } in
-    ap₂ make (same_number (number_at (codes "choices") d) a.choices b.choices x.choices y.choices) (same_number (number_at (codes "allowed") d) a.allowed b.allowed x.allowed y.allowed)
+    ap₂ make (same_number (number_by_key (codes "choices") d) a.choices b.choices x.choices y.choices) (same_number (number_by_key (codes "allowed") d) a.allowed b.allowed x.allowed y.allowed)
 
 pub one_style : (contests : ℕ) (d : Data) (s t : ℕ) → IsStyleIn contests d s → IsStyleIn contests d t → s ≡ t
 one_style contests d s t x y =
     x.set ∙ ap contest_set (one_array (λ item k. number_in item ≡ Some k) (λ item j k p q. same_number (number_in item) j k p q) d x.numbers y.numbers x.are y.are) ∙ sym y.set
 
 pub same_version : (d : Data) (v w : ℕ) → IsVersionIn d v → IsVersionIn d w → v ≡ w
-same_version d v w (inl x) (inl y) = same_number (number_at (codes "version") d) v w x y
+same_version d v w (inl x) (inl y) = same_number (number_by_key (codes "version") d) v w x y
 same_version d v w (inl x) (inr (none, one)) = absurd (none_number (get (codes "version") d) v none x)
 same_version d v w (inr (none, one)) (inl y) = absurd (none_number (get (codes "version") d) w none y)
 same_version d v w (inr x) (inr y) = x.1 ∙ sym y.1
@@ -61,8 +60,8 @@ pub record AreParts (d : Data) (e : Election) : Type 0 where
   pub version : IsVersionIn d e.version
   pub contests : AreContestsAt (most_choices e) e.contests d
   pub styles : IsSomeAnd (get (codes "styles") d) (IsArrayOf (IsStyleIn (length e.contests)) e.styles)
-  pub limit : number_at (codes "limit") d ≡ Some e.limit
-  pub bits : number_at (codes "bits") d ≡ Some e.bits
+  pub limit : number_by_key (codes "limit") d ≡ Some e.limit
+  pub bits : number_by_key (codes "bits") d ≡ Some e.bits
   pub salt : IsSomeAnd (option_and_then as_str (get (codes "salt") d)) (λ text. IsSaltText text e.salt)
 
 pub parts_of : (d : Data) (e : Election) → IsElectionIn d e → AreParts d e
@@ -92,8 +91,8 @@ same_parts d e f x y =
     let contests : e.contests ≡ f.contests = same_contests d (most_choices e) (most_choices f) e.contests f.contests (same_most e.version f.version version) x.contests y.contests in
     let P : List Contest → Type 0 = λ contests. IsSomeAnd (get (codes "styles") d) (IsArrayOf (IsStyleIn (length contests)) e.styles) in
     let styles : e.styles ≡ f.styles = both (get (codes "styles") d) _ _ (subst P contests x.styles) y.styles (λ v a b. one_array (IsStyleIn (length f.contests)) (one_style (length f.contests)) v e.styles f.styles a b) in
-    let limit : e.limit ≡ f.limit = same_number (number_at (codes "limit") d) e.limit f.limit x.limit y.limit in
-    let bits : e.bits ≡ f.bits = same_number (number_at (codes "bits") d) e.bits f.bits x.bits y.bits in
+    let limit : e.limit ≡ f.limit = same_number (number_by_key (codes "limit") d) e.limit f.limit x.limit y.limit in
+    let bits : e.bits ≡ f.bits = same_number (number_by_key (codes "bits") d) e.bits f.bits x.bits y.bits in
     let salt : e.salt ≡ f.salt = both (option_and_then as_str (get (codes "salt") d)) _ _ x.salt y.salt (λ text a b. one_salt text _ _ a b) in
     let step_1 : ◌≡◌ {A = Election} e (record e { contests = f.contests; styles = f.styles }) = ap₂ (λ (c : List Contest) (s : List ℕ). let g : Election = record e { contests = c; styles = s } in g) contests styles in
     let step_2 : ◌≡◌ {A = Election} (record e { contests = f.contests; styles = f.styles }) (record f { version = e.version; salt = e.salt }) = ap₂ (λ (l b : ℕ). let g : Election = record f { version = e.version; limit = l; bits = b; salt = e.salt } in g) limit bits in

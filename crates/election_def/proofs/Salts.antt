@@ -1,11 +1,9 @@
 -- The number of a salt's digits, digit by digit.
 use Rattle.std.proofs.Common.{◌≡◌, ℕ, zero, suc, ◌+◌, ◌-◌, ◌*◌, ◌/◌, ◌%◌, ◌^◌, ◌<◌, ◌≤◌, List, [], ◌∷◌, length, get_or, take, refl, sym, ap, ◌∙◌, subst, arith, lit<, pow_mono, pow-add}
+use Rattle.store_spec.proofs.Common.{All, get_or_default, nat_tests, take_all, take_more}
 use Rattle.std.proofs.Math.Nat.{div-div-eq-div-mul, div-eq_of_lt, div-lt_iff_lt-mul, div-one, mod-add-div}
-use Rattle.std.specs.List.{All}
-use Rattle.std.proofs.lemmas.Bool.Decides.{nat_tests}
 use Rattle.std.specs.Prelude.{fold}
 use Rattle.std.proofs.lemmas.List.Sums.{fold-append}
-use Rattle.std.proofs.lemmas.List.{take_more, take_all, get_or_default}
 use Rattle.election_def.specs.Text.{IsSaltDigit, IsSaltText, salt_digit}
 
 abbrev pub grown : ℕ → ℕ → ℕ

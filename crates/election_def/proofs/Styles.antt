@@ -1,16 +1,12 @@
 -- The set of a style's contests, number by number.
 use Rattle.std.proofs.Common.{◌≡◌, ℕ, zero, suc, ◌+◌, ◌-◌, ◌*◌, ◌%◌, ◌^◌, ◌<◌, ◌≤◌, inl, inr, Bool, true, false, cond, leb, List, [], ◌∷◌, length, get_or, map, drop, Option, Some, None, refl, sym, ap, ◌∙◌, arith, bit_or, mod-eq_of_lt, pow_mono, pow-suc}
-use Rattle.std.specs.Prelude.{option_map, option_and_then, All}
-use Rattle.std.specs.List.{AllZip}
-use Rattle.std.specs.List.Sorted.{IsStrictlyIncreasing}
-use Rattle.std.proofs.lemmas.Bool.{le-leb, lt-leb, leb-false, leb-true}
+use Rattle.store_spec.proofs.Common.{AllZip, IsStrictlyIncreasing, drop_all, le-leb, leb-true, lt-leb, none-some, option_and_then_some, option_map, same_Some, sum_by-cons}
+use Rattle.std.specs.Prelude.{option_and_then, All}
+use Rattle.std.proofs.lemmas.Bool.{leb-false}
 use Rattle.std.proofs.lemmas.Nat.{or_comm, or_shifted, pow_below}
-use Rattle.std.proofs.lemmas.List.Sums.{sum_by-cons}
-use Rattle.std.proofs.lemmas.Option.{none-some, same_Some, option_and_then_some}
 use Rattle.ballot_record.proofs.LineNumbers.{chosen}
 use Rattle.ballot_record.proofs.LineGroups.{option_map_some}
 use Rattle.std.proofs.Math.ListN.{length-map}
-use Rattle.std.proofs.lemmas.List.{drop_all}
 use Rattle.serde_json.specs.Data.{Data}
 use Rattle.serde_json.specs.Find.{as_array}
 use Rattle.serde_json.specs.View.{view, items_view}

@@ -1,11 +1,11 @@
 -- Two lists that go together, place by place.
 use Rattle.std.proofs.Common.{◌≡◌, ℕ, zero, suc, ◌<◌, List, [], ◌∷◌, ◌++◌, length, get_or, refl, ap, ◌∙◌, arith}
-use Rattle.std.specs.List.{AllZip}
+use Rattle.store_spec.proofs.Common.{AllZip}
 use Rattle.serde_json.specs.Data.{Data}
 use Rattle.serde_json.specs.View.{items_of}
-use Rattle.election_def.specs.Text.{listed}
+use Rattle.election_def.specs.Text.{array_items}
 
-pub listed-items_of : (ds : List Data) → listed (items_of ds) ≡ ds
+pub listed-items_of : (ds : List Data) → array_items (items_of ds) ≡ ds
 listed-items_of [] = refl
 listed-items_of (d ∷ ds) = ap (λ rest. d ∷ rest) (listed-items_of ds)
 

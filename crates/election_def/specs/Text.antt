@@ -20,16 +20,16 @@ abbrev pub number_in : Data → Option ℕ
 number_in d = option_and_then as_u64 (as_number d)
 
 -- the number at a key
-abbrev pub number_at : List ℕ → Data → Option ℕ
-number_at key d = option_and_then number_in (get key d)
+abbrev pub number_by_key : List ℕ → Data → Option ℕ
+number_by_key key d = option_and_then number_in (get key d)
 
-abbrev pub listed : Items → List Data
-listed no_items = []
-listed (item d ds) = d ∷ listed ds
+abbrev pub array_items : Items → List Data
+array_items no_items = []
+array_items (item d ds) = d ∷ array_items ds
 
 -- the value is an array, whose items describe these, one by one
 abbrev pub IsArrayOf : {A : Type 0} → (Data → A → Type 0) → List A → Data → Type 0
-IsArrayOf R xs d = IsSomeAnd (as_array d) (λ items. AllZip R (listed items) xs)
+IsArrayOf R xs d = IsSomeAnd (as_array d) (λ items. AllZip R (array_items items) xs)
 
 -- ---- the parts of an election
 
@@ -39,8 +39,8 @@ contest_keys = codes "choices" ∷ codes "allowed" ∷ []
 -- a contest of so many choices at most
 pub record IsContestIn (most : ℕ) (d : Data) (contest : Contest) : Type 0 where
   pub no_other_key : HasNoKeyBut contest_keys d
-  pub choices : number_at (codes "choices") d ≡ Some contest.choices
-  pub allowed : number_at (codes "allowed") d ≡ Some contest.allowed
+  pub choices : number_by_key (codes "choices") d ≡ Some contest.choices
+  pub allowed : number_by_key (codes "allowed") d ≡ Some contest.allowed
   pub valid : IsContestUpTo most contest
 
 -- the set of some contests: bit k - 1 stands for contest k
@@ -81,7 +81,7 @@ election_keys =
 -- the number at the key `version`, or 1 where there is no such key
 abbrev pub IsVersionIn : Data → ℕ → Type 0
 IsVersionIn d version =
-    (number_at (codes "version") d ≡ Some version) ⊎ ((get (codes "version") d ≡ None) × (version ≡ 1))
+    (number_by_key (codes "version") d ≡ Some version) ⊎ ((get (codes "version") d ≡ None) × (version ≡ 1))
 
 pub record IsElectionIn (d : Data) (e : Election) : Type 0 where
   pub no_other_key : HasNoKeyBut election_keys d
@@ -90,8 +90,8 @@ pub record IsElectionIn (d : Data) (e : Election) : Type 0 where
       (IsArrayOf (IsContestIn (most_choices e)) e.contests)
   pub styles : IsSomeAnd (get (codes "styles") d)
       (IsArrayOf (IsStyleIn (length e.contests)) e.styles)
-  pub limit : number_at (codes "limit") d ≡ Some e.limit
-  pub bits : number_at (codes "bits") d ≡ Some e.bits
+  pub limit : number_by_key (codes "limit") d ≡ Some e.limit
+  pub bits : number_by_key (codes "bits") d ≡ Some e.bits
   pub salt : IsSomeAnd (option_and_then as_str (get (codes "salt") d))
       (λ text. IsSaltText text e.salt)
   pub valid : IsElection e

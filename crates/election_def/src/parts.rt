@@ -6,7 +6,7 @@ ghost use Rattle.std.specs.Map.{keys_of};
 ghost use Rattle.serde_json.specs.View.{view};
 ghost use Rattle.store_spec.specs.Election as definition;
 ghost use Rattle.ballot_record.specs.Contest.{contest_of};
-ghost use Rattle.election_def.specs.Text.{HasNoKeyBut, IsVersionIn, IsContestIn, IsStyleIn, IsSaltText, IsSaltDigit, contest_keys, salt_digit, number_in, number_at};
+ghost use Rattle.election_def.specs.Text.{HasNoKeyBut, IsVersionIn, IsContestIn, IsStyleIn, IsSaltText, IsSaltDigit, contest_keys, salt_digit, number_in, number_by_key};
 
 use ballot_record::{Contest, MAX_CONTESTS};
 use serde_json::{Map, Value};
@@ -50,11 +50,11 @@ pub fn number(value: &Value, most: u64) -> Option<u64>
 }
 
 /// The number at a key of a value, where it is at most so much.
-pub fn number_at(value: &Value, key: &str, most: u64) -> Option<u64>
-    ensures value { IfSome result (λ n. number_at key.now (view value.now) ≡ Some n) }
+pub fn number_by_key(value: &Value, key: &str, most: u64) -> Option<u64>
+    ensures value { IfSome result (λ n. number_by_key key.now (view value.now) ≡ Some n) }
     ensures at_most { IfSome result (λ n. n ≤ most) }
     ensures refused { IsNone result
-        → (n : ℕ) → number_at key.now (view value.now) ≡ Some n → most < n }
+        → (n : ℕ) → number_by_key key.now (view value.now) ≡ Some n → most < n }
 {
     number(value.get(key)?, most)
 }
@@ -79,8 +79,8 @@ pub fn contest(value: &Value, most: u8) -> Option<Contest>
     if !has_no_key_but(value, &CONTEST_KEYS) {
         return None;
     }
-    let choices = number_at(value, "choices", most as u64)?;
-    let allowed = number_at(value, "allowed", choices)?;
+    let choices = number_by_key(value, "choices", most as u64)?;
+    let allowed = number_by_key(value, "allowed", choices)?;
     let contest = Contest {
         choices: choices as u8,
         allowed: allowed as u8,

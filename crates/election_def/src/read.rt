@@ -7,7 +7,7 @@ ghost use Rattle.ballot_record.specs.Contest.{contests_of};
 ghost use Rattle.election_def.specs.Text.{IsArrayOf, IsContestIn, IsStyleIn, IsElectionIn, Describes, IsElectionText};
 
 use crate::ElectionFault;
-use crate::parts::{contest, has_no_key_but, number_at, salt, style, version};
+use crate::parts::{contest, has_no_key_but, number_by_key, salt, style, version};
 use ballot_record::{Contest, Election, MAX_BITS, MAX_CONTESTS, MAX_LIMIT, most_choices};
 use serde_json::Value;
 use std::alloc::Global;
@@ -71,8 +71,8 @@ fn election_in(alloc: Global, value: &Value) -> Result<Election, ElectionFault>
     }
     let styles_value = value.get("styles").ok_or(ElectionFault::NotElection)?;
     let styles = styles(alloc, styles_value, contests.len())?;
-    let limit = number_at(value, "limit", MAX_LIMIT as u64).ok_or(ElectionFault::NotElection)?;
-    let bits = number_at(value, "bits", MAX_BITS as u64).ok_or(ElectionFault::NotElection)?;
+    let limit = number_by_key(value, "limit", MAX_LIMIT as u64).ok_or(ElectionFault::NotElection)?;
+    let bits = number_by_key(value, "bits", MAX_BITS as u64).ok_or(ElectionFault::NotElection)?;
     let salt_text = value
         .get("salt")
         .and_then(Value::as_str)

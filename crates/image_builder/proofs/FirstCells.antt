@@ -1,8 +1,6 @@
 -- One cell behind those that were read: the bytes so far, and the cell that is wrong.
 use Rattle.std.proofs.Common.{◌≡◌, ℕ, zero, suc, ◌+◌, ◌-◌, ◌*◌, ◌<◌, ◌≤◌, ⊎_elim, List, [], ◌∷◌, ◌++◌, length, take, drop, replicate, refl, sym, ap, subst, ◌∙◌, arith, append_assoc}
-use Rattle.std.proofs.lemmas.Bool.{cases_lt}
-use Rattle.std.proofs.lemmas.List.{append-nil, length-append, length-replicate, replicate-append-replicate, take_at, drop_at}
-use Rattle.std.specs.List.{All}
+use Rattle.store_spec.proofs.Common.{All, Ballot, BeginsAnImage, Election, IsElection, IsValid, MayStand, append-nil, ballot_bytes, cases_lt, cell_at, cell_bytes, cell_count, cell_size, drop_at, header_of, header_size, home_in, length-append, length-replicate, replicate-append-replicate, take_at}
 use Rattle.body_store.proofs.Images.{length_pieces, length-cell_bytes, one_cell_more}
 use Rattle.image_builder.proofs.Reaches.{reaches_empty, reaches_more}
 use Rattle.image_builder.proofs.Reading.{AreRead}
@@ -14,12 +12,7 @@ use Rattle.image_builder.specs.Reaches.{AreReaches, IsReach}
 use Rattle.image_builder.specs.Reading.{IsRefusedBank}
 use Rattle.image_builder.specs.declared.read.ImageFault.{ImageFault}
 use Rattle.image_builder.specs.declared.read.ImageFault.TheVariants.{OtherElection, Damaged, Memory}
-use Rattle.store_spec.specs.Ballot.{Ballot, IsValid}
-use Rattle.store_spec.specs.Damage.{BeginsAnImage, cell_at}
-use Rattle.store_spec.specs.Election.{Election, IsElection, cell_count, cell_size, header_size}
-use Rattle.store_spec.specs.Home.{home_in}
-use Rattle.store_spec.specs.Image.{IsEmptyCell, ballot_bytes, cell_bytes, header_of}
-use Rattle.store_spec.specs.Layout.{MayStand}
+use Rattle.store_spec.specs.Image.{IsEmptyCell}
 use Rattle.ballot_record.proofs.CellFormat.{length-header_of, number_fits}
 
 -- ---- how many cells fit

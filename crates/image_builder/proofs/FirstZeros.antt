@@ -1,7 +1,6 @@
 -- Zeros at the front of bytes.
 use Rattle.std.proofs.Common.{◌≡◌, ℕ, ◌+◌, ◌-◌, ◌<◌, ◌≤◌, ⊎_elim, List, length, get_or, take, drop, replicate, sym, ap, ◌∙◌, arith}
-use Rattle.std.proofs.lemmas.Bool.{cases_lt}
-use Rattle.std.proofs.lemmas.List.{ext_get_or, get_or-drop, get_or-replicate, get_or-take, length-drop, length-replicate, length-take, length-take-le}
+use Rattle.store_spec.proofs.Common.{cases_lt, ext_get_or, get_or-drop, get_or-replicate, get_or-take, length-drop, length-replicate, length-take, length-take-le}
 
 -- each of the first bytes is 0
 pub zeros_front : (bytes : List ℕ) (n : ℕ) → n ≤ length bytes → ((k : ℕ) → k < n → get_or bytes k 0 ≡ 0) → take n bytes ≡ replicate n 0

@@ -1,8 +1,6 @@
 -- The first wrong cell is the first that fails one of four tests.
 use Rattle.std.proofs.Common.{◌≡◌, ℕ, zero, suc, ◌+◌, ◌-◌, ◌*◌, ◌<◌, ◌≤◌, ◌⊎◌, inl, inr, ⊎_elim, List, [], ◌∷◌, ◌++◌, length, get_or, take, drop, sym, ap, subst, ◌∙◌, arith}
-use Rattle.std.proofs.lemmas.Bool.{cases_lt}
-use Rattle.std.proofs.lemmas.List.{drop-drop, drop-take, ext_get_or, take-take}
-use Rattle.std.proofs.lemmas.List.FromFn.{get_or-map-range_with_len, length-map-range_with_len}
+use Rattle.store_spec.proofs.Common.{Ballot, BeginsAnImage, Election, IsCellOf, IsElection, IsImageOf, MayStand, bank_size, cases_lt, cell_at, cell_bytes, cell_count, cell_size, drop-drop, drop-take, ext_get_or, get_or-map-range_with_len, header_of, header_size, home_in, length-map-range_with_len, number_at, numbers_in, take-take}
 use Rattle.ballot_record.proofs.BallotNumbers.{length-numbers_of}
 use Rattle.ballot_record.proofs.CellCases.{each_or_one, empty_or_not, held_or_not}
 use Rattle.ballot_record.proofs.BallotSets.{in_order, in_order-IsPermutation, set_of_listing}
@@ -12,13 +10,8 @@ use Rattle.body_store.proofs.Listings.{image_of-IsPermutation}
 use Rattle.image_builder.proofs.Reading.{AreRead, begins_fewer, begins_read, listing_read, number_in_cell}
 use Rattle.image_builder.proofs.Steps.{ballot_read, empty_read, known_read, nothing_read}
 use Rattle.image_builder.proofs.Wrong.{bad_bytes, misplaced, too_many, whole_bank}
-use Rattle.store_spec.specs.Ballot.{Ballot}
-use Rattle.store_spec.specs.Damage.{BeginsAnImage, Fails, IsFirstFailing, IsFirstWrong, IsWrongCell, Test, cell_at, first_cells, first_numbers, number_at}
+use Rattle.store_spec.specs.Damage.{Fails, IsFirstFailing, IsFirstWrong, IsWrongCell, Test, first_cells, first_numbers}
 use Rattle.store_spec.specs.Damage.Test.{Bytes, Home, Order, Limit}
-use Rattle.store_spec.specs.Election.{Election, IsElection, bank_size, cell_count, cell_size, header_size}
-use Rattle.store_spec.specs.Home.{home_in}
-use Rattle.store_spec.specs.Image.{IsCellOf, IsImageOf, cell_bytes, header_of}
-use Rattle.store_spec.specs.Layout.{MayStand, numbers_in}
 
 -- ---- what was read of a cell is its number
 

@@ -1,14 +1,10 @@
 -- Bytes hold one thing.
 use Rattle.std.proofs.Common.{◌≡◌, ℕ, List, Option, Some, None, refl, sym, ◌∙◌, ap, subst, length}
+use Rattle.store_spec.proofs.Common.{A, B, Ballot, Bank, Election, Holds, HoldsSet, IsBallotSet, IsChosen, IsElection, IsMediumOf, IsWithinLimit, bank_of, bank_size, image_of}
 use Rattle.body_store.proofs.BallotSets.{may_hold_set}
 use Rattle.body_store.proofs.Images.{length-image_of}
 use Rattle.image_builder.proofs.MediumParts.{AreBoth, both_of, both_is}
 use Rattle.image_builder.proofs.OneSet.{one_set}
-use Rattle.store_spec.specs.Ballot.{Ballot, IsBallotSet, IsWithinLimit}
-use Rattle.store_spec.specs.Election.{Election, IsElection, bank_size}
-use Rattle.store_spec.specs.Image.{image_of}
-use Rattle.store_spec.specs.Medium.{Bank, Holds, HoldsSet, IsChosen, IsMediumOf, bank_of}
-use Rattle.store_spec.specs.Medium.Bank.{A, B}
 
 -- one bank is read
 pub one_bank : (e : Election) (bytes : List ℕ) (a b : Bank) → IsChosen e bytes a → IsChosen e bytes b → a ≡ b

@@ -1,23 +1,17 @@
 -- The first cells of a bank that were judged: one more, more bytes behind them, and a whole bank.
 use Rattle.std.proofs.Common.{◌≡◌, ◌≢◌, ℕ, ◌+◌, ◌-◌, ◌*◌, ◌<◌, ◌≤◌, ⊎_elim, List, [], ◌++◌, length, take, drop, refl, sym, ap, ap₂, subst, ◌∙◌, arith, append_assoc, mul-le-mul_right}
-use Rattle.std.proofs.Math.Seq.{take-add}
-use Rattle.std.proofs.lemmas.Bool.{cases_lt}
-use Rattle.std.proofs.lemmas.List.{append-nil, drop_at, length-append, length-drop, length-take-le, take_all, take_at, take-append-drop, take-append-le}
+use Rattle.store_spec.proofs.Common.{Ballot, Election, IsElection, IsImageOf, append-nil, bank_size, cases_lt, cell_count, cell_size, cells_of, drop_at, first_cells, header_of, header_size, length-append, length-drop, length-take-le, take-add, take-append-drop, take-append-le, take_all, take_at}
 use Rattle.body_store.proofs.Spelled.{held_own, known_own, spelled}
 use Rattle.image_builder.proofs.FirstCells.{AreNext, fewer_cells, header_in_front, read_in_front}
 use Rattle.image_builder.proofs.Reading.{AreRead, begins_fewer, begins_read, front_read, layout_read, listing_ordered}
 use Rattle.image_builder.proofs.Wrong.{whole_bank}
-use Rattle.image_builder.specs.Cells.{AreCells, AreFirst, AreJudged, ballots_at, bytes_in, end_of, front_of, numbers_read}
+use Rattle.image_builder.specs.Cells.{AreCells, AreFirst, AreJudged, bytes_in, end_of, front_of, numbers_read, spelled_ballots}
 use Rattle.image_builder.specs.Feeding.{Completes, IsFront, IsRefusedPiece}
 use Rattle.image_builder.specs.Reading.{IsRefusedBank}
 use Rattle.image_builder.specs.declared.cells.CellsRead.{CellsRead}
 use Rattle.image_builder.specs.declared.read.ImageFault.{ImageFault}
 use Rattle.image_builder.specs.declared.read.ImageFault.TheVariants.{OtherElection, Damaged, Memory}
 use Rattle.body_store.specs.Held.{Shows, spelled_in}
-use Rattle.store_spec.specs.Ballot.{Ballot}
-use Rattle.store_spec.specs.Damage.{first_cells}
-use Rattle.store_spec.specs.Election.{Election, IsElection, bank_size, cell_count, cell_size, header_size}
-use Rattle.store_spec.specs.Image.{IsImageOf, cells_of, header_of}
 use Rattle.ballot_record.proofs.CellFormat.{length-header_of, number_fits}
 
 -- cells that were read so, with these ballots, are the first of the bank
@@ -29,7 +23,7 @@ first_as e numbers reaches ballots bank election cells front within =
     let behind : drop header_size bank ≡ bytes_in e numbers ballots ++ rest =
     ap (drop header_size) (sym (take-append-drop (end_of e numbers) bank) ∙ ap (λ bytes. bytes ++ rest) front ∙ append_assoc (header_of e) (bytes_in e numbers ballots) rest)
     ∙ drop_at (header_of e) (bytes_in e numbers ballots ++ rest) header_size (length-header_of e) in
-    let same : ballots ≡ ballots_at e numbers bank =
+    let same : ballots ≡ spelled_ballots e numbers bank =
     sym (ap (spelled_in e numbers) behind ∙ spelled e ballots numbers rest election cells.valid (known_own ballots numbers cells.same) ∙ held_own e ballots numbers held.listing cells.same) in
     record {
       cells = subst (λ (bs : List Ballot). AreCells e numbers reaches bs) same cells;
@@ -38,18 +32,18 @@ first_as e numbers reaches ballots bank election cells front within =
     }
 
 -- the bank is these cells and what stands behind them
-pub bank_is : (e : Election) (numbers reaches bank : List ℕ) → AreFirst e numbers reaches bank → front_of e numbers (ballots_at e numbers bank) ++ drop (end_of e numbers) bank ≡ bank
+pub bank_is : (e : Election) (numbers reaches bank : List ℕ) → AreFirst e numbers reaches bank → front_of e numbers (spelled_ballots e numbers bank) ++ drop (end_of e numbers) bank ≡ bank
 bank_is e numbers reaches bank first = ap (λ bytes. bytes ++ drop (end_of e numbers) bank) (sym first.bytes) ∙ take-append-drop (end_of e numbers) bank
 
 pub first_header : (e : Election) (numbers reaches bank : List ℕ) → AreFirst e numbers reaches bank → take header_size bank ≡ header_of e
 first_header e numbers reaches bank first =
-    ap (take header_size) (sym (bank_is e numbers reaches bank first)) ∙ header_in_front e numbers (ballots_at e numbers bank) (drop (end_of e numbers) bank)
+    ap (take header_size) (sym (bank_is e numbers reaches bank first)) ∙ header_in_front e numbers (spelled_ballots e numbers bank) (drop (end_of e numbers) bank)
 
 -- the next cells stand behind those that were read
 pub record IsNext (e : Election) (numbers bank bytes : List ℕ) (count : ℕ) : Type 0 where
   pub long : length bytes ≡ count * cell_size e
   pub room : length numbers + count ≤ cell_count e
-  pub front : front_of e numbers (ballots_at e numbers bank) ++ bytes ≡ take (end_of e numbers + count * cell_size e) bank
+  pub front : front_of e numbers (spelled_ballots e numbers bank) ++ bytes ≡ take (end_of e numbers + count * cell_size e) bank
 
 pub next_is : (e : Election) (numbers reaches bank bytes : List ℕ) (count at : ℕ) → AreFirst e numbers reaches bank → at ≡ end_of e numbers → at + count * cell_size e ≤ length bank → length bank ≤ bank_size e → bytes ≡ take (count * cell_size e) (drop at bank)
     → IsNext e numbers bank bytes count
@@ -73,12 +67,12 @@ one_is e numbers reaches bank at width first begins whole within wide =
     next_is e numbers reaches bank (take (at + width - at) (drop at bank)) 1 at first begins (omega (arith, whole)) within
     (ap (λ n. take n (drop at bank)) (let same : at + width - at ≡ 1 * cell_size e = omega (arith, wide) in same))
 
-pub up_to : (e : Election) (numbers bank bytes : List ℕ) (at : ℕ) → at ≡ end_of e numbers → IsNext e numbers bank bytes 1 → front_of e numbers (ballots_at e numbers bank) ++ bytes ≡ take (at + cell_size e) bank
+pub up_to : (e : Election) (numbers bank bytes : List ℕ) (at : ℕ) → at ≡ end_of e numbers → IsNext e numbers bank bytes 1 → front_of e numbers (spelled_ballots e numbers bank) ++ bytes ≡ take (at + cell_size e) bank
 up_to e numbers bank bytes at begins is = is.front ∙ ap (λ n. take n bank) (let same : end_of e numbers + 1 * cell_size e ≡ at + cell_size e = omega (arith, begins) in same)
 
 -- and once they are read they are first
 pub first_next : (e : Election) (numbers reaches bank bytes more others : List ℕ) (ballots : List Ballot) (count : ℕ) → IsElection e → AreFirst e numbers reaches bank → IsNext e numbers bank bytes count → end_of e numbers + count * cell_size e ≤ length bank
-    → length more ≡ length numbers + count → AreNext e (front_of e numbers (ballots_at e numbers bank)) bytes more others ballots → AreFirst e more others bank
+    → length more ≡ length numbers + count → AreNext e (front_of e numbers (spelled_ballots e numbers bank)) bytes more others ballots → AreFirst e more others bank
 first_next e numbers reaches bank bytes more others ballots count election first is whole long next =
     let size = cell_size e in
     let sum : (length numbers + count) * size ≡ length numbers * size + count * size = grind arith in
@@ -88,7 +82,7 @@ first_next e numbers reaches bank bytes more others ballots count election first
 -- more bytes behind the cells
 pub first_more : (e : Election) (numbers reaches fed more : List ℕ) → IsElection e → AreFirst e numbers reaches fed → AreFirst e numbers reaches (fed ++ more)
 first_more e numbers reaches fed more election first =
-    first_as e numbers reaches (ballots_at e numbers fed) (fed ++ more) election first.cells
+    first_as e numbers reaches (spelled_ballots e numbers fed) (fed ++ more) election first.cells
     (take-append-le (end_of e numbers) fed more first.within ∙ first.bytes) (omega (arith, first.within, length-append fed more))
 
 -- a header, and no cells
@@ -111,7 +105,7 @@ pub judged_front : (e : Election) (numbers reaches bank : List ℕ) → IsElecti
 judged_front e numbers reaches bank election first short within =
     let place = length numbers in
     let size = cell_size e in
-    let ballots = ballots_at e numbers bank in
+    let ballots = spelled_ballots e numbers bank in
     let next : (cell_count e + 1) * size ≡ cell_count e * size + size = grind arith in
     let some : 0 < size = omega (arith, number_fits e) in
     let few : place < cell_count e + 1 = fewer_cells place (cell_count e + 1) size (omega (arith, next, first.within, within, some)) in
@@ -126,11 +120,11 @@ judged_front e numbers reaches bank election first short within =
     }
 
 -- all cells of a bank that was judged whole were read
-pub judged_whole : (e : Election) (numbers reaches bank : List ℕ) → IsElection e → AreFirst e numbers reaches bank → length bank < end_of e numbers + cell_size e → length bank ≡ bank_size e → Shows e (ballots_at e numbers bank) bank numbers
+pub judged_whole : (e : Election) (numbers reaches bank : List ℕ) → IsElection e → AreFirst e numbers reaches bank → length bank < end_of e numbers + cell_size e → length bank ≡ bank_size e → Shows e (spelled_ballots e numbers bank) bank numbers
 judged_whole e numbers reaches bank election first short whole =
     let size = cell_size e in
     let place = length numbers in
-    let ballots = ballots_at e numbers bank in
+    let ballots = spelled_ballots e numbers bank in
     let next : (cell_count e + 1) * size ≡ cell_count e * size + size = grind arith in
     let more : (place + 1) * size ≡ place * size + size = grind arith in
     let some : 0 < size = omega (arith, number_fits e) in

@@ -1,9 +1,6 @@
 -- A medium in its four parts: two banks and two gates.
 use Rattle.std.proofs.Common.{◌≡◌, ℕ, ◌+◌, ◌-◌, ◌*◌, List, [], ◌∷◌, ◌++◌, length, get_or, take, drop, refl, sym, ◌∙◌, ap, arith, length-append, append_assoc}
-use Rattle.std.proofs.lemmas.List.{drop-drop, take_at, drop_at, get_or-append_right, get_or-drop, take-append-drop, length-drop}
-use Rattle.store_spec.specs.Election.{Election, bank_size, medium_size}
-use Rattle.store_spec.specs.Medium.{Bank, IsOpen, bank_of, open_gate}
-use Rattle.store_spec.specs.Medium.Bank.{A, B}
+use Rattle.store_spec.proofs.Common.{A, B, Bank, Election, IsOpen, bank_of, bank_size, drop-drop, drop_at, get_or-append_right, get_or-drop, length-drop, medium_size, open_gate, take-append-drop, take_at}
 
 -- the bytes are two banks with this image, and open gates
 pub record AreBoth (e : Election) (image bytes : List ℕ) : Type 0 where

@@ -1,8 +1,6 @@
 -- An image is that of one set of ballots alone.
 use Rattle.std.proofs.Common.{◌≡◌, ◌*◌, ◌<◌, List, length, get_or, take, drop, refl, sym, ap, subst, ◌∙◌, arith}
-use Rattle.std.proofs.lemmas.List.{drop_at}
-use Rattle.std.proofs.lemmas.List.Elements.{All-contains}
-use Rattle.std.specs.List.{Contains, flat_map}
+use Rattle.store_spec.proofs.Common.{All-contains, Ballot, Contains, Election, IsBallotSet, IsElection, IsValid, IsWithinLimit, ballot_bytes, cell_bytes, cell_size, cells_of, drop_at, flat_map, header_of, header_size, image_of, numbers_of}
 use Rattle.body_store.proofs.BallotSets.{MayHold, may_hold_set}
 use Rattle.body_store.proofs.Images.{cell_of_found, length-cell_bytes, piece_at}
 use Rattle.ballot_record.proofs.BallotSets.{same_members}
@@ -11,9 +9,6 @@ use Rattle.ballot_record.proofs.Lookups.{found_once}
 use Rattle.image_builder.proofs.Reading.{layout_read, number_in_cell, same_numbers}
 use Rattle.image_builder.proofs.Wrong.{known_cell}
 use Rattle.layout_def.proofs.OrderedCells.{place_from_contains, contains_from_place}
-use Rattle.store_spec.specs.Ballot.{Ballot, IsBallotSet, IsValid, IsWithinLimit, numbers_of}
-use Rattle.store_spec.specs.Election.{Election, IsElection, cell_size, header_size}
-use Rattle.store_spec.specs.Image.{ballot_bytes, cell_bytes, cells_of, header_of, image_of}
 use Rattle.ballot_record.proofs.CellFormat.{length-header_of, same_ballot}
 
 -- ---- the sets of one image

@@ -1,11 +1,8 @@
 -- One cell more, with how far back it reaches.
 use Rattle.std.proofs.Common.{◌≡◌, ◌≢◌, ℕ, zero, suc, ◌+◌, ◌-◌, ◌<◌, ◌≤◌, ⊎_elim, List, [], ◌∷◌, ◌++◌, length, get_or, take, drop, sym, ap, subst, ◌∙◌, arith}
-use Rattle.std.proofs.lemmas.Bool.{cases_lt}
-use Rattle.std.proofs.lemmas.List.{append-nil, length-append, get_or_append_left, get_or_push, take-append-drop, take-append-le, take_all, take_at, take_more}
-use Rattle.std.proofs.lemmas.List.Elements.{filter-append}
+use Rattle.store_spec.proofs.Common.{append-nil, cases_lt, filter-append, get_or_append_left, get_or_push, length-append, numbers_in, take-append-drop, take-append-le, take_all, take_at, take_more}
 use Rattle.image_builder.proofs.Steps.{numbers_as_before, numbers_more}
 use Rattle.image_builder.specs.Reaches.{AreReaches, IsReach}
-use Rattle.store_spec.specs.Layout.{numbers_in}
 
 -- ---- how many cells have a number
 

@@ -1,11 +1,7 @@
 -- The first cells of a bank, as they are read in order.
 use Rattle.std.proofs.Common.{◌≡◌, ◌≢◌, ℕ, zero, suc, ◌+◌, ◌*◌, ◌^◌, ◌<◌, ◌≤◌, ⊎_elim, List, [], ◌∷◌, ◌++◌, length, get_or, take, drop, None, refl, sym, ap, subst, ◌∙◌, arith}
-use Rattle.std.proofs.lemmas.Bool.{cases_eq}
-use Rattle.std.proofs.Math.Seq.{take-add}
-use Rattle.std.proofs.lemmas.List.{append-nil, take_at, drop_at, take-take}
-use Rattle.std.proofs.lemmas.List.Concat.{flat_map-cons, flat_map-append}
-use Rattle.std.proofs.lemmas.List.Elements.{All-contains}
-use Rattle.std.specs.List.{All, AllPairs, Contains, flat_map}
+use Rattle.store_spec.proofs.Common.{All, All-contains, AllPairs, Ballot, BeginsAnImage, Contains, Election, HasRoom, IsElection, IsLayout, IsOrdered, IsValid, append-nil, ballot_of, cases_eq, cell_bytes, cell_count, cell_size, cells_of, drop_at, first_cells, flat_map, flat_map-cons, header_of, header_size, home_in, image_of, layout_of, number_at, numbers_in, numbers_of, take-add, take-take, take_at}
+use Rattle.std.proofs.lemmas.List.Concat.{flat_map-append}
 use Rattle.body_store.proofs.BallotSets.{MayHold, has_room, limit-IsPermutation}
 use Rattle.ballot_record.proofs.BallotSets.{in_order, in_order-IsPermutation, set_of_listing}
 use Rattle.body_store.proofs.Listings.{image_of-IsPermutation}
@@ -14,12 +10,6 @@ use Rattle.ballot_record.proofs.Lookups.{option_cases, found_in, missing_from}
 use Rattle.ballot_record.proofs.BallotNumbers.{ballot_with, pairs_of_ballots}
 use Rattle.layout_def.proofs.Fronts.{distinct_in, front_is_layout}
 use Rattle.layout_def.proofs.LaidOut.{layout_of_is}
-use Rattle.store_spec.specs.Ballot.{Ballot, IsValid, ballot_of, numbers_of}
-use Rattle.store_spec.specs.Damage.{BeginsAnImage, first_cells, number_at}
-use Rattle.store_spec.specs.Election.{Election, IsElection, cell_count, cell_size, header_size}
-use Rattle.store_spec.specs.Home.{home_in}
-use Rattle.store_spec.specs.Image.{cell_bytes, cells_of, header_of, image_of}
-use Rattle.store_spec.specs.Layout.{HasRoom, IsLayout, IsOrdered, layout_of, numbers_in}
 use Rattle.ballot_record.proofs.CellFormat.{length-header_of, number_of_bytes, number_of_zeros}
 
 -- ---- lists of pieces

@@ -1,23 +1,14 @@
 -- One cell more: an empty one, or that of a ballot which may stand there.
 use Rattle.std.proofs.Common.{◌≡◌, ◌≢◌, ◌==◌, not, ℕ, ◌+◌, ◌*◌, ◌<◌, ◌≤◌, ⊎_elim, List, [], ◌∷◌, ◌++◌, length, get_or, take, drop, replicate, Option, Some, None, refl, sym, ap, subst, ◌∙◌, arith}
-use Rattle.std.proofs.lemmas.Bool.{cases_lt, cond-true, cond-false, eq-eqb, ne_eqb}
-use Rattle.std.proofs.lemmas.List.{append-nil, length-append, map_push, get_or_append_left, get_or_push}
-use Rattle.std.proofs.lemmas.List.Elements.{filter-append, All-push}
+use Rattle.store_spec.proofs.Common.{All-push, Ballot, Contains, Election, IsOrdered, IsValid, MayStand, append-nil, ballot_bytes, ballot_of, cases_lt, cell_at, cell_bytes, cell_size, cond-false, cond-true, eq-eqb, filter-append, flat_map, get_or_append_left, get_or_push, header_size, home_in, length-append, map_push, ne_eqb, numbers_in, numbers_of, option_map_or}
 use Rattle.std.proofs.lemmas.List.Folds.{find-append}
-use Rattle.std.specs.List.{Contains, flat_map}
-use Rattle.std.specs.Option.{option_map_or, option_or}
+use Rattle.std.specs.Option.{option_or}
 use Rattle.body_store.proofs.Images.{cell_of_found, cell_of_zero, one_cell_more}
 use Rattle.ballot_record.proofs.Lookups.{option_cases, found_in}
 use Rattle.image_builder.proofs.Reading.{AreRead, IsKnown, piece_more, same_pieces}
-use Rattle.store_spec.specs.Home.{home_in}
 use Rattle.ballot_record.proofs.BallotNumbers.{contains_number}
 use Rattle.layout_def.proofs.Fronts.{holds_own}
 use Rattle.layout_def.proofs.OrderedCells.{place_from_contains, contains_from_place, place_within}
-use Rattle.store_spec.specs.Ballot.{Ballot, IsValid, ballot_of, numbers_of}
-use Rattle.store_spec.specs.Damage.{cell_at}
-use Rattle.store_spec.specs.Election.{Election, cell_size, header_size}
-use Rattle.store_spec.specs.Image.{ballot_bytes, cell_bytes}
-use Rattle.store_spec.specs.Layout.{IsOrdered, MayStand, numbers_in}
 
 -- ---- ordered cells
 

@@ -1,25 +1,17 @@
 -- Why a cell begins the image of no set, and what a whole bank is the image of.
 use Rattle.std.proofs.Common.{◌≡◌, ◌≢◌, not, ℕ, suc, ◌+◌, ◌*◌, ◌^◌, ◌<◌, ◌≤◌, ⊎_elim, List, [], ◌∷◌, ◌++◌, length, get_or, take, drop, replicate, None, refl, sym, ap, subst, ◌∙◌, arith, zero-add}
-use Rattle.std.proofs.lemmas.Bool.{cases_eq, cond-true, cond-false, eq-eqb, ne_eqb}
-use Rattle.std.proofs.lemmas.List.{length-take, length-drop, take_more, get_or-take, take_all, take-append-drop}
-use Rattle.std.proofs.lemmas.List.Elements.{All-contains}
-use Rattle.std.specs.List.{flat_map}
+use Rattle.store_spec.proofs.Common.{All-contains, Ballot, BeginsAnImage, Election, IsElection, IsLayout, IsValid, MayStand, ballot_bytes, ballot_of, cases_eq, cell_at, cell_bytes, cell_count, cell_size, cells_of, cond-false, cond-true, eq-eqb, flat_map, get_or-take, header_of, header_size, home_in, image_of, length-drop, length-take, ne_eqb, number_at, numbers_in, numbers_of, take-append-drop, take_all, take_more}
 use Rattle.body_store.proofs.BallotSets.{MayHold, has_room, may_hold_set}
 use Rattle.body_store.proofs.Images.{length_pieces, length-cell_bytes, cell_of_found, cell_of_none, one_cell_more}
 use Rattle.ballot_record.proofs.Lookups.{option_cases, found_in}
 use Rattle.image_builder.proofs.Reading.{AreRead, IsKnown, begins_fewer, begins_read, front_of_image, front_read, layout_read, number_in_cell, piece_more, same_numbers, listing_read, split_same}
-use Rattle.store_spec.specs.Home.{home_in}
 use Rattle.image_builder.proofs.Steps.{known_read}
 use Rattle.layout_def.proofs.Ascending.{length-ascending}
 use Rattle.ballot_record.proofs.BallotNumbers.{length-numbers_of}
 use Rattle.layout_def.proofs.LaidOut.{layout_of_laid_out}
 use Rattle.layout_def.proofs.OrderedCells.{contains_from_place, place_within}
 use Rattle.layout_def.proofs.Placing.{filled}
-use Rattle.store_spec.specs.Ballot.{Ballot, IsValid, ballot_of, numbers_of}
-use Rattle.store_spec.specs.Damage.{BeginsAnImage, IsFirstWrong, cell_at, number_at}
-use Rattle.store_spec.specs.Election.{Election, IsElection, cell_count, cell_size, header_size}
-use Rattle.store_spec.specs.Image.{ballot_bytes, cell_bytes, cells_of, header_of, image_of}
-use Rattle.store_spec.specs.Layout.{IsLayout, MayStand, numbers_in}
+use Rattle.store_spec.specs.Damage.{IsFirstWrong}
 use Rattle.ballot_record.proofs.CellFormat.{number_of_bytes}
 
 -- the bank begins the image of this set, which goes on with one cell more

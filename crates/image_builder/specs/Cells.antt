@@ -34,13 +34,13 @@ abbrev pub end_of : Election → List ℕ → ℕ
 end_of e numbers = header_size + length numbers * cell_size e
 
 -- the ballots that a bank spells in its first cells, which have these numbers
-abbrev pub ballots_at : Election → List ℕ → List ℕ → List Ballot
-ballots_at e numbers bank = spelled_in e numbers (drop header_size bank)
+abbrev pub spelled_ballots : Election → List ℕ → List ℕ → List Ballot
+spelled_ballots e numbers bank = spelled_in e numbers (drop header_size bank)
 
 -- the bank has the election's header, and its first cells have these numbers and reaches
 pub record AreFirst (e : Election) (numbers reaches bank : List ℕ) : Type 0 where
-  pub cells : AreCells e numbers reaches (ballots_at e numbers bank)
-  pub bytes : take (end_of e numbers) bank ≡ front_of e numbers (ballots_at e numbers bank)
+  pub cells : AreCells e numbers reaches (spelled_ballots e numbers bank)
+  pub bytes : take (end_of e numbers) bank ≡ front_of e numbers (spelled_ballots e numbers bank)
   pub within : end_of e numbers ≤ length bank
 
 -- the number in each of the cells that were judged

@@ -1,7 +1,7 @@
 -- Six words are options where each two of them are one, and no two of them the same.
 use Rattle.std.proofs.Common.{◌≡◌, ◌≢◌, ℕ, ◌<◌, ◌≤◌, Bool, false, List, [], ◌∷◌, map, get_or, length, Option, Some, None, refl, sym, ap, subst, ◌∙◌, arith}
-use Rattle.std.proofs.lemmas.List.{length-map}
-use Rattle.std.specs.Prelude.{◌↔◌, IsTrue, MatchOption}
+use Rattle.store_spec.proofs.Common.{IsTrue, MatchOption, length-map}
+use Rattle.std.specs.Prelude.{◌↔◌}
 use Rattle.large_options.specs.Given.{AllDiffer, AreDifferent, IsGiven, IsNotGiven}
 use Rattle.large_options.specs.Options.{AreOptions}
 use Rattle.large_options.specs.declared.name.Name.{Name}

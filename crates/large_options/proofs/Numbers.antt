@@ -1,7 +1,6 @@
 -- The value of an option, from what was read at the front of its text.
 use Rattle.std.proofs.Common.{◌≡◌, ℕ, ◌^◌, ◌<◌, ◌≤◌, List, [], ◌++◌, length, Option, Some, None, sym, ap, ◌∙◌, append-nil, lit<, arith}
-use Rattle.std.proofs.lemmas.Option.{none-some, some_pair_parts}
-use Rattle.std.specs.Fmt.{decimal}
+use Rattle.store_spec.proofs.Common.{decimal, none-some, some_pair_parts}
 use Rattle.ballot_record.proofs.LineNumbers.{number_again, number_takes}
 use Rattle.ballot_record.specs.LineReading.{digits_at}
 use Rattle.large_options.specs.Given.{HasNoValue, HasValue, limit_of}

@@ -1,9 +1,7 @@
 -- Three options in some order.
 use Rattle.std.proofs.Common.{◌≡◌, ℕ, zero, suc, ◌^◌, ◌<◌, ◌≤◌, ◌⊎◌, inl, inr, List, [], ◌∷◌, get_or, refl, sym, ap, subst, ◌∙◌, arith, lit<}
-use Rattle.std.proofs.lemmas.Fmt.{decimal_injective}
-use Rattle.std.specs.Fmt.{decimal}
-use Rattle.std.specs.List.{flat_map, swap}
-use Rattle.std.specs.List.Sorted.{IsPermutation, SwapsInRange, apply_swaps}
+use Rattle.store_spec.proofs.Common.{IsPermutation, decimal, decimal_injective, flat_map, swap}
+use Rattle.std.specs.List.Sorted.{SwapsInRange, apply_swaps}
 use Rattle.large_options.proofs.Numbers.{limit_short}
 use Rattle.large_options.specs.Given.{AreDifferent, HasValue, limit_of, text_of}
 use Rattle.large_options.specs.Options.{AreOptions, Choice, IsOptions, choice_words, choices}

@@ -1,9 +1,7 @@
 -- A value's text is no name of an option, for `clap` too.
 use Rattle.std.proofs.Common.{◌≡◌, ℕ, ◌^◌, ◌<◌, ◌≤◌, false, eqb, List, [], ◌∷◌, get_or, None, refl, arith}
-use Rattle.std.proofs.lemmas.Bool.{ne_eqb}
+use Rattle.store_spec.proofs.Common.{bytes_eq, decimal, ne_eqb}
 use Rattle.std.proofs.lemmas.Fmt.{first_decimal}
-use Rattle.std.specs.Fmt.{decimal}
-use Rattle.std.specs.Str.{bytes_eq}
 use Rattle.clap.specs.Lexer.{long_of, short_of}
 
 -- the text does not begin with a dash

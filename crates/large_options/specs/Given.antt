@@ -3,6 +3,8 @@ use Rattle.std.specs.Prelude.{◌≡◌, ◌≢◌, ℕ, ◌≤◌, List, Option
 use Rattle.std.specs.Fmt.{decimal}
 use Rattle.large_options.specs.declared.name.Name.{Name}
 use Rattle.large_options.specs.declared.name.Name.TheVariants.{Seed, Count, Tabs}
+use Rattle.store_spec.specs.Election.{most_ballots}
+use Rattle.store_spec.specs.ScriptLine.{most_tabs}
 
 -- the name without its dashes
 abbrev pub id_of : Name → List ℕ
@@ -17,8 +19,8 @@ text_of Tabs = codes "--tabs"
 
 abbrev pub limit_of : Name → ℕ
 limit_of Seed = 4294967295
-limit_of Count = 32768
-limit_of Tabs = 64
+limit_of Count = most_ballots
+limit_of Tabs = most_tabs
 
 -- the text spells this value of the option
 abbrev pub HasValue : Name → List ℕ → ℕ → Type 0

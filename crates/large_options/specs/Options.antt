@@ -10,6 +10,7 @@ use Rattle.std.specs.Prelude.{◌≡◌, ℕ, ◌^◌, ◌<◌, ◌≤◌, List,
 use Rattle.std.specs.Fmt.{decimal}
 use Rattle.std.specs.List.{flat_map}
 use Rattle.std.specs.List.Sorted.{IsPermutation}
+use Rattle.store_spec.specs.Election.{most_ballots}
 use Rattle.store_spec.specs.ScriptLine.{IsTab}
 
 abbrev pub IsSeed : ℕ → Type 0
@@ -17,7 +18,7 @@ IsSeed seed = (1 ≤ seed) × (seed < 2 ^ 32)
 
 -- how many ballots a run may ask for
 abbrev pub IsCount : ℕ → Type 0
-IsCount count = (1 ≤ count) × (count ≤ 32768)
+IsCount count = (1 ≤ count) × (count ≤ most_ballots)
 
 -- an option: its name, and its value
 abbrev pub Choice : Type 0

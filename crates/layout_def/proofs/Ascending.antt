@@ -1,16 +1,8 @@
 -- The numbers of a list in ascending order: whichever way the list is listed, and with the list's own numbers.
 use Rattle.std.proofs.Common.{◌≡◌, if◌then◌else◌, ◌==◌, ◌≢◌, ℕ, zero, suc, ◌<◌, ◌≤◌, ◌⊎◌, inl, inr, ⊎_elim, List, [], ◌∷◌, length, get_or, set, sym, refl, ap, ◌∙◌, subst, arith}
-use Rattle.std.proofs.lemmas.Bool.{eq-eqb, ne_eqb, cases_lt, le-leb, lt-leb, cond-true, cond-false, cases_eq}
-use Rattle.std.proofs.lemmas.List.{get_or-set_other, get_or-set_same, length-set}
-use Rattle.std.proofs.lemmas.Bool.Decides.{Decides-eqb, nat_tests}
-use Rattle.std.proofs.lemmas.Map.Keys.{IsDistinct-IsPermutation}
-use Rattle.std.proofs.lemmas.Map.Made.{AllPairs-from_IsDistinct, IsDistinct-from_AllPairs}
-use Rattle.std.specs.Prelude.{nat_eq}
+use Rattle.store_spec.proofs.Common.{AllPairs, AllPairs-from_IsDistinct, Contains, Decides-eqb, IsDistinct-IsPermutation, IsDistinct-from_AllPairs, IsNonDecreasing, IsPermutation, ascending, cases_eq, cases_lt, cond-false, cond-true, eq-eqb, get_or-set_other, get_or-set_same, le-leb, length-set, lt-leb, nat_eq, nat_tests, ne_eqb, put_in_order, swap}
 use Rattle.std.proofs.lemmas.List.Sorted.{IsPermutation-keeps}
 use Rattle.std.proofs.lemmas.List.Edits.{swap_is}
-use Rattle.std.specs.List.{swap, Contains, AllPairs}
-use Rattle.std.specs.List.Sorted.{IsPermutation, IsNonDecreasing}
-use Rattle.store_spec.specs.Layout.{put_in_order, ascending}
 
 pub put_first : (v x : ℕ) (xs : List ℕ) → v ≤ x → put_in_order v (x ∷ xs) ≡ v ∷ x ∷ xs
 put_first v x xs h = cond-true _ _ _ (le-leb v x h)

@@ -1,13 +1,9 @@
 -- What stands in cells after a number was put in the place of another, which is carried on.
 use Rattle.std.proofs.Common.{◌≡◌, ◌≢◌, ℕ, ◌↔◌, ◌⊎◌, ◌+◌, ◌<◌, ◌≤◌, inl, inr, ⊎_elim, List, length, get_or, set, replicate, sym, ap, ◌∙◌, subst, length-set, arith}
-use Rattle.std.proofs.lemmas.Bool.{cases_eq, cases_lt}
-use Rattle.std.proofs.lemmas.List.{get_or-set_other, get_or-set_same}
-use Rattle.std.proofs.lemmas.List.Elements.{Contains-get_or}
-use Rattle.std.specs.List.{All, Contains}
+use Rattle.store_spec.proofs.Common.{All, Contains, Contains-get_or, HoldsExactly, cases_eq, cases_lt, get_or-set_other, get_or-set_same}
 use Rattle.layout_def.proofs.LaidOut.{empty_cell}
 use Rattle.layout_def.proofs.OrderedCells.{place_from_contains, contains_from_place, place_within}
 use Rattle.layout_def.specs.Walk.{HoldsAlso}
-use Rattle.store_spec.specs.Layout.{HoldsExactly}
 
 -- what stands in cells, or is carried
 abbrev pub IsAbout : List ℕ → ℕ → ℕ → Type 0

@@ -1,8 +1,6 @@
 -- Putting a number in the place of a lower one: the cells stay ordered, and the lower one may stand further on.
 use Rattle.std.proofs.Common.{◌≡◌, ◌≢◌, ℕ, ◌+◌, ◌<◌, ◌≤◌, ⊎_elim, List, length, get_or, set, sym, ap, ◌∙◌, subst, arith}
-use Rattle.std.proofs.lemmas.Bool.{cases_eq, cases_lt}
-use Rattle.std.proofs.lemmas.List.{get_or-set_other, get_or-set_same}
-use Rattle.store_spec.specs.Layout.{IsOrdered, MayStand}
+use Rattle.store_spec.proofs.Common.{IsOrdered, MayStand, cases_eq, cases_lt, get_or-set_other, get_or-set_same}
 
 pub stands_at_home : (home : ℕ → ℕ) (cells : List ℕ) (v : ℕ) → MayStand home cells v (home v)
 stands_at_home home cells v = record { from_home = omega arith; greater_before = λ k from before. absurd (omega arith) }

@@ -1,14 +1,9 @@
 -- Ordered cells are the first cells of the layout of the numbers in them.
 use Rattle.std.proofs.Common.{◌≡◌, ◌≢◌, ◌==◌, not, ℕ, ◌-◌, ◌<◌, ◌≤◌, inl, inr, ⊎_elim, List, [], ◌∷◌, ◌++◌, length, get_or, take, replicate, sym, refl, ap, ◌∙◌, subst, arith}
-use Rattle.std.proofs.lemmas.Bool.{eq-eqb, ne_eqb, cases_eq, cases_lt, cond-true, cond-false}
-use Rattle.std.proofs.lemmas.List.{get_or_default, get_or_append_left, get_or-append_right, length-append, length-replicate, take_at}
-use Rattle.std.proofs.lemmas.List.Elements.{All-contains, Contains-get_or}
-use Rattle.std.proofs.lemmas.List.Kept.{AllPairs-filter}
-use Rattle.std.specs.List.{All, AllPairs}
+use Rattle.store_spec.proofs.Common.{All, All-contains, AllPairs, AllPairs-filter, Contains-get_or, HasRoom, HoldsExactly, IsOrdered, ascending, cases_eq, cases_lt, cond-false, cond-true, eq-eqb, get_or-append_right, get_or_append_left, get_or_default, laid_out, layout_of, length-append, length-replicate, ne_eqb, numbers_in, placed, put_in_order, take_at}
 use Rattle.layout_def.proofs.Ascending.{IsIn, in_from_contains, contains_from_in, from_ascending, put_first}
 use Rattle.layout_def.proofs.LaidOut.{empty_cell, ordered_is_layout_of}
 use Rattle.layout_def.proofs.OrderedCells.{above_before, home_before, place_from_contains, contains_from_place, place_within}
-use Rattle.store_spec.specs.Layout.{IsOrdered, HoldsExactly, HasRoom, ascending, laid_out, layout_of, numbers_in, placed, put_in_order}
 
 -- ---- the numbers in cells
 

@@ -1,18 +1,9 @@
 -- The layout of a set of numbers is ordered, holds exactly these numbers, and leaves its last cell empty.
 use Rattle.std.proofs.Common.{◌≡◌, ◌≢◌, ℕ, zero, suc, ◌+◌, ◌-◌, ◌<◌, ◌≤◌, inl, inr, ⊎_elim, List, [], ◌∷◌, length, get_or, set, replicate, drop, sym, refl, ap, ◌∙◌, subst, arith}
-use Rattle.std.proofs.lemmas.Bool.{cases_eq, cases_lt}
-use Rattle.std.proofs.lemmas.List.{get_or-set_other, get_or-set_same, length-set, length-replicate, length-drop, drop_more}
-use Rattle.std.proofs.lemmas.List.Elements.{All-contains, Contains-get_or}
-use Rattle.std.proofs.lemmas.List.Kept.{AllPairs-cons}
-use Rattle.std.proofs.lemmas.List.Sorted.{All-permutation, length_permutation}
-use Rattle.std.specs.List.{All, AllPairs}
-use Rattle.std.specs.List.Sorted.{IsPermutation, IsNonDecreasing}
-use Rattle.std.specs.Prelude.{slice_index}
+use Rattle.store_spec.proofs.Common.{All, All-contains, All-permutation, AllPairs, AllPairs-cons, Contains-get_or, HasRoom, HoldsExactly, IsFilled, IsFirstEmpty, IsLayout, IsNonDecreasing, IsOrdered, IsPermutation, ascending, cases_eq, cases_lt, drop_more, get_or-set_other, get_or-set_same, laid_out, layout_of, length-drop, length-replicate, length-set, length_permutation, slice_index}
 use Rattle.layout_def.proofs.Ascending.{IsIn, IsRising, in_ascending, from_ascending, in_from_contains, contains_from_in, length-ascending, ascending_distinct, ascending_rising, distinct-IsPermutation}
 use Rattle.layout_def.proofs.OrderedCells.{same_cells, place_from_contains, contains_from_place}
 use Rattle.layout_def.proofs.Placing.{first_empty, placed_at, filled, filled_none, filled_set, filled_to_end}
-use Rattle.store_spec.specs.Probe.{IsFilled, IsFirstEmpty}
-use Rattle.store_spec.specs.Layout.{laid_out, ascending, layout_of, IsOrdered, HoldsExactly, HasRoom, IsLayout}
 
 -- what placing keeps, number by number
 pub record IsLaidOut (home : ℕ → ℕ) (count : ℕ) (numbers cells : List ℕ) : Type 0 where

@@ -1,9 +1,6 @@
 -- Ordered cells with the same numbers are equal.
 use Rattle.std.proofs.Common.{◌≡◌, ◌≢◌, ℕ, zero, suc, ◌+◌, ◌<◌, ◌≤◌, ⊎_elim, List, [], ◌∷◌, length, get_or, sym, refl, ap, ◌∙◌, subst, arith}
-use Rattle.std.proofs.lemmas.Bool.{cases_order, cases_eq, cases_lt}
-use Rattle.std.proofs.lemmas.List.{get_or_default, get_or_past, ext_get_or}
-use Rattle.std.specs.List.{Contains}
-use Rattle.store_spec.specs.Layout.{IsOrdered}
+use Rattle.store_spec.proofs.Common.{Contains, IsOrdered, cases_eq, cases_lt, cases_order, ext_get_or, get_or_default, get_or_past}
 
 -- ---- a number that stands in a cell
 

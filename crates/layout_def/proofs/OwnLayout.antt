@@ -1,13 +1,9 @@
 -- The first cells of a layout are the layout in so many cells, so ordered cells are the layout of the numbers in them,
 -- also where these have no room to spare.
 use Rattle.std.proofs.Common.{◌≡◌, ◌≢◌, ◌==◌, true, not, ℕ, zero, suc, ◌+◌, ◌≤◌, ⊎_elim, List, [], ◌∷◌, length, get_or, take, refl, sym, ap, ◌∙◌, arith}
-use Rattle.std.proofs.lemmas.Bool.{true≢false, eq-eqb, ne_eqb, cases_eq, cond-true, cond-false}
-use Rattle.std.proofs.lemmas.List.{take-replicate}
-use Rattle.std.proofs.lemmas.List.Elements.{All-weaker, Contains-get_or, filter_passes}
-use Rattle.std.specs.List.{All}
+use Rattle.store_spec.proofs.Common.{All, All-weaker, Contains-get_or, HasRoom, IsOrdered, ascending, cases_eq, cond-false, cond-true, eq-eqb, filter_passes, laid_out, layout_of, ne_eqb, numbers_in, placed, take-replicate, true≢false}
 use Rattle.layout_def.proofs.Fronts.{distinct_in, front_is_layout, holds_own}
 use Rattle.layout_def.proofs.OrderedCells.{home_before, place_from_contains}
-use Rattle.store_spec.specs.Layout.{HasRoom, IsOrdered, ascending, laid_out, layout_of, numbers_in, placed}
 
 placed_in_front : (v place n : ℕ) (cells : List ℕ) → placed v place (take n cells) ≡ take n (placed v place cells)
 placed_in_front v place zero cells = refl

@@ -1,8 +1,6 @@
 -- Putting one number into the first empty cell at or after a place, and how many cells are filled.
 use Rattle.std.proofs.Common.{◌≡◌, ◌≢◌, if◌then◌else◌, ◌==◌, ℕ, zero, suc, ◌+◌, ◌<◌, ◌≤◌, ◌⊎◌, inl, inr, ⊎_elim, List, [], ◌∷◌, length, get_or, set, replicate, refl, ap, ◌∙◌, arith}
-use Rattle.std.proofs.lemmas.Bool.{eq-eqb, ne_eqb, cond-true, cond-false, cases_eq}
-use Rattle.store_spec.specs.Layout.{placed}
-use Rattle.store_spec.specs.Probe.{IsFilled, IsFirstEmpty}
+use Rattle.store_spec.proofs.Common.{IsFilled, IsFirstEmpty, cases_eq, cond-false, cond-true, eq-eqb, ne_eqb, placed}
 
 -- the number goes into a cell that is the first empty one
 pub placed_at : (v place : ℕ) (cells : List ℕ) (p : ℕ) → place ≤ p → p < length cells → get_or cells p 0 ≡ 0 → IsFilled cells place p → placed v place cells ≡ set cells p v

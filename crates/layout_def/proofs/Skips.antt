@@ -1,9 +1,7 @@
 -- Pointers that skip full cells are sound at first, and stay so when a cell is filled.
 use Rattle.std.proofs.Common.{◌≡◌, ◌≢◌, ℕ, ◌+◌, ◌<◌, ⊎_elim, List, length, get_or, set, sym, ap, ◌∙◌, subst, arith}
-use Rattle.std.proofs.lemmas.Bool.{cases_eq}
-use Rattle.std.proofs.lemmas.List.{get_or-set_other, get_or-set_same, length-set}
+use Rattle.store_spec.proofs.Common.{IsFilled, cases_eq, get_or-set_other, get_or-set_same, length-set}
 use Rattle.layout_def.specs.Pointers.{AreSound}
-use Rattle.store_spec.specs.Probe.{IsFilled}
 
 -- a cell that is filled stays so when another is
 filled_set : (cells : List ℕ) (p v a b : ℕ) → v ≢ 0 → p < length cells → IsFilled cells a b → IsFilled (set cells p v) a b

@@ -1,10 +1,7 @@
 -- The greatest of the numbers that wait is taken off the end, and placed.
 use Rattle.std.proofs.Common.{◌≡◌, ℕ, ◌+◌, ◌<◌, ◌≤◌, List, [], ◌∷◌, ◌++◌, length, get_or, set, take, drop, refl, sym, ap, ◌∙◌, subst, arith}
-use Rattle.std.proofs.lemmas.List.{length_push, get_or_push, get_or-take, take-take, take_at, length-take}
-use Rattle.std.specs.List.Sorted.{IsNonDecreasing}
+use Rattle.store_spec.proofs.Common.{HasRoom, IsFirstEmpty, IsNonDecreasing, get_or-take, get_or_push, laid_out, length-take, length_push, take-take, take_at}
 use Rattle.layout_def.proofs.LaidOut.{next_finds, next_placed}
-use Rattle.store_spec.specs.Layout.{HasRoom, laid_out}
-use Rattle.store_spec.specs.Probe.{IsFirstEmpty}
 
 -- which number is taken, and what is left
 pub record IsTaken (xs rest : List ℕ) (v : ℕ) : Type 0 where

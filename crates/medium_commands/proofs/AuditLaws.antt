@@ -1,11 +1,11 @@
 -- The laws of `audit`: the bytes of a disk decide how it ends, but for faults and want of memory.
 use Rattle.std.proofs.Common.{◌≡◌, ◌≢◌, ◌⊎◌, ℕ, List, Some, Result, Ok, Err, inl, inr, refl, ap, sym, subst, ◌∙◌}
-use Rattle.std.specs.Prelude.{MatchResult}
+use Rattle.store_spec.proofs.Common.{Ballot, DiskModel, Election, HoldsSet, IsElection, MatchResult}
 use Rattle.audit_medium.proofs.OneAnswer.{one_answer}
 use Rattle.audit_medium.specs.Audited.{IsAudited}
 use Rattle.audit_medium.specs.declared.finding.Audit.{Audit}
 use Rattle.audit_medium.specs.declared.finding.Audit.TheVariants.{Canonical, Differs}
-use Rattle.medium_commands.specs.Audit.{AuditEnds, IsAnswered, audit_row, finding_status}
+use Rattle.medium_commands.specs.Audit.{AuditAnswers, AuditEnds, audit_row, finding_status}
 use Rattle.medium_commands.specs.Refused.{refused_status}
 use Rattle.outside_io.specs.Outside.{Output}
 use Rattle.recovery.proofs.Refusals.{refused_holds}
@@ -18,10 +18,6 @@ use Rattle.run_outcome.specs.Status.{IsDecided}
 use Rattle.run_outcome.specs.World.{World}
 use Rattle.run_outcome.specs.declared.status.Status.{Status}
 use Rattle.run_outcome.specs.declared.status.Status.TheVariants as status
-use Rattle.store_spec.specs.Ballot.{Ballot}
-use Rattle.store_spec.specs.Disk.{DiskModel}
-use Rattle.store_spec.specs.Election.{Election, IsElection}
-use Rattle.store_spec.specs.Medium.{HoldsSet}
 
 -- the status of what the medium answered
 abbrev pub answered : Result Audit RecoverFault → Status
@@ -69,9 +65,9 @@ one_audit e bytes a b valid x y =
 
 -- the bytes hold a set, so something was found in them
 audited_well : (e : Election) (content : Content) (a : Status) (set : List Ballot) → IsElection e → HoldsSet e content.disk set → (answer : Result Audit RecoverFault) → a ≡ answered answer
-    → answer ≢ Err recover.DiskFault → answer ≢ Err recover.Memory → MatchResult answer (IsAudited e content.disk) (IsRefusedMedium e content.disk) → IsAnswered e content a
-audited_well e content a set valid holds (Ok (Canonical held)) is no_fault memory found = subst (IsAnswered e content) (sym is) (found.set, found.medium)
-audited_well e content a set valid holds (Ok (Differs place)) is no_fault memory found = subst (IsAnswered e content) (sym is) found
+    → answer ≢ Err recover.DiskFault → answer ≢ Err recover.Memory → MatchResult answer (IsAudited e content.disk) (IsRefusedMedium e content.disk) → AuditAnswers e content a
+audited_well e content a set valid holds (Ok (Canonical held)) is no_fault memory found = subst (AuditAnswers e content) (sym is) (found.set, found.medium)
+audited_well e content a set valid holds (Ok (Differs place)) is no_fault memory found = subst (AuditAnswers e content) (sym is) found
 audited_well e content a set valid holds (Err why) is no_fault memory refused =
     absurd (refused_holds e content.disk why valid (λ same. no_fault (ap Err same)) (λ same. memory (ap Err same)) refused set holds)
 

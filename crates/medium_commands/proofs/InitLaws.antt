@@ -1,6 +1,7 @@
 -- The laws of `init`: the bytes of a disk decide how it ends, but for faults and want of memory.
 use Rattle.std.proofs.Common.{◌≡◌, ℕ, ◌<◌, List, length, Some, ◌⊎◌, ⊎_elim, inl, inr, refl, sym, ◌∙◌, ap, arith}
-use Rattle.checkpoint.specs.Unused.{IsRefusedDisk}
+use Rattle.store_spec.proofs.Common.{A, B, DiskModel, Election, IsOpen, IsUnused, medium_size}
+use Rattle.checkpoint.specs.Unused.{IsInitRefused}
 use Rattle.checkpoint.specs.declared.fresh.InitFault.TheVariants as faults
 use Rattle.medium_commands.specs.Init.{InitEnds, init_row}
 use Rattle.outside_io.specs.Outside.{Output}
@@ -10,24 +11,20 @@ use Rattle.run_outcome.specs.Status.{IsDecided}
 use Rattle.run_outcome.specs.World.{World}
 use Rattle.run_outcome.specs.declared.status.Status.{Status}
 use Rattle.run_outcome.specs.declared.status.Status.TheVariants as status
-use Rattle.store_spec.specs.Disk.{DiskModel}
-use Rattle.store_spec.specs.Election.{Election, medium_size}
-use Rattle.store_spec.specs.Medium.{IsOpen, IsUnused}
-use Rattle.store_spec.specs.Medium.Bank.{A, B}
 
 abbrev pub InitDecides : Election → List ℕ → Status → Type 0
 InitDecides e bytes status.Ok = IsUnused e bytes
-InitDecides e bytes status.Exists = IsRefusedDisk e bytes faults.Exists
-InitDecides e bytes (status.WrongSize size) = IsRefusedDisk e bytes (faults.WrongSize size)
+InitDecides e bytes status.Exists = IsInitRefused e bytes faults.Exists
+InitDecides e bytes (status.WrongSize size) = IsInitRefused e bytes (faults.WrongSize size)
 InitDecides e bytes other = ⊥
 
 init_decides : {K D : Type 0} (model : DiskModel D) (e : Election) (a : Status) (old new : Output K) (before after : D) (bytes : List ℕ) → model.seen before ≡ Some bytes
     → IsDecided a → InitEnds model e a old new before after → InitDecides e bytes a
 init_decides model e status.Ok old new before after bytes is decided ends = at_told (model.seen before) bytes (IsUnused e) is ends.leaves.0.unused
 init_decides model e status.Exists old new before after bytes is decided ends =
-    at_told (model.seen before) bytes (λ bytes. IsRefusedDisk e bytes faults.Exists) is ends.leaves.0.why
+    at_told (model.seen before) bytes (λ bytes. IsInitRefused e bytes faults.Exists) is ends.leaves.0.why
 init_decides model e (status.WrongSize size) old new before after bytes is decided ends =
-    at_told (model.seen before) bytes (λ bytes. IsRefusedDisk e bytes (faults.WrongSize size)) is ends.leaves.0.why
+    at_told (model.seen before) bytes (λ bytes. IsInitRefused e bytes (faults.WrongSize size)) is ends.leaves.0.why
 init_decides model e status.DiskFault old new before after bytes is decided ends = absurd decided
 init_decides model e status.WriteFault old new before after bytes is decided ends = absurd decided
 init_decides model e status.Memory old new before after bytes is decided ends = absurd decided

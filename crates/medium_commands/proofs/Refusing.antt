@@ -1,13 +1,12 @@
 -- Why a medium is refused, as far as its bytes tell.
 use Rattle.std.proofs.Common.{◌≡◌, ◌≢◌, ℕ, List, ap, refl, sym, ◌∙◌}
+use Rattle.store_spec.proofs.Common.{Election, HoldsSome, IsElection}
 use Rattle.medium_commands.specs.Refused.{refused_status}
 use Rattle.recovery.proofs.Refusals.{one_refusal, refused_holds}
 use Rattle.recovery.specs.Refused.{IsRefusedMedium}
 use Rattle.recovery.specs.declared.fault.RecoverFault.{RecoverFault}
 use Rattle.recovery.specs.declared.fault.RecoverFault.TheVariants as recover
 use Rattle.run_outcome.specs.declared.status.Status.{Status}
-use Rattle.store_spec.specs.Election.{Election, IsElection}
-use Rattle.store_spec.specs.Medium.{HoldsSome}
 
 -- a medium is refused with this status, for a reason that its bytes tell
 pub record Refuses (e : Election) (bytes : List ℕ) (a : Status) : Type 0 where

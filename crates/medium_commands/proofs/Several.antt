@@ -1,13 +1,12 @@
 -- Several media: the first one that is refused, or else the sets that all hold, tell how a command over them ends.
 use Rattle.std.proofs.Common.{◌≡◌, ◌≢◌, ◌⊎◌, ℕ, zero, suc, ◌+◌, List, [], ◌∷◌, take, get_or, Some, inl, inr, ⊎_elim, refl, sym, ◌∙◌, ap, subst, arith}
+use Rattle.store_spec.proofs.Common.{AllZip, Ballot, DiskModel, Election, HoldsSet, HoldsSome, IfSome, IsElection, get_or_from_slice_get, slice_get_within}
 use Rattle.std.proofs.lemmas.List.Elements.{AllZip-get_or}
-use Rattle.std.proofs.lemmas.Option.{get_or_from_slice_get, slice_get_within}
-use Rattle.std.specs.List.{AllZip, slice_get}
-use Rattle.std.specs.Prelude.{IfSome}
+use Rattle.std.specs.List.{slice_get}
 use Rattle.image_builder.proofs.Held.{one_held}
 use Rattle.medium_commands.proofs.Refusing.{Refuses, not_both, one_refused, refuses}
 use Rattle.medium_commands.specs.Refused.{refused_status}
-use Rattle.medium_commands.specs.Several.{AllHold}
+use Rattle.medium_commands.specs.Several.{MediaHold}
 use Rattle.recovery.proofs.Refusals.{one_refusal, refused_holds}
 use Rattle.recovery.specs.Faults.{medium_fault}
 use Rattle.recovery.specs.Media.{EachHolds, HoldsIfTold, StopsAt}
@@ -19,10 +18,6 @@ use Rattle.run_outcome.proofs.Laws.{at_told}
 use Rattle.run_outcome.specs.Row.{Content}
 use Rattle.run_outcome.specs.declared.status.Status.{Status}
 use Rattle.run_outcome.specs.declared.status.Status.TheVariants as status
-use Rattle.store_spec.specs.Ballot.{Ballot}
-use Rattle.store_spec.specs.Disk.{DiskModel}
-use Rattle.store_spec.specs.Election.{Election, IsElection}
-use Rattle.store_spec.specs.Medium.{HoldsSet, HoldsSome}
 
 -- ---- the first further medium that is refused
 
@@ -89,7 +84,7 @@ same_sets e (medium ∷ others) (a ∷ xs) (b ∷ ys) valid x y =
     ap (λ (s : List Ballot). s ∷ xs) same ∙ ap (λ (rest : List (List Ballot)). b ∷ rest) (same_sets e others xs ys valid x.1 y.1)
 
 -- what follows of them
-pub all_as : {e : Election} {content : Content} {P Q : List (List Ballot) → Type 0} → AllHold e content P → ((sets : List (List Ballot)) → P sets → Q sets) → AllHold e content Q
+pub all_as : {e : Election} {content : Content} {P Q : List (List Ballot) → Type 0} → MediaHold e content P → ((sets : List (List Ballot)) → P sets → Q sets) → MediaHold e content Q
 all_as all step = record { set = all.set; sets = all.sets; held = all.held; each = all.each; so = step (all.set ∷ all.sets) all.so }
 
 -- ---- what decides
@@ -104,10 +99,10 @@ pub record RefusesFurther (e : Election) (content : Content) (a : Status) : Type
 
 -- the status that the bytes of all media decide, and why: one of them is refused, or this is so of the sets
 abbrev pub MediaDecide : Election → Content → Status → (List (List Ballot) → Type 0) → Type 0
-MediaDecide e content a So = Refuses e content.disk a ⊎ (RefusesFurther e content a ⊎ AllHold e content So)
+MediaDecide e content a So = Refuses e content.disk a ⊎ (RefusesFurther e content a ⊎ MediaHold e content So)
 
 module _ (e : Election) (content : Content) (valid : IsElection e) where
-  further_held : (a : Status) (So : List (List Ballot) → Type 0) → RefusesFurther e content a → AllHold e content So → ⊥
+  further_held : (a : Status) (So : List (List Ballot) → Type 0) → RefusesFurther e content a → MediaHold e content So → ⊥
   further_held a So refused all = none_first e content.more all.sets 1 refused.index refused.why valid all.each refused.first
 
   one_further : (a b : Status) → RefusesFurther e content a → RefusesFurther e content b → a ≡ b
@@ -115,7 +110,7 @@ module _ (e : Election) (content : Content) (valid : IsElection e) where
       let same = one_first e content.more 1 x.index y.index x.why y.why valid x.first y.first in
       x.is ∙ ap (λ (k : ℕ). status.BadMedium k x.why) same.0 ∙ ap (λ (why : MediumWhy). status.BadMedium y.index why) same.1 ∙ sym y.is
 
-  one_all : {P Q : List (List Ballot) → Type 0} {A : Type 0} → ((sets : List (List Ballot)) → P sets → Q sets → A) → AllHold e content P → AllHold e content Q → A
+  one_all : {P Q : List (List Ballot) → Type 0} {A : Type 0} → ((sets : List (List Ballot)) → P sets → Q sets → A) → MediaHold e content P → MediaHold e content Q → A
   one_all {P} {Q} {A} agree x y =
       let both : Some x.set ≡ Some y.set = one_held e content.disk (Some x.set) (Some y.set) valid x.held y.held in
       let first : x.set ≡ y.set = cc in
@@ -190,7 +185,7 @@ module _ {D : Type 0} (model : DiskModel D) (e : Election) where
     }
 
     -- none is
-    pub all_told : (So : List (List Ballot) → Type 0) (set : List Ballot) (sets : List (List Ballot)) → HoldsIfTold model e one set → EachHolds model e more sets → So (set ∷ sets) → AllHold e content So
+    pub all_told : (So : List (List Ballot) → Type 0) (set : List Ballot) (sets : List (List Ballot)) → HoldsIfTold model e one set → EachHolds model e more sets → So (set ∷ sets) → MediaHold e content So
     all_told So set sets held each so = record {
       set = set;
       sets = sets;

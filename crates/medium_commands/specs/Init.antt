@@ -5,7 +5,7 @@ use Rattle.run_outcome.specs.Row.{Content, EndsWell, Row, TakesNone}
 use Rattle.run_outcome.specs.World.{Reported, World}
 use Rattle.run_outcome.specs.declared.status.Status.{Status}
 use Rattle.run_outcome.specs.declared.status.Status.TheVariants as status
-use Rattle.checkpoint.specs.Unused.{IsRefusedDisk, IsUntouchedOrNew}
+use Rattle.checkpoint.specs.Unused.{IsInitRefused, IsUntouchedOrNew}
 use Rattle.checkpoint.specs.declared.fresh.InitFault.{InitFault}
 use Rattle.checkpoint.specs.declared.fresh.InitFault.TheVariants as faults
 use Rattle.outside_io.specs.Outside.{Output}
@@ -55,13 +55,13 @@ InitLeaves model e status.Ok old new before after =
 InitLeaves model e status.WriteFault old new before after =
     MakesMedium model e before after × TakesSome old.taken ready_text new.taken × Rose old.faults new.faults
 InitLeaves model e status.Exists old new before after =
-    LeavesBytes model before after (λ bytes. IsRefusedDisk e bytes faults.Exists)
+    LeavesBytes model before after (λ bytes. IsInitRefused e bytes faults.Exists)
     × SparesDisk model before after × (new ≡ old)
 InitLeaves model e (status.WrongSize size) old new before after =
-    LeavesBytes model before after (λ bytes. IsRefusedDisk e bytes (faults.WrongSize size))
+    LeavesBytes model before after (λ bytes. IsInitRefused e bytes (faults.WrongSize size))
     × SparesDisk model before after × (new ≡ old)
 InitLeaves model e status.Memory old new before after =
-    LeavesBytes model before after (λ bytes. IsRefusedDisk e bytes faults.Memory)
+    LeavesBytes model before after (λ bytes. IsInitRefused e bytes faults.Memory)
     × SparesDisk model before after × (new ≡ old)
 InitLeaves model e status.DiskFault old new before after =
     Rose (model.faults before) (model.faults after) × (new ≡ old)

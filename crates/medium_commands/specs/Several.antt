@@ -7,7 +7,7 @@ use Rattle.store_spec.specs.Election.{Election}
 use Rattle.store_spec.specs.Medium.{HoldsSet}
 
 -- all media hold sets, for which this is so; the first one's stands first
-pub record AllHold (e : Election) (content : Content) (So : List (List Ballot) → Type 0) : Type 0 where
+pub record MediaHold (e : Election) (content : Content) (So : List (List Ballot) → Type 0) : Type 0 where
   pub set : List Ballot
   pub sets : List (List Ballot)
   pub held : HoldsSet e content.disk set

@@ -11,7 +11,7 @@ use audit_medium::Audit;
 use ballot_record::Election;
 use crash_disk::Disk;
 use outside_io::{Memory, Sink};
-use run_outcome::{Status, tell};
+use run_outcome::{Status, write_out};
 use std::alloc::Global;
 
 /// The line that tells what was found.
@@ -39,7 +39,7 @@ pub fn audit<K: Sink, D: Disk>(
         Err(why) => return Err(status_of(why)),
     };
     let line = line_of(alloc, found)?;
-    tell(out, line.as_str().as_bytes())?;
+    write_out(out, line.as_str().as_bytes())?;
     match found {
         Audit::Canonical { .. } => Ok(()),
         Audit::Differs { place } => Err(Status::NotCanonical { place }),

@@ -10,7 +10,7 @@ use ballot_record::Election;
 use checkpoint::InitFault;
 use crash_disk::Disk;
 use outside_io::Sink;
-use run_outcome::{Status, tell};
+use run_outcome::{Status, write_out};
 use std::alloc::Global;
 
 /// What is written once the medium stands.
@@ -38,7 +38,7 @@ pub fn init<K: Sink, D: Disk>(
         (output K.taken K.faults out.old) (output K.taken K.faults out.new) disk.old disk.new }
 {
     match checkpoint::init(alloc, disk, election) {
-        Ok(()) => tell(out, READY),
+        Ok(()) => write_out(out, READY),
         Err(fault) => Err(status_of(fault)),
     }
 }

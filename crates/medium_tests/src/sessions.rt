@@ -1,12 +1,13 @@
 //! Sessions over a disk and a sink in memory.
 
-use ballot_record::Election;
+use ballot_record::{Election, Record};
 use body_store::Closed;
 use checkpoint::init;
 use crash_disk::{Disk, MemoryDisk, Room};
 use image_builder::Scratch;
 use outside_io::{MemorySink, NoTurns, Sink};
-use phase_gate::{Phase, Report, Session, Telling};
+use phase_gate::{Phase, Report, Session, Writing};
+use script_lines::read_said;
 use std::alloc::Global;
 use std::test::Fail;
 use std::thread::Threads;
@@ -21,7 +22,7 @@ const ROOM: Room = Room {
 fn handle<R: Threads + Sync, D: Disk, K: Sink>(
     rt: &R,
     alloc: Global,
-    telling: Telling,
+    writing: Writing,
     lines: &[&str],
     disk: &mut D,
     out: &mut K,
@@ -31,14 +32,18 @@ fn handle<R: Threads + Sync, D: Disk, K: Sink>(
     let mut scratch = Scratch::new(alloc)?;
     init(alloc, disk, &election)?;
     let closed = Closed::empty(alloc, &election)?;
-    let mut session = Session::telling(alloc, closed, telling);
+    let mut session = Session::writing(alloc, closed, writing);
+    let mut ballot = Record::blank();
     'lines: for (at, line) in lines.iter().enumerate() {
         let number = at as u64 + 1;
         let bytes = line.as_bytes();
+        let said = read_said(bytes, &election, &mut ballot);
         session = session.line(
             rt,
             alloc,
             bytes,
+            said,
+            &ballot,
             number,
             disk,
             out,
@@ -54,13 +59,13 @@ fn handle<R: Threads + Sync, D: Disk, K: Sink>(
 fn written<R: Threads + Sync>(
     rt: &R,
     alloc: Global,
-    telling: Telling,
+    writing: Writing,
     lines: &[&str],
     report: &mut Report,
 ) -> Result<Vec<u8>, Fail> {
     let mut disk = MemoryDisk::new(alloc, Vec::new(alloc), Vec::new(alloc), ROOM)?;
     let mut out = MemorySink::new(alloc, 1000, Vec::new(alloc))?;
-    handle(rt, alloc, telling, lines, &mut disk, &mut out, report)?;
+    handle(rt, alloc, writing, lines, &mut disk, &mut out, report)?;
     Ok(Vec::from_slice(alloc, out.bytes())?)
 }
 
@@ -95,7 +100,7 @@ fn a_summary(rt: HostRuntime) -> Result<(), Fail> {
     let told = b"closed 2\nclosed 1\ncheckpoint 1\ntally 1\n\
         contest 1 under 0 over 0\nchoice 1 1 0\nchoice 1 2 1\nchoice 1 3 0\nchoice 1 4 0\n\
         contest 2 under 0 over 0\nchoice 2 1 1\nchoice 2 2 0\nchoice 2 3 1\n";
-    let replies = written(&rt, alloc, Telling::Summary, &lines, &mut report)?;
+    let replies = written(&rt, alloc, Writing::Summary, &lines, &mut report)?;
     assert!(rt; replies.as_slice() == told.as_slice());
     assert_eq!(rt; report.held, 1);
     assert_eq!(rt; report.marks.len(), 1);

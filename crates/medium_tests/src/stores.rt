@@ -10,6 +10,7 @@ use body_store::Closed;
 use outside_io::Memory;
 use std::alloc::Global;
 use std::process::Abort;
+use std::slice::from_ref;
 use std::test::Fail;
 
 fn blank(number: u64) -> Record
@@ -70,7 +71,7 @@ fn add(alloc: Global, store: &mut Closed, numbers: &[u64], all: &Closed) -> Resu
 {
     let new = blanks(alloc, numbers)?;
     let cells = all.cells().to_vec(alloc)?;
-    store.merge(alloc, &new, cells)
+    store.merge(alloc, from_ref(&new), cells)
 }
 
 /// Takes ballots out of a store, which then has those of another.

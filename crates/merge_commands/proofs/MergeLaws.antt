@@ -1,8 +1,9 @@
 -- The laws of `merge`: the bytes of all media decide how it ends, but for faults and want of memory.
 use Rattle.std.proofs.Common.{◌≡◌, ◌⊎◌, ℕ, List, ◌∷◌, length, Some, inl, inr, refl, sym, ◌∙◌, ap, arith}
+use Rattle.store_spec.proofs.Common.{Ballot, DiskModel, Election, IsElection}
 use Rattle.medium_commands.proofs.Refusing.{refuses}
 use Rattle.medium_commands.proofs.Several.{MediaDecide, Tell, all_as, all_told, further_told, one_of_media, zip_at}
-use Rattle.merge_commands.specs.Merge.{HaveUnion, MergeTells, MergesNone, merge_row}
+use Rattle.merge_commands.specs.Merge.{HaveUnion, MergeWrites, MergesNone, merge_row}
 use Rattle.merge_media.proofs.Unions.{one_union, union_agrees}
 use Rattle.merge_media.specs.Merging.{IsTooLarge}
 use Rattle.merge_media.specs.Union.{IsLeastDisputed}
@@ -16,9 +17,6 @@ use Rattle.run_outcome.specs.Status.{IsDecided}
 use Rattle.run_outcome.specs.World.{IsSteady, World}
 use Rattle.run_outcome.specs.declared.status.Status.{Status}
 use Rattle.run_outcome.specs.declared.status.Status.TheVariants as status
-use Rattle.store_spec.specs.Ballot.{Ballot}
-use Rattle.store_spec.specs.Disk.{DiskModel}
-use Rattle.store_spec.specs.Election.{Election, IsElection}
 
 -- ---- one cause
 
@@ -76,7 +74,7 @@ module _ {D : Type 0} (model : DiskModel D) (e : Election) (before after : D) (m
   none_decides status.Memory decided none = absurd decided
   none_decides other decided none = absurd none
 
-  merge_decides : {K : Type 0} (a : Status) (old new : Output K) → IsDecided a → MergeTells model e a old new before after more now → MergeDecides e content a
+  merge_decides : {K : Type 0} (a : Status) (old new : Output K) → IsDecided a → MergeWrites model e a old new before after more now → MergeDecides e content a
   merge_decides status.Ok old new decided tells =
       let merges = tells.0.merges in
       let fits : HaveUnion e (merges.set ∷ merges.sets) = record { union = merges.union; is = merges.is; within_limit = (told_at content.disk is merges.medium).1.within_limit } in
@@ -87,7 +85,7 @@ module _ {D : Type 0} (model : DiskModel D) (e : Election) (before after : D) (m
 -- ---- no fault where no count rose
 
 merge_settled : {S K D : Type 0} (model : DiskModel D) (e : Election) (a : Status) (before after : World S K D) → NothingFailed model merge_row.touches before after
-    → MergeTells model e a before.streams.sink after.streams.sink before.disk after.disk before.more after.more → IsDecided a ⊎ (a ≡ status.Memory)
+    → MergeWrites model e a before.streams.sink after.streams.sink before.disk after.disk before.more after.more → IsDecided a ⊎ (a ≡ status.Memory)
 merge_settled model e status.DiskFault before after none tells = absurd (not_risen (model.faults before.disk) (model.faults after.disk) none.disk tells.0.0)
 merge_settled model e (status.OtherDiskFault index) before after none tells =
     let one = tells.0.1 in

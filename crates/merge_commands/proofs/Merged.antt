@@ -1,7 +1,7 @@
 -- How a merge ends: the status of media that are not merged, and what came of telling that they were.
 use Rattle.std.proofs.Common.{◌≡◌, ℕ, List, Result, refl, sym, subst}
-use Rattle.std.specs.Prelude.{IfErr, OnErr, OnOk}
-use Rattle.merge_commands.specs.Merge.{MergeTells, MergesNone, merge_status, merged_text}
+use Rattle.store_spec.proofs.Common.{CountsFault, DiskModel, Election, IfErr, OnErr, OnOk}
+use Rattle.merge_commands.specs.Merge.{MergeWrites, MergesNone, merge_status, merged_text}
 use Rattle.merge_media.specs.Merging.{MergeRefuses, Merges}
 use Rattle.merge_media.specs.declared.fault.MergeFault.{MergeFault}
 use Rattle.merge_media.specs.declared.fault.MergeFault.TheVariants.{Target, OtherFault, Other, Dispute, TooMany, DiskFault, Memory}
@@ -14,9 +14,6 @@ use Rattle.run_outcome.proofs.Laws.{ended_told}
 use Rattle.run_outcome.specs.Status.{ended}
 use Rattle.run_outcome.specs.declared.status.Status.{Status}
 use Rattle.run_outcome.specs.declared.status.Status.TheVariants.{WriteFault}
-use Rattle.store_spec.specs.Disk.{DiskModel}
-use Rattle.store_spec.specs.Election.{Election}
-use Rattle.store_spec.specs.Fault.{CountsFault}
 
 -- it tells why they are not
 pub refused_none : {D : Type 0} (model : DiskModel D) (e : Election) (before after : D) (more now : List D) (fault : MergeFault)
@@ -38,8 +35,8 @@ refused_none model e before after more now Memory refused = refused
 pub told_merged : {K D : Type 0} (model : DiskModel D) (e : Election) (r : Result (Unit {0}) Status) (old new : Output K) (before after : D) (more now : List D) (count : ℕ) (text : List ℕ)
     → Merges model model e before after more now count → text ≡ merged_text count
     → OnOk r (TakesAll old.taken text new.taken) → OnErr r (TakesSome old.taken text new.taken) → IfErr r (λ status. status ≡ WriteFault) → CountsFault r old.faults new.faults
-    → MergeTells model e (ended r) old new before after more now
+    → MergeWrites model e (ended r) old new before after more now
 told_merged model e r old new before after more now count text merges is all some failed fault =
-    ended_told r (TakesAll old.taken text new.taken) (TakesSome old.taken text new.taken) old.faults new.faults (λ status. MergeTells model e status old new before after more now) all some failed fault
+    ended_told r (TakesAll old.taken text new.taken) (TakesSome old.taken text new.taken) old.faults new.faults (λ status. MergeWrites model e status old new before after more now) all some failed fault
     (λ told steady. (record { count = count; merges = merges; takes = subst (λ (text : List ℕ). TakesAll old.taken text new.taken) is told }, steady))
     (λ cut rose. (record { count = count; merges = merges; takes = subst (λ (text : List ℕ). TakesSome old.taken text new.taken) is cut }, rose))

@@ -3,7 +3,7 @@
 use Rattle.std.specs.Prelude.{◌≡◌, ◌⊎◌, ℕ, ◌≤◌, List, codes, length, Some, is_some, true, false}
 use Rattle.std.specs.List.{AllZip}
 use Rattle.medium_commands.specs.Refused.{refused_status}
-use Rattle.medium_commands.specs.Several.{AllHold}
+use Rattle.medium_commands.specs.Several.{MediaHold}
 use Rattle.merge_media.specs.Merging.{HoldsOldOrUnion, MergeRefuses, Merges}
 use Rattle.merge_media.specs.Union.{IsUnion}
 use Rattle.merge_media.specs.declared.fault.MergeFault.{MergeFault}
@@ -52,18 +52,18 @@ MergesNone model e status.Memory before after more now = (model.faults after ≡
 MergesNone model e other before after more now = ⊥
 
 -- the target is the medium of the union, of whose line the sink took what this says
-pub record TellsMerged {D : Type 0} (model : DiskModel D) (e : Election) (before after : D) (more now : List D) (Takes : List ℕ → Type 0) : Type 0 where
+pub record WritesMerged {D : Type 0} (model : DiskModel D) (e : Election) (before after : D) (more now : List D) (Takes : List ℕ → Type 0) : Type 0 where
   pub count : ℕ
   pub merges : Merges model model e before after more now count
   pub takes : Takes (merged_text count)
 
 -- what becomes of the sink where a run of `merge` ends so, and why it does
-abbrev pub MergeTells : {K D : Type 0} → DiskModel D → Election → Status → Output K → Output K → D → D → List D → List D → Type 0
-MergeTells model e status.Ok old new before after more now =
-    TellsMerged model e before after more now (λ text. TakesAll old.taken text new.taken) × (new.faults ≡ old.faults)
-MergeTells model e status.WriteFault old new before after more now =
-    TellsMerged model e before after more now (λ text. TakesSome old.taken text new.taken) × Rose old.faults new.faults
-MergeTells model e other old new before after more now = MergesNone model e other before after more now × (new ≡ old)
+abbrev pub MergeWrites : {K D : Type 0} → DiskModel D → Election → Status → Output K → Output K → D → D → List D → List D → Type 0
+MergeWrites model e status.Ok old new before after more now =
+    WritesMerged model e before after more now (λ text. TakesAll old.taken text new.taken) × (new.faults ≡ old.faults)
+MergeWrites model e status.WriteFault old new before after more now =
+    WritesMerged model e before after more now (λ text. TakesSome old.taken text new.taken) × Rose old.faults new.faults
+MergeWrites model e other old new before after more now = MergesNone model e other before after more now × (new ≡ old)
 
 -- Where the target held a set: until its first sync has returned a crash leaves what it might have left before. From then
 -- on, where that sync succeeded, it leaves bytes that hold that set or the union. Or no call was made.
@@ -76,7 +76,7 @@ KeepsOldOrUnion model e before after more =
 -- All that a run of `merge` promises under an election. Nothing is written to the further media: of each a read gives what
 -- it gave, and a crash at each moment leaves what it might have left before.
 pub record MergeEnds {K D : Type 0} (model : DiskModel D) (e : Election) (status : Status) (old new : Output K) (before after : D) (more now : List D) : Type 0 where
-  pub tells : MergeTells model e status old new before after more now
+  pub tells : MergeWrites model e status old new before after more now
   pub crashes : KeepsOldOrUnion model e before after more
   pub reads : AllZip (WritesNothing model.seen model.calls model.may_leave) more now
   pub told : is_some (model.seen after) ≡ is_some (model.seen before)
@@ -95,7 +95,7 @@ pub record HaveUnion (e : Election) (sets : List (List Ballot)) : Type 0 where
   pub within_limit : IsWithinLimit e union
 
 abbrev AllHaveUnion : Election → Content → Type 0
-AllHaveUnion e content = AllHold e content (HaveUnion e)
+AllHaveUnion e content = MediaHold e content (HaveUnion e)
 
 abbrev merge_ends : {S K D : Type 0} → DiskModel D → Election → Status → Reported → World S K D → World S K D → Type 0
 merge_ends model e status report before after =

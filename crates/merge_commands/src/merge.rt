@@ -15,7 +15,7 @@ use image_builder::Scratch;
 use medium_commands::refused;
 use merge_media::MergeFault;
 use outside_io::{Memory, Sink};
-use run_outcome::{Status, tell};
+use run_outcome::{Status, write_out};
 use std::alloc::Global;
 
 /// The status of media that are not merged.
@@ -81,5 +81,5 @@ pub fn merge<K: Sink, D: Disk>(
 {
     let count = united(alloc, election, disk, more)?;
     let line = line_of(alloc, count)?;
-    tell(out, &line)
+    write_out(out, &line)
 }

@@ -1,10 +1,7 @@
 -- A ballot is put in its place among others in ascending order.
 use Rattle.std.proofs.Common.{ℕ, suc, ◌<◌, List, [], ◌∷◌, ◌++◌, arith}
-use Rattle.std.proofs.lemmas.List.Elements.{All-append, All-contains, All-contains_itself, All-head, All-push, All-tail, All-weaker, Contains-append_left, Contains-append_right}
-use Rattle.std.proofs.lemmas.List.Kept.{AllPairs-cons}
-use Rattle.std.specs.List.{All, Contains}
+use Rattle.store_spec.proofs.Common.{All, All-append, All-contains, All-contains_itself, All-head, All-push, All-tail, All-weaker, AllPairs-cons, Ballot, Contains, Contains-append_left, Contains-append_right}
 use Rattle.ballot_record.proofs.BallotSets.{Ascend}
-use Rattle.store_spec.specs.Ballot.{Ballot}
 
 -- all numbers are below this one, or above it
 abbrev pub AreBelow : ℕ → List Ballot → Type 0

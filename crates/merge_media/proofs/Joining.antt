@@ -1,14 +1,10 @@
 -- One ballot more of a set is joined with those that are kept.
 use Rattle.std.proofs.Common.{◌≡◌, ◌≢◌, ◌⊎◌, ℕ, ◌<◌, ◌≤◌, min, inl, inr, ⊎_elim, List, [], ◌∷◌, ◌++◌, Option, Some, None, refl, sym, ◌∙◌, subst, ap, arith}
-use Rattle.std.proofs.lemmas.List.Elements.{All-contains, Contains-append_cases, Contains-append_left, Contains-append_right, Contains-push, Contains-push_cases}
-use Rattle.std.proofs.lemmas.Bool.{cases_lt}
-use Rattle.std.specs.List.{Contains}
-use Rattle.std.specs.Prelude.{MatchOption}
+use Rattle.store_spec.proofs.Common.{All-contains, Ballot, Contains, Contains-append_cases, Contains-append_left, Contains-append_right, Contains-push, Contains-push_cases, MatchOption, cases_lt}
 use Rattle.ballot_record.proofs.BallotNumbers.{ballot_with, contains_number}
 use Rattle.merge_media.proofs.Ascending.{AreAbove, AreBelow, ascend_insert}
-use Rattle.merge_media.proofs.Standing.{disputed_within, joined_same, none_stands, stands_before, stands_behind, stands_cases, stands_new, stands_still}
+use Rattle.merge_media.proofs.Standing.{disputed_within, joined_same, stands_before, stands_behind, stands_cases, stands_new, stands_still}
 use Rattle.merge_media.specs.Union.{Agree, IsDisputed, IsJoinedOf, IsLeastDisputed, IsUnion, StandsInOne, least_with}
-use Rattle.store_spec.specs.Ballot.{Ballot}
 
 -- a set of which no ballot came yet
 pub joined_begins : (sets : List (List Ballot)) (ballots : List Ballot) (dispute : Option ℕ) → IsJoinedOf sets ballots dispute

@@ -1,14 +1,12 @@
 -- Further media are looked at one after another.
 use Rattle.std.proofs.Common.{◌≡◌, ℕ, ⊎_elim, List, [], ◌∷◌, ◌++◌, Option, refl, subst}
+use Rattle.store_spec.proofs.Common.{Ballot, DiskModel, Election}
 use Rattle.merge_media.proofs.Standing.{joined_same, none_stands, stands_behind, stands_cases, stands_either, stands_first, stands_left, stands_right}
 use Rattle.merge_media.specs.Merging.{RefusesFurther, RefusesMedium, RefusesOne}
 use Rattle.merge_media.specs.Union.{IsJoinedOf}
 use Rattle.merge_media.specs.declared.fault.MergeFault.{MergeFault}
 use Rattle.merge_media.specs.declared.fault.MergeFault.TheVariants.{Target, OtherFault, Other, Dispute, TooMany, DiskFault, Memory}
 use Rattle.recovery.specs.Media.{NoneRose}
-use Rattle.store_spec.specs.Ballot.{Ballot}
-use Rattle.store_spec.specs.Disk.{DiskModel}
-use Rattle.store_spec.specs.Election.{Election}
 
 -- ---- why they are not joined
 

@@ -1,6 +1,6 @@
 -- The runs of calls that merge media, and what they leave of the target at each moment.
 use Rattle.std.proofs.Common.{◌≡◌, ℕ, ◌<◌, ◌⊎◌, inl, inr, ⊎_elim, List, ◌∷◌, Option, Some, refl, sym, subst}
-use Rattle.std.specs.Prelude.{IfSome}
+use Rattle.store_spec.proofs.Common.{Ballot, DiskModel, Election, HoldsSet, HoldsTheSame, IfSome, IsElection, IsMediumOf, LeavesOnly, LeavesOnlyOnceSynced, SyncsFirst, last_count}
 use Rattle.body_store.specs.Contents.{Contents}
 use Rattle.checkpoint.proofs.Pages.{told_back}
 use Rattle.crash_disk.proofs.Moments.{synced_then, syncs_weaker, weaker}
@@ -12,11 +12,6 @@ use Rattle.merge_media.specs.declared.fault.MergeFault.TheVariants.{Target, Othe
 use Rattle.outside_io.proofs.Told.{told_holds}
 use Rattle.recovery.proofs.OneByOne.{zip_same}
 use Rattle.recovery.specs.Media.{EachHolds}
-use Rattle.store_spec.specs.Ballot.{Ballot}
-use Rattle.store_spec.specs.Disk.{DiskModel, LeavesOnly, LeavesOnlyOnceSynced, SyncsFirst}
-use Rattle.store_spec.specs.Election.{Election, IsElection}
-use Rattle.store_spec.specs.Fault.{last_count}
-use Rattle.store_spec.specs.Medium.{HoldsSet, HoldsTheSame, IsMediumOf}
 
 -- the set that was read is the one that the bytes hold
 pub same_set : (e : Election) (bytes : List ℕ) (seen : Option (List ℕ)) (set read : List Ballot) → IsElection e → seen ≡ Some bytes → HoldsSet e bytes set

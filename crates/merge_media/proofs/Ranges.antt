@@ -1,7 +1,6 @@
 -- Parts of a list.
 use Rattle.std.proofs.Common.{◌≡◌, ℕ, ◌+◌, ◌-◌, ◌<◌, ◌≤◌, List, [], ◌∷◌, ◌++◌, length, get_or, take, drop, sym, ap, ◌∙◌, arith}
-use Rattle.std.proofs.lemmas.List.{append-nil, drop-drop, drop_all, get_or-drop, length-drop, take-append-drop, take_more}
-use Rattle.std.specs.Prelude.{slice_range}
+use Rattle.store_spec.proofs.Common.{append-nil, drop-drop, drop_all, get_or-drop, length-drop, slice_range, take-append-drop, take_more}
 
 pub range_none : {X : Type 0} (xs : List X) (from : ℕ) → slice_range xs from from ≡ []
 range_none xs from = ap (λ n. take n (drop from xs)) (let e : from - from ≡ 0 = omega arith in e)

@@ -1,11 +1,6 @@
 -- The ballots of a set are joined one after another with those that are kept, both in ascending order.
 use Rattle.std.proofs.Common.{◌≡◌, ◌≢◌, ℕ, ◌+◌, ◌-◌, ◌<◌, ◌≤◌, ⊎_elim, List, [], ◌∷◌, ◌++◌, length, get_or, map, take, drop, Option, Some, sym, ap, subst, ◌∙◌, append_assoc, length-append, arith}
-use Rattle.std.proofs.lemmas.Bool.{cases_lt}
-use Rattle.std.proofs.lemmas.List.{append-nil, get_or-drop, get_or-map, get_or_default, length-drop, length-map, take_all, take_more}
-use Rattle.std.proofs.lemmas.List.Elements.{All-append, All-push, All-weaker, Contains-append_right, Contains-get_or}
-use Rattle.std.proofs.lemmas.Option.{get_or_from_slice_get, slice_get_within}
-use Rattle.std.specs.List.{All, Contains}
-use Rattle.std.specs.Prelude.{slice_get, slice_range}
+use Rattle.store_spec.proofs.Common.{All, All-append, All-push, All-weaker, Ballot, Contains, Contains-append_right, Contains-get_or, append-nil, ballot_of, cases_lt, get_or-drop, get_or-map, get_or_default, get_or_from_slice_get, length-drop, length-map, numbers_of, slice_get, slice_get_within, slice_range, take_all, take_more}
 use Rattle.ballot_record.proofs.BallotNumbers.{length-numbers_of, no_ballot, number_at}
 use Rattle.ballot_record.proofs.BallotSets.{Ascend}
 use Rattle.ballot_record.proofs.Lookups.{found_once}
@@ -14,7 +9,6 @@ use Rattle.merge_media.proofs.Ascending.{AreAbove, AreBelow}
 use Rattle.merge_media.proofs.Joining.{joined_begins}
 use Rattle.merge_media.proofs.Ranges.{range_end, range_more, range_none, range_rest}
 use Rattle.merge_media.specs.Union.{IsJoinedOf}
-use Rattle.store_spec.specs.Ballot.{Ballot, ballot_of, numbers_of}
 
 -- ---- one ballot
 

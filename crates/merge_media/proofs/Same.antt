@@ -1,13 +1,11 @@
 -- Whether two records are of one ballot, by the test that the code makes.
 use Rattle.std.proofs.Common.{◌≡◌, ◌≢◌, Bool, true, false, ◌&&◌, refl, ap}
+use Rattle.store_spec.proofs.Common.{Ballot, bytes_eq-Decides, eq-eqb, eqb-true}
 use Rattle.std.proofs.Math.Dec.{eqb}
-use Rattle.std.proofs.lemmas.Bool.{eq-eqb, eqb-true}
-use Rattle.std.proofs.lemmas.Slice.Eq.{bytes_eq-Decides}
 use Rattle.std.specs.Cmp.Derive.{both_true}
 use Rattle.std.specs.Cmp.Lexicographic.{pointwise}
 use Rattle.ballot_record.specs.Record.{ballot}
 use Rattle.ballot_record.specs.declared.record.Record.{Record}
-use Rattle.store_spec.specs.Ballot.{Ballot}
 
 abbrev is_same : Record → Record → Bool
 is_same a b = eqb a.number b.number && (eqb a.style b.style && pointwise eqb a.marks b.marks)

@@ -1,10 +1,7 @@
 -- Ballots that stand in one of several sets, and the numbers in dispute.
 use Rattle.std.proofs.Common.{◌≡◌, ◌⊎◌, ℕ, zero, suc, inl, inr, ⊎_elim, List, [], ◌∷◌, ◌++◌, Option, Some, None, refl, sym, subst, arith}
-use Rattle.std.proofs.lemmas.List.Elements.{Contains-append_cases, Contains-append_left, Contains-append_right, Contains-push, Contains-push_cases}
-use Rattle.std.specs.List.{Contains}
-use Rattle.std.specs.Prelude.{MatchOption}
+use Rattle.store_spec.proofs.Common.{Ballot, Contains, Contains-append_cases, Contains-append_left, Contains-append_right, Contains-push, Contains-push_cases, MatchOption}
 use Rattle.merge_media.specs.Union.{Agree, IsDisputed, IsJoinedOf, IsLeastDisputed, StandsInOne}
-use Rattle.store_spec.specs.Ballot.{Ballot}
 
 -- what stands in one list of sets stands in another
 abbrev pub StandsWithin : List (List Ballot) → List (List Ballot) → Type 0

@@ -1,16 +1,13 @@
 -- The laws of unions.
 use Rattle.std.proofs.Common.{◌≡◌, ℕ, ⊎_elim, List, ◌∷◌, Option, Some, None, Result, Ok, Err, refl, sym, subst, ◌∙◌, arith}
-use Rattle.std.proofs.lemmas.List.Sorted.{Contains-permutation}
-use Rattle.std.specs.List.{Contains}
-use Rattle.std.specs.List.Sorted.{IsPermutation}
-use Rattle.std.specs.Prelude.{◌↔◌, IfOk}
+use Rattle.store_spec.proofs.Common.{Ballot, Contains, Contains-permutation, IfOk, IsPermutation}
+use Rattle.std.specs.Prelude.{◌↔◌}
 use Rattle.ballot_record.proofs.BallotSets.{Ascend, same_in_order, same_members}
 use Rattle.ballot_record.proofs.Lookups.{AreDistinct, found_once}
 use Rattle.body_store.specs.Contents.{Contents, IsStored}
 use Rattle.merge_media.proofs.Joining.{joined_union}
 use Rattle.merge_media.proofs.Standing.{StandsWithin, stands_cases}
 use Rattle.merge_media.specs.Union.{Agree, IsJoinedOf, IsUnion, StandsInOne}
-use Rattle.store_spec.specs.Ballot.{Ballot}
 
 pub union_same : (xs ys : List (List Ballot)) (union : List Ballot) → StandsWithin xs ys → StandsWithin ys xs → IsUnion xs union → IsUnion ys union
 union_same xs ys union there back is = record {

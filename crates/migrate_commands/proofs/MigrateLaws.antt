@@ -1,13 +1,13 @@
 -- The laws of `migrate`: the bytes of both media decide how it ends, but for faults and want of memory.
 use Rattle.std.proofs.Common.{◌≡◌, ◌≢◌, ◌⊎◌, ℕ, List, [], ◌∷◌, Some, inl, inr, ⊎_elim, refl, sym, ◌∙◌, ap, subst}
-use Rattle.std.specs.List.{AllZip}
-use Rattle.checkpoint.specs.Unused.{IsRefusedDisk, IsUnusedOrHolds}
+use Rattle.store_spec.proofs.Common.{A, AllZip, B, Ballot, Bank, DiskModel, Election, HasVersionOne, HoldsSet, HoldsSome, IsChosen, IsElection, IsOpen, IsUnused, as_version_one}
+use Rattle.checkpoint.specs.Unused.{IsInitRefused, IsUnusedOrHolds}
 use Rattle.checkpoint.specs.declared.fresh.InitFault.TheVariants as inits
 use Rattle.medium_commands.proofs.InitLaws.{InitDecides, one_init}
 use Rattle.medium_commands.proofs.Refusing.{Refuses, not_both, one_refused, refuses}
 use Rattle.migrate_commands.proofs.Migrated.{IsRefusal, is_refusal}
 use Rattle.migrate_commands.proofs.OldForm.{form_valid}
-use Rattle.migrate_commands.specs.Migrate.{HoldsOld, IsUnusedTarget, MigrateEnds, MigrateTells, MigratesNone, MigratesNot, migrate_row, migrate_status}
+use Rattle.migrate_commands.specs.Migrate.{HoldsOld, IsUnusedTarget, MigrateEnds, MigrateWrites, MigratesNone, MigratesNot, migrate_row, migrate_status}
 use Rattle.migrate_medium.specs.Migrating.{OldHolds}
 use Rattle.migrate_medium.specs.declared.fault.MigrateFault.{MigrateFault}
 use Rattle.migrate_medium.specs.declared.fault.MigrateFault.TheVariants as faults
@@ -21,11 +21,6 @@ use Rattle.run_outcome.specs.Status.{IsDecided}
 use Rattle.run_outcome.specs.World.{IsSteady, Reported, World}
 use Rattle.run_outcome.specs.declared.status.Status.{Status}
 use Rattle.run_outcome.specs.declared.status.Status.TheVariants as status
-use Rattle.store_spec.specs.Ballot.{Ballot}
-use Rattle.store_spec.specs.Disk.{DiskModel}
-use Rattle.store_spec.specs.Election.{Election, HasVersionOne, IsElection, as_version_one}
-use Rattle.store_spec.specs.Medium.{Bank, HoldsSet, HoldsSome, IsChosen, IsOpen, IsUnused}
-use Rattle.store_spec.specs.Medium.Bank.{A, B}
 
 -- ---- what decides
 
@@ -112,16 +107,16 @@ module _ {D : Type 0} (model : DiskModel D) (e : Election) (from since before af
   not_decides (faults.Old recover.DiskFault) is not = absurd is
   not_decides (faults.Old recover.Memory) is not = absurd is
   not_decides (faults.ToSize size) is not =
-      decided not.refuses.0 not.refuses.1.0.0 (status.WrongSize size) not.refuses.1.0.1 (at_told (model.seen before) target (λ x. IsRefusedDisk e x (inits.WrongSize size)) sees not.refuses.1.1)
+      decided not.refuses.0 not.refuses.1.0.0 (status.WrongSize size) not.refuses.1.0.1 (at_told (model.seen before) target (λ x. IsInitRefused e x (inits.WrongSize size)) sees not.refuses.1.1)
   not_decides faults.ToInUse is not =
-      decided not.refuses.0 not.refuses.1.0.0 status.Exists not.refuses.1.0.1 (at_told (model.seen before) target (λ x. IsRefusedDisk e x inits.Exists) sees not.refuses.1.1)
+      decided not.refuses.0 not.refuses.1.0.0 status.Exists not.refuses.1.0.1 (at_told (model.seen before) target (λ x. IsInitRefused e x inits.Exists) sees not.refuses.1.1)
   not_decides faults.ToFault is not = absurd is
   not_decides faults.Memory is not = absurd is
 
   none_decides : (a : Status) → IsDecided a → MigratesNone model e from since before after a → MigrateDecides e content a
   none_decides a is none = subst (MigrateDecides e content) (sym none.1) (not_decides none.0 (subst IsDecided none.1 is) none.2)
 
-  tells_decides : {K : Type 0} (a : Status) (old new : Output K) → IsDecided a → MigrateTells model e a old new from since before after → MigrateDecides e content a
+  tells_decides : {K : Type 0} (a : Status) (old new : Output K) → IsDecided a → MigrateWrites model e a old new from since before after → MigrateDecides e content a
   tells_decides status.Ok old new is tells =
       let migrates = tells.0.migrated.migrates in
       decided migrates.form migrates.set status.Ok migrates.held (at_told (model.seen before) target (IsUnused e) sees migrates.unused)
@@ -153,7 +148,7 @@ module _ {D : Type 0} (model : DiskModel D) (e : Election) (from since before af
   none_settled faults.Memory not = inr refl
   none_settled other not = inl tt
 
-  tells_settled : {K : Type 0} (a : Status) (old new : Output K) → IsSteady old.faults new.faults → MigrateTells model e a old new from since before after → IsDecided a ⊎ (a ≡ status.Memory)
+  tells_settled : {K : Type 0} (a : Status) (old new : Output K) → IsSteady old.faults new.faults → MigrateWrites model e a old new from since before after → IsDecided a ⊎ (a ≡ status.Memory)
   tells_settled status.Ok old new sink tells = inl tt
   tells_settled status.WriteFault old new sink tells = absurd (not_risen old.faults new.faults sink tells.1)
   tells_settled status.Memory old new sink tells = inr refl

@@ -1,7 +1,7 @@
 -- How a migration ends: the status of a target that was not filled, and what came of telling that it was.
 use Rattle.std.proofs.Common.{◌≡◌, ℕ, List, Result, Err, inr, refl, sym, ◌∙◌, subst}
-use Rattle.std.specs.Prelude.{IfErr, IsErrOf, OnErr, OnOk}
-use Rattle.migrate_commands.specs.Migrate.{IsMigrated, MigrateTells, MigratesNone, migrate_status, migrated_text}
+use Rattle.store_spec.proofs.Common.{CountsFault, CountsFaultIf, DiskModel, Election, IfErr, IsErrOf, OnErr, OnOk}
+use Rattle.migrate_commands.specs.Migrate.{IsMigrated, MigrateWrites, MigratesNone, migrate_status, migrated_text}
 use Rattle.migrate_medium.specs.Migrating.{IsSpared, MigrateRefuses}
 use Rattle.migrate_medium.specs.declared.fault.MigrateFault.{MigrateFault}
 use Rattle.migrate_medium.specs.declared.fault.MigrateFault.TheVariants.{NoOldForm, Old, ToSize, ToInUse, ToFault, Memory}
@@ -12,9 +12,6 @@ use Rattle.run_outcome.proofs.Laws.{ended_told}
 use Rattle.run_outcome.specs.Status.{ended}
 use Rattle.run_outcome.specs.declared.status.Status.{Status}
 use Rattle.run_outcome.specs.declared.status.Status.TheVariants as status
-use Rattle.store_spec.specs.Disk.{DiskModel}
-use Rattle.store_spec.specs.Election.{Election}
-use Rattle.store_spec.specs.Fault.{CountsFault, CountsFaultIf}
 
 -- a status that a refusal may have
 abbrev pub IsRefusal : Status → Type 0
@@ -52,7 +49,7 @@ module _ {D : Type 0} (model : DiskModel D) (e : Election) (from since before af
   )
 
   -- then nothing is told
-  pub none_told : {K : Type 0} (a : Status) (out : Output K) → MigratesNone model e from since before after a → MigrateTells model e a out out from since before after
+  pub none_told : {K : Type 0} (a : Status) (out : Output K) → MigratesNone model e from since before after a → MigrateWrites model e a out out from since before after
   none_told status.Ok out none = absurd (subst IsRefusal (sym none.1) (is_refusal none.0))
   none_told status.WriteFault out none = absurd (subst IsRefusal (sym none.1) (is_refusal none.0))
   none_told status.Memory out none = (inr none, refl)
@@ -61,8 +58,8 @@ module _ {D : Type 0} (model : DiskModel D) (e : Election) (from since before af
   -- it was, and the sink took the line that tells it, or some first part of it
   pub told_migrated : {K : Type 0} (r : Result (Unit {0}) Status) (old new : Output K) (count : ℕ) (text : List ℕ) → IsMigrated model e from since before after count → text ≡ migrated_text count
       → OnOk r (TakesAll old.taken text new.taken) → OnErr r (TakesSome old.taken text new.taken) → IfErr r (λ a. a ≡ status.WriteFault) → CountsFault r old.faults new.faults
-      → MigrateTells model e (ended r) old new from since before after
+      → MigrateWrites model e (ended r) old new from since before after
   told_migrated r old new count text migrated is all some failed fault =
-      ended_told r (TakesAll old.taken text new.taken) (TakesSome old.taken text new.taken) old.faults new.faults (λ a. MigrateTells model e a old new from since before after) all some failed fault
+      ended_told r (TakesAll old.taken text new.taken) (TakesSome old.taken text new.taken) old.faults new.faults (λ a. MigrateWrites model e a old new from since before after) all some failed fault
       (λ told steady. (record { count = count; migrated = migrated; takes = subst (λ (text : List ℕ). TakesAll old.taken text new.taken) is told }, steady))
       (λ cut rose. (record { count = count; migrated = migrated; takes = subst (λ (text : List ℕ). TakesSome old.taken text new.taken) is cut }, rose))

@@ -1,9 +1,8 @@
 -- An election's form in version 1, and what an old medium holds under it.
 use Rattle.std.proofs.Common.{◌≡◌, ℕ, List, Some, arith}
+use Rattle.store_spec.proofs.Common.{Ballot, Election, HasVersionOne, IsElection, as_version_one}
 use Rattle.image_builder.proofs.Held.{one_held}
 use Rattle.migrate_commands.specs.Migrate.{HoldsOld}
-use Rattle.store_spec.specs.Ballot.{Ballot}
-use Rattle.store_spec.specs.Election.{Election, HasVersionOne, IsElection, as_version_one}
 
 pub form_valid : (e : Election) → IsElection e → HasVersionOne e → IsElection (as_version_one e)
 form_valid e valid form = record {

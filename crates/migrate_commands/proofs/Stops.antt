@@ -1,16 +1,14 @@
 -- What a stop leaves of the target of a migration.
 use Rattle.std.proofs.Common.{◌≡◌, ℕ, List, Some, None, inl, inr, ⊎_elim, sym, subst}
+use Rattle.store_spec.proofs.Common.{Ballot, DiskModel, Election, HoldsSet, IsElection, IsUnused, LeavesOnly, as_version_one, leaves_now}
 use Rattle.checkpoint.proofs.Unused.{unused_holds}
 use Rattle.checkpoint.specs.Unused.{IsUnusedOrHolds}
 use Rattle.crash_disk.proofs.Moments.{started, syncs_first}
 use Rattle.migrate_commands.proofs.OldForm.{one_old}
 use Rattle.migrate_commands.specs.Migrate.{FillsTarget, HoldsOld}
-use Rattle.migrate_medium.specs.Migrating.{MayHold, OldHolds}
+use Rattle.migrate_medium.specs.Migrating.{IsKeptOrMigrated, OldHolds}
 use Rattle.run_outcome.proofs.Laws.{at_told}
-use Rattle.store_spec.specs.Ballot.{Ballot}
-use Rattle.store_spec.specs.Disk.{DiskModel, LeavesOnly, leaves_now}
-use Rattle.store_spec.specs.Election.{Election, IsElection, as_version_one}
-use Rattle.store_spec.specs.Medium.{Holds, HoldsAtMost, HoldsSet, IsUnused}
+use Rattle.store_spec.specs.Medium.{Holds, HoldsAtMost}
 
 module _ {D : Type 0} (model : DiskModel D) (e : Election) (from before after : D) (medium bytes : List ℕ) (set : List Ballot) (valid : IsElection e) (reads : model.seen from ≡ Some medium) (held : HoldsOld e medium set)
     (sees : model.seen before ≡ Some bytes) (image : leaves_now model.calls model.may_leave before bytes) (fills : FillsTarget model e from before after) where
@@ -21,7 +19,7 @@ module _ {D : Type 0} (model : DiskModel D) (e : Election) (from before after : 
   left : (P : List ℕ → Type 0) → ((c : List ℕ) → leaves_now model.calls model.may_leave before c → P c) → ((c : List ℕ) → IsUnusedOrHolds e set c → P c) → LeavesOnly model.calls model.may_leave before after P
   left P start later = ⊎_elim
       (λ (none : after ≡ before). subst (λ (d : D). LeavesOnly model.calls model.may_leave before d P) (sym none) (started model.calls model.may_leave before P start))
-      (λ run. syncs_first model.calls model.may_leave before after P (MayHold model e from bytes) start
+      (λ run. syncs_first model.calls model.may_leave before after P (IsKeptOrMigrated model e from bytes) start
       (λ c may. ⊎_elim
       (λ (same : c ≡ bytes). subst P (sym same) (start bytes image))
       (λ new. later c (subst (λ (s : List Ballot). IsUnusedOrHolds e s c) (same_set new.1.0 new.1.1) new.1.2))

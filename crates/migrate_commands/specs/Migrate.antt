@@ -2,7 +2,7 @@
 -- and `since` the disk of the old medium at the start and at the end, and `before` and `after` that of the target.
 use Rattle.std.specs.Prelude.{◌≡◌, ◌≢◌, ◌⊎◌, ℕ, List, [], ◌∷◌, codes, Some, is_some, true, false}
 use Rattle.medium_commands.specs.Refused.{refused_status}
-use Rattle.migrate_medium.specs.Migrating.{IsSpared, MayHold, MigrateRefuses, Migrates}
+use Rattle.migrate_medium.specs.Migrating.{IsKeptOrMigrated, IsSpared, MigrateRefuses, Migrates}
 use Rattle.migrate_medium.specs.declared.fault.MigrateFault.{MigrateFault}
 use Rattle.migrate_medium.specs.declared.fault.MigrateFault.TheVariants as faults
 use Rattle.outside_io.specs.Outside.{Output}
@@ -53,33 +53,33 @@ MigratesNone model e from since before after status =
     (fault : MigrateFault) × (status ≡ migrate_status fault) × MigratesNot model e from since before after fault
 
 -- it was filled, and the sink took of the line that tells it what this says
-pub record TellsMigrated {D : Type 0} (model : DiskModel D) (e : Election) (from since before after : D) (Takes : List ℕ → Type 0) : Type 0 where
+pub record WritesMigrated {D : Type 0} (model : DiskModel D) (e : Election) (from since before after : D) (Takes : List ℕ → Type 0) : Type 0 where
   pub count : ℕ
   pub migrated : IsMigrated model e from since before after count
   pub takes : Takes (migrated_text count)
 
 -- What becomes of the sink where a run of `migrate` ends so, and why it does. Memory may be wanting for the line alone.
-abbrev pub MigrateTells : {K D : Type 0} → DiskModel D → Election → Status → Output K → Output K → D → D → D → D → Type 0
-MigrateTells model e status.Ok old new from since before after =
-    TellsMigrated model e from since before after (λ text. TakesAll old.taken text new.taken) × (new.faults ≡ old.faults)
-MigrateTells model e status.WriteFault old new from since before after =
-    TellsMigrated model e from since before after (λ text. TakesSome old.taken text new.taken) × Rose old.faults new.faults
-MigrateTells model e status.Memory old new from since before after =
+abbrev pub MigrateWrites : {K D : Type 0} → DiskModel D → Election → Status → Output K → Output K → D → D → D → D → Type 0
+MigrateWrites model e status.Ok old new from since before after =
+    WritesMigrated model e from since before after (λ text. TakesAll old.taken text new.taken) × (new.faults ≡ old.faults)
+MigrateWrites model e status.WriteFault old new from since before after =
+    WritesMigrated model e from since before after (λ text. TakesSome old.taken text new.taken) × Rose old.faults new.faults
+MigrateWrites model e status.Memory old new from since before after =
     (((count : ℕ) × IsMigrated model e from since before after count) ⊎ MigratesNone model e from since before after status.Memory)
     × (new ≡ old)
-MigrateTells model e other old new from since before after = MigratesNone model e from since before after other × (new ≡ old)
+MigrateWrites model e other old new from since before after = MigratesNone model e from since before after other × (new ≡ old)
 
 -- Where the target tells its bytes: until its first sync has returned a crash leaves what it might have left before. From
 -- then on, where that sync succeeded, it leaves those bytes, or, only where they were unused, bytes that are so still or
 -- hold the set of the old medium. Or no call was made.
 abbrev pub FillsTarget : {D : Type 0} → DiskModel D → Election → D → D → D → Type 0
 FillsTarget model e from before after = (bytes : List ℕ) → model.seen before ≡ Some bytes
-    → (after ≡ before) ⊎ SyncsFirst model.calls model.may_leave before after (MayHold model e from bytes)
+    → (after ≡ before) ⊎ SyncsFirst model.calls model.may_leave before after (IsKeptOrMigrated model e from bytes)
 
 -- All that a run of `migrate` promises under an election. Nothing is written to the old medium: a read gives what it
 -- gave, and a crash at each moment leaves what it might have left before.
 pub record MigrateEnds {K D : Type 0} (model : DiskModel D) (e : Election) (status : Status) (old new : Output K) (from since before after : D) : Type 0 where
-  pub tells : MigrateTells model e status old new from since before after
+  pub tells : MigrateWrites model e status old new from since before after
   pub crashes : FillsTarget model e from before after
   pub reads : WritesNothing model.seen model.calls model.may_leave from since
   pub told : is_some (model.seen after) ≡ is_some (model.seen before)

@@ -13,7 +13,7 @@ use crash_disk::Disk;
 use medium_commands::refused;
 use migrate_medium::MigrateFault;
 use outside_io::{Memory, Sink};
-use run_outcome::{Status, tell};
+use run_outcome::{Status, write_out};
 use std::alloc::Global;
 
 /// The status of a target that was not filled. It is the first further medium, and the only one.
@@ -73,7 +73,7 @@ fn migrate_into<K: Sink, D: Disk>(
 {
     let count = filled(alloc, election, disk, target)?;
     let line = line_of(alloc, count)?;
-    tell(out, &line)
+    write_out(out, &line)
 }
 
 /// Makes the only further medium, unless it is in use, that of the ballots that the medium holds in version 1, under the

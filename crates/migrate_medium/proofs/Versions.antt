@@ -1,10 +1,6 @@
 -- What a store of an election in version 1 holds, a store of the election may hold.
 use Rattle.std.proofs.Common.{◌≡◌, ℕ, List, Option, Some, None, Result, Ok, Err, drop, ap, sym, ◌∙◌, subst}
-use Rattle.std.proofs.lemmas.List.Elements.{All-contains, All-weaker}
-use Rattle.std.specs.List.{All}
-use Rattle.std.proofs.lemmas.List.Sorted.{IsPermutation-refl}
-use Rattle.std.specs.List.Sorted.{IsPermutation}
-use Rattle.std.specs.Prelude.{IfOk, IfSome, option_map}
+use Rattle.store_spec.proofs.Common.{All, All-contains, All-weaker, Ballot, Election, IfOk, IfSome, IsElection, IsListing, IsPermutation, IsPermutation-refl, IsValid, IsWithinLimit, as_version_one, ballot_of, cells_of, header_size, image_of, option_map}
 use Rattle.ballot_record.proofs.BallotSets.{listing_from_set, same_in_order}
 use Rattle.ballot_record.proofs.Lookups.{found_in}
 use Rattle.ballot_record.specs.Record.{ballot}
@@ -14,9 +10,6 @@ use Rattle.body_store.proofs.Spelled.{spelled_by_number}
 use Rattle.body_store.specs.ByNumber.{by_number}
 use Rattle.body_store.specs.Contents.{Contents, IsStored}
 use Rattle.body_store.specs.Held.{Shows, spelled_in}
-use Rattle.store_spec.specs.Ballot.{Ballot, ballot_of, IsListing, IsValid, IsWithinLimit}
-use Rattle.store_spec.specs.Election.{Election, IsElection, as_version_one, header_size}
-use Rattle.store_spec.specs.Image.{cells_of, image_of}
 
 valid_too : (e : Election) (b : Ballot) → IsValid (as_version_one e) b → IsValid e b
 valid_too e b valid = record {

@@ -1,7 +1,7 @@
 -- What a migration makes of an old medium and of a target. `from` and `since` are the disk of the old medium at the start
 -- and at the end, `before` and `after` that of the target.
 use Rattle.std.specs.Prelude.{◌≡◌, ◌≢◌, ◌⊎◌, ℕ, List, length, Some, IfSome}
-use Rattle.checkpoint.specs.Unused.{IsRefusedDisk, IsUnusedOrHolds}
+use Rattle.checkpoint.specs.Unused.{IsInitRefused, IsUnusedOrHolds}
 use Rattle.checkpoint.specs.declared.fresh.FillFault.{FillFault}
 use Rattle.checkpoint.specs.declared.fresh.FillFault.TheVariants as fills
 use Rattle.checkpoint.specs.declared.fresh.InitFault.TheVariants as inits
@@ -47,9 +47,9 @@ OldRefuses model form from since fault = ⊥
 -- the old medium holds a set, and the target is refused for this reason
 abbrev pub TargetRefuses : {A B : Type 0} → DiskModel A → DiskModel B → Election → A → B → B → MigrateFault → Type 0
 TargetRefuses old target e from before after (ToSize size) =
-    ((set : List Ballot) × OldHolds old e from set) × IfSome (target.seen before) (λ bytes. IsRefusedDisk e bytes (inits.WrongSize size))
+    ((set : List Ballot) × OldHolds old e from set) × IfSome (target.seen before) (λ bytes. IsInitRefused e bytes (inits.WrongSize size))
 TargetRefuses old target e from before after ToInUse =
-    ((set : List Ballot) × OldHolds old e from set) × IfSome (target.seen before) (λ bytes. IsRefusedDisk e bytes inits.Exists)
+    ((set : List Ballot) × OldHolds old e from set) × IfSome (target.seen before) (λ bytes. IsInitRefused e bytes inits.Exists)
 TargetRefuses old target e from before after ToFault =
     ((set : List Ballot) × OldHolds old e from set) × Rose (target.faults before) (target.faults after)
 TargetRefuses old target e from before after fault = ⊥
@@ -74,6 +74,6 @@ IsSpared model before after fault =
     → LeavesOnly model.calls model.may_leave before after (leaves_now model.calls model.may_leave before))
 
 -- These are the bytes that the target had, or it was unused, and these are so still or hold the set of the old medium.
-abbrev pub MayHold : {D : Type 0} → DiskModel D → Election → D → List ℕ → List ℕ → Type 0
-MayHold old e from bytes image =
+abbrev pub IsKeptOrMigrated : {D : Type 0} → DiskModel D → Election → D → List ℕ → List ℕ → Type 0
+IsKeptOrMigrated old e from bytes image =
     (image ≡ bytes) ⊎ (IsUnused e bytes × ((set : List Ballot) × OldHolds old e from set × IsUnusedOrHolds e set image))

@@ -1,10 +1,11 @@
 //! An old medium is read, and a new one is filled.
 
 ghost use Rattle.std.specs.Prelude.{◌≡◌, ◌≤◌, ◌⊎◌, ℕ, List, IfErr, IfOk, IsErrOf, IfSome, Some, is_some};
-ghost use Rattle.migrate_medium.specs.Migrating.{IsSpared, MayHold, Migrates, MigrateRefuses, OldRefuses};
+ghost use Rattle.migrate_medium.specs.Migrating.{IsSpared, IsKeptOrMigrated, Migrates, MigrateRefuses, OldRefuses};
 ghost use Rattle.migrate_medium.specs.declared.fault.MigrateFault.TheVariants as faults;
 ghost use Rattle.recovery.specs.ReadsOnly.{WritesNothing};
 ghost use Rattle.recovery.specs.declared.fault.RecoverFault.TheVariants as recover;
+ghost use Rattle.crash_disk.specs.MadeCalls.{MakesCalls};
 ghost use Rattle.store_spec.specs.Disk.{disk_model, SyncsFirst};
 ghost use Rattle.store_spec.specs.Fault.{CountsFaultIf};
 ghost use Rattle.store_spec.specs.Medium.{HoldsSet};
@@ -26,10 +27,8 @@ fn old_store<A: Disk>(alloc: Global, from: &mut A, form: &Election) -> Result<Cl
     ensures refused { IfErr result (OldRefuses
         (disk_model A.seen A.calls A.may_leave A.faults) form.now from.old from.new) }
     ensures reads { WritesNothing A.seen A.calls A.may_leave from.old from.new }
-    ensures later { A.calls from.old ≤ A.calls from.new }
-    ensures fault { CountsFaultIf (IsErrOf result (MigrateFault.Old RecoverFault.DiskFault))
-        (A.faults from.old) (A.faults from.new) }
-    ensures leads { A.leads_to from.old from.new }
+    ensures calls { MakesCalls A.seen A.calls A.faults A.leads_to (CountsFaultIf (IsErrOf result (MigrateFault.Old RecoverFault.DiskFault)))
+        from.old from.new }
 {
     match look(alloc, from, form) {
         Ok(store) => Ok(store),
@@ -57,7 +56,7 @@ pub fn migrate<A: Disk, B: Disk>(
         (disk_model B.seen B.calls B.may_leave B.faults) to.old to.new) }
     ensures any_moment { (bytes : List ℕ) → B.seen to.old ≡ Some bytes
         → (to.new ≡ to.old) ⊎ SyncsFirst B.calls B.may_leave to.old to.new
-        (MayHold (disk_model A.seen A.calls A.may_leave A.faults) election.now from.old bytes) }
+        (IsKeptOrMigrated (disk_model A.seen A.calls A.may_leave A.faults) election.now from.old bytes) }
     ensures reads { WritesNothing A.seen A.calls A.may_leave from.old from.new }
     ensures told { is_some (B.seen to.new) ≡ is_some (B.seen to.old) }
     ensures later { B.calls to.old ≤ B.calls to.new }

@@ -1,12 +1,10 @@
 -- What a call of `next_line` answers, from what its parts do.
 use Rattle.std.proofs.Common.{◌≡◌, ℕ, Bool, true, false, ◌+◌, ◌<◌, ◌≤◌, List, [], ◌∷◌, ◌++◌, length, take, drop, map, Option, Some, None, Ok, Err, refl, ap, sym, ◌∙◌, subst, inl, inr, arith, append_assoc, length-append, length-drop, length-take}
-use Rattle.std.proofs.lemmas.List.{take-append-le, drop-append-le, drop_all, drop_at, drop-drop, nil_from_length, append-nil, take_all}
+use Rattle.store_spec.proofs.Common.{IsErrAnd, IsTooLong, Result, append-nil, cases_lt, drop-append-le, drop-drop, drop_all, drop_at, first_width, line_limit, nil_from_length, take-append-le, take_all, taken_line, taken_within}
 use Rattle.std.specs.Option.{IfSome}
-use Rattle.std.specs.Prelude.{Result, IsErrAnd}
-use Rattle.std.proofs.lemmas.Bool.{cases_lt}
 use Rattle.outside_io.specs.declared.lines.LineEndFault.TheVariants.{TooLong, ReadFault}
 use Rattle.outside_io.specs.declared.lines.LineEndFault.{LineEndFault}
-use Rattle.outside_io.specs.Lines.{HandsOut, HasEnded, LooksLike, Answers, AnswersTold, CutsOff, StaysSame, TakesLast}
+use Rattle.outside_io.specs.Lines.{HandsOut, EndsEmpty, LooksLike, AnswersNext, AnswersTold, CutsOff, StaysSame, TakesLast}
 use Rattle.outside_io.specs.declared.lines.NextLine.{NextLine}
 use Rattle.outside_io.specs.declared.lines.NextLine.TheVariants.{Whole, TooWide, End}
 use Rattle.outside_io.specs.Stream.{Gives}
@@ -15,7 +13,6 @@ use Rattle.outside_io.specs.Window.{Kept}
 use Rattle.outside_io.proofs.TakenLines.{taken_line-narrow, taken_line-wide}
 use Rattle.outside_io.proofs.Told.{told_still, told_as, told_on, told_given, told_holds}
 use Rattle.outside_io.proofs.FirstLine.{first_width-le, first_width-append, first_width-more, first_width-same, lines_within-first, lines_within-none, lines_within-too_long}
-use Rattle.store_spec.specs.Input.{line_limit, first_width, taken_line, taken_within, IsTooLong}
 
 -- ---- texts that look alike
 
@@ -138,7 +135,7 @@ last_hands line old now text room alike same none within some rest counted ended
     (ap taken_line (take_all (first_width all) all (omega arith) ∙ is) ∙ taken)
     (nothing ∙ sym (drop_all (first_width all + 1) all (omega arith))) (omega (arith, ap length nothing))
 
-pub answers_line : (answer : NextLine) (old now : Kept) (text left : List ℕ) (room : ℕ) → LooksLike text (old.text ++ left) → old.room ≡ room → CutsOff answer old now → Answers (Ok answer) text room now (now.text ++ left)
+pub answers_line : (answer : NextLine) (old now : Kept) (text left : List ℕ) (room : ℕ) → LooksLike text (old.text ++ left) → old.room ≡ room → CutsOff answer old now → AnswersNext (Ok answer) text room now (now.text ++ left)
 answers_line Whole old now text left room alike same cut =
     cut_hands (Some now.line) old now text left room alike same cut.ends cut.within cut.rest cut.room
     (taken_line-narrow (take (first_width old.text) old.text) cut.answer.0 ∙ ap Some (sym cut.answer.1))
@@ -146,7 +143,7 @@ answers_line TooWide old now text left room alike same cut =
     cut_hands None old now text left room alike same cut.ends cut.within cut.rest cut.room (taken_line-wide (take (first_width old.text) old.text) cut.answer)
 answers_line End old now text left room alike same cut = absurd cut.answer
 
-answers_end : (answer : NextLine) (old now : Kept) (text : List ℕ) (room : ℕ) → LooksLike text (old.text ++ []) → old.room ≡ room → first_width old.text ≡ length old.text → length old.text ≤ old.room → TakesLast answer old now → Answers (Ok answer) text room now (now.text ++ [])
+answers_end : (answer : NextLine) (old now : Kept) (text : List ℕ) (room : ℕ) → LooksLike text (old.text ++ []) → old.room ≡ room → first_width old.text ≡ length old.text → length old.text ≤ old.room → TakesLast answer old now → AnswersNext (Ok answer) text room now (now.text ++ [])
 answers_end Whole old now text room alike same none within last =
     last_hands (Some now.line) old now text room alike same none within last.0 last.1 last.2 last.3 (taken_line-narrow old.text last.4.0 ∙ ap Some (sym last.4.1))
 answers_end TooWide old now text room alike same none within last =
@@ -157,9 +154,9 @@ answers_end End old now text room alike same none within last =
     let lines : taken_within room text ≡ [] = ap (λ bytes. taken_within room bytes) nothing ∙ ap (map taken_line) (lines_within-none room) in
     (record { lines = lines; empty = nothing }, append-nil now.text ∙ last.1, last.2 ∙ same, last.3)
 
-pub answers_last : (answer : NextLine) (old now : Kept) (text left : List ℕ) (room : ℕ) → LooksLike text (old.text ++ left) → old.room ≡ room → first_width old.text ≡ length old.text → length old.text ≤ old.room → left ≡ [] → TakesLast answer old now → Answers (Ok answer) text room now (now.text ++ left)
+pub answers_last : (answer : NextLine) (old now : Kept) (text left : List ℕ) (room : ℕ) → LooksLike text (old.text ++ left) → old.room ≡ room → first_width old.text ≡ length old.text → length old.text ≤ old.room → left ≡ [] → TakesLast answer old now → AnswersNext (Ok answer) text room now (now.text ++ left)
 answers_last answer old now text left room alike same none within ended last =
-    let P : List ℕ → Type 0 = λ left. LooksLike text (old.text ++ left) → Answers (Ok answer) text room now (now.text ++ left) in
+    let P : List ℕ → Type 0 = λ left. LooksLike text (old.text ++ left) → AnswersNext (Ok answer) text room now (now.text ++ left) in
     subst P (sym ended) (λ alike. answers_end answer old now text room alike same none within last) alike
 
 -- ---- the same, where the source tells its bytes
@@ -179,7 +176,7 @@ abbrev pub EndedBefore : Kept → Kept → Option (List ℕ) → Option (List �
 EndedBefore old mid before left = mid.ended ≡ true → (mid ≡ old) × (left ≡ before)
 
 -- then nothing is kept, and the source has nothing left
-ended_still : (before left : Option (List ℕ)) (old mid : Kept) → EndedBefore old mid before left → HasEnded old before → HasEnded mid left
+ended_still : (before left : Option (List ℕ)) (old mid : Kept) → EndedBefore old mid before left → EndsEmpty old before → EndsEmpty mid left
 ended_still before left old mid known ends is =
     let same = known is in
     let was = ends (ap (λ (kept : Kept). kept.ended) (sym same.0) ∙ is) in
@@ -192,7 +189,7 @@ told_line answer before left old mid now alike same known cut = record {
   asked = λ failed. absurd (cc);
 }
 
-too_long_now : (old mid now : Kept) (x y : List ℕ) → mid.room ≡ old.room → IsTooLong mid.text mid.room → StaysSame mid now → LooksLike (old.text ++ x) (mid.text ++ y) → Answers (Err TooLong) (old.text ++ x) old.room now (now.text ++ y)
+too_long_now : (old mid now : Kept) (x y : List ℕ) → mid.room ≡ old.room → IsTooLong mid.text mid.room → StaysSame mid now → LooksLike (old.text ++ x) (mid.text ++ y) → AnswersNext (Err TooLong) (old.text ++ x) old.room now (now.text ++ y)
 too_long_now old mid now x y same long still alike =
     let P : List ℕ → Type 0 = λ text. LooksLike (old.text ++ x) (text ++ y) in
     let R : ℕ → Type 0 = λ room. IsTooLong mid.text room in
@@ -209,7 +206,7 @@ told_too_long before left old mid now alike same known long still = record {
   asked = λ failed. absurd (cc);
 }
 
-pub told_last : (answer : NextLine) (before left : Option (List ℕ)) (old mid now : Kept) → Alike old mid before left → mid.room ≡ old.room → first_width mid.text ≡ length mid.text → length mid.text ≤ mid.room → (HasEnded old before → IfSome left (λ rest. rest ≡ [])) → TakesLast answer mid now → AnswersTold (Ok answer) old before now left
+pub told_last : (answer : NextLine) (before left : Option (List ℕ)) (old mid now : Kept) → Alike old mid before left → mid.room ≡ old.room → first_width mid.text ≡ length mid.text → length mid.text ≤ mid.room → (EndsEmpty old before → IfSome left (λ rest. rest ≡ [])) → TakesLast answer mid now → AnswersTold (Ok answer) old before now left
 told_last answer before left old mid now alike same none within ended last = record {
   told = λ ends. record {
     told = alike.told;

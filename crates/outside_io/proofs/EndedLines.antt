@@ -1,10 +1,7 @@
 -- A front of a text whose lines all have an end, and what comes behind it.
 use Rattle.std.proofs.Common.{◌≡◌, ℕ, zero, suc, ◌+◌, ◌<◌, ◌≤◌, Bool, true, false, cond, eqb, List, [], ◌∷◌, ◌++◌, length, take, refl, ap, sym, ◌∙◌, inl, inr, ⊎_elim, subst, arith, length-append}
-use Rattle.std.proofs.Math.Seq.{take-append-add}
-use Rattle.std.proofs.lemmas.Bool.{cases_lt}
-use Rattle.std.proofs.lemmas.List.{take-take}
+use Rattle.store_spec.proofs.Common.{begun_with, cases_lt, continued, ended_lines, line_end, lines_of, lines_within, take-append-add, take-take}
 use Rattle.outside_io.proofs.FirstLine.{all_within, front_within}
-use Rattle.store_spec.specs.Input.{line_end, begun_with, continued, lines_of, ended_lines, lines_within}
 
 -- each line of the front has an end
 abbrev pub IsWhole : List ℕ → Type 0

@@ -1,9 +1,7 @@
 -- The first line of a text, and the lines behind it.
 use Rattle.std.proofs.Common.{◌≡◌, ℕ, zero, suc, ◌+◌, ◌-◌, ◌<◌, ◌≤◌, Bool, true, false, not, cond, eqb, List, [], ◌∷◌, ◌++◌, length, take, drop, replicate, refl, ap, sym, ◌∙◌, arith}
+use Rattle.store_spec.proofs.Common.{IsTooLong, begun_with, cases_lt, continued, drop-take, drop_all, ended_lines, first_width, length-take-le, line_end, lines_of, lines_within, lt-leb, take-take, take_all}
 use Rattle.std.proofs.Common.{inl, inr, le-leb, length-drop}
-use Rattle.std.proofs.lemmas.Bool.{cases_lt, lt-leb}
-use Rattle.std.proofs.lemmas.List.{take_all, drop_all, take-take, drop-take, length-take-le}
-use Rattle.store_spec.specs.Input.{line_end, begun_with, continued, lines_of, ended_lines, lines_within, first_width, IsTooLong}
 
 -- the width of a line that begins with this byte
 abbrev width_of : Bool → ℕ → ℕ

@@ -1,6 +1,6 @@
 -- What a read of a piece leaves.
 use Rattle.std.proofs.Common.{◌≡◌, ℕ, ◌+◌, ◌-◌, ◌≤◌, List, ◌++◌, length, take, drop, ap, sym, ◌∙◌, arith, take-append-drop}
-use Rattle.std.proofs.lemmas.List.{take_at, drop-drop, length-take-le, length-drop}
+use Rattle.store_spec.proofs.Common.{drop-drop, length-drop, length-take-le, take_at}
 
 -- the bytes from a place on are those of a piece and those behind it
 pub piece_given : (bytes buf piece : List ℕ) (at count : ℕ) → at + count ≤ length bytes → piece ≡ take (at + count - at) (drop at bytes) → drop at bytes ≡ take count (piece ++ drop count buf) ++ drop (at + count) bytes

@@ -1,13 +1,11 @@
 -- A loop over `next_line`: which lines were taken so far, and how the loop ends. A proof about such a loop has
 -- `ReadSoFar` in its invariant, and cites one lemma here at each answer.
 use Rattle.std.proofs.Common.{◌≡◌, ◌≢◌, ℕ, Bool, true, false, ◌+◌, ◌<◌, ◌≤◌, ◌⊎◌, ⊎_elim, List, [], ◌∷◌, ◌++◌, length, take, drop, Option, Some, None, Result, Ok, Err, refl, ap, sym, subst, ◌∙◌, inl, inr, arith, append_assoc, length-append, length-drop}
-use Rattle.std.proofs.Math.Seq.{take-append-add}
-use Rattle.std.proofs.lemmas.Bool.{cases_lt}
-use Rattle.std.proofs.lemmas.List.{append-nil, drop_all, drop_at, take_all, take_at, length-take-le, take-take, map-append, nil_from_length, take-append-drop}
+use Rattle.store_spec.proofs.Common.{append-nil, cases_lt, drop_all, drop_at, ended_lines, first_width, length-take-le, lines_of, lines_within, map-append, nil_from_length, script_limit, take-append-add, take-append-drop, take-take, take_all, take_at, taken_line, taken_lines, taken_within}
 use Rattle.outside_io.proofs.EndedLines.{IsWhole, lines_of-append, ended_lines-append, lines_within-append}
 use Rattle.outside_io.proofs.FirstLine.{all_within, ended_lines-ended, ended_lines-none, first_width-le, first_width-more, first_width-take_none, first_width-take, lines_of-ended, lines_of-last, lines_within-first, lines_within-none}
 use Rattle.outside_io.proofs.Told.{told_still, told_as, told_with, told_on}
-use Rattle.outside_io.specs.Lines.{Answers, AnswersTold, HandsOut, HasEnded}
+use Rattle.outside_io.specs.Lines.{AnswersNext, AnswersTold, EndsEmpty, HandsOut}
 use Rattle.outside_io.specs.Reading.{ReadLines, ReadFirst, ReadsTo}
 use Rattle.outside_io.specs.Reading.Ending.{ReadOut, TooMuch, Faulted}
 use Rattle.outside_io.specs.Stream.{GivesAtMost, GivesFront}
@@ -17,7 +15,6 @@ use Rattle.outside_io.specs.declared.lines.LineEndFault.{LineEndFault}
 use Rattle.outside_io.specs.declared.lines.LineEndFault.TheVariants.{TooLong, ReadFault}
 use Rattle.outside_io.specs.declared.lines.NextLine.{NextLine}
 use Rattle.outside_io.specs.declared.lines.NextLine.TheVariants.{Whole, TooWide, End}
-use Rattle.store_spec.specs.Input.{script_limit, first_width, lines_of, ended_lines, lines_within, taken_line, taken_lines, taken_within}
 
 -- ---- what was taken of a text
 
@@ -170,7 +167,7 @@ taken_fault lines room m ended text now left asked h no_end few size gives = ⊎
 pub record ReadSoFar (P : List (Option (List ℕ)) → Type 0) (kept : Kept) (before left : Option (List ℕ)) : Type 0 where
   pub lines : List (Option (List ℕ))
   pub told : IfTold before left (λ text left. HasTaken lines kept.room kept.ended text (kept.text ++ left))
-  pub ended : HasEnded kept left
+  pub ended : EndsEmpty kept left
   pub within_room : length kept.text ≤ kept.room + 1
   pub counted : length lines + kept.room ≤ script_limit
   pub good : P lines
@@ -190,7 +187,7 @@ read_nothing kept none all open_still good = record {
 }
 
 -- a line came, whole or too wide
-read_one : {P Q : List (Option (List ℕ)) → Type 0} {kept next : Kept} {a b c : Option (List ℕ)} (line : Option (List ℕ)) → ReadSoFar P kept a b → IfTold b c (λ x y. HandsOut line (kept.text ++ x) kept.room (next.text ++ y) next.room next.ended) → HasEnded next c → next.room < kept.room → length next.text ≤ next.room + 1
+read_one : {P Q : List (Option (List ℕ)) → Type 0} {kept next : Kept} {a b c : Option (List ℕ)} (line : Option (List ℕ)) → ReadSoFar P kept a b → IfTold b c (λ x y. HandsOut line (kept.text ++ x) kept.room (next.text ++ y) next.room next.ended) → EndsEmpty next c → next.room < kept.room → length next.text ≤ next.room + 1
     → ((lines : List (Option (List ℕ))) → P lines → Q (lines ++ line ∷ [])) → ReadSoFar Q next a c
 read_one {kept} {next} line so_far hands ends progress within step = record {
   lines = so_far.lines ++ line ∷ [];
@@ -266,7 +263,7 @@ read_fault {kept} {next} {b} {c} so_far is answers gives none =
 -- ---- how much was given
 
 -- what an answer took off the room it took off the bytes
-counted : (answer : Result NextLine LineEndFault) (text rest : List ℕ) (room : ℕ) (next : Kept) → Answers answer text room next rest → room + length rest ≡ next.room + length text
+counted : (answer : Result NextLine LineEndFault) (text rest : List ℕ) (room : ℕ) (next : Kept) → AnswersNext answer text room next rest → room + length rest ≡ next.room + length text
 counted (Ok Whole) text rest room next hands = hands.counted
 counted (Ok TooWide) text rest room next hands = hands.counted
 counted (Ok End) text rest room next done = omega (arith, ap length done.0.empty, ap length done.1, done.2)

@@ -1,11 +1,11 @@
 -- How the readings of one text agree.
 use Rattle.std.proofs.Common.{◌≡◌, ◌≢◌, ℕ, ◌≤◌, List, [], ◌++◌, length, take, drop, Option, refl, ap, sym, ◌∙◌, arith}
-use Rattle.std.proofs.lemmas.List.{append-nil, append_cancel_right, map-append, take_at, take-append-drop}
+use Rattle.store_spec.proofs.Common.{append-nil, ended_lines, lines_of, lines_within, map-append, script_limit, take-append-drop, take_at, taken_line, taken_lines, taken_within}
+use Rattle.std.proofs.lemmas.List.{append_cancel_right}
 use Rattle.outside_io.proofs.EndedLines.{front_of_within}
 use Rattle.outside_io.proofs.FirstLine.{all_within}
 use Rattle.outside_io.specs.Reading.{Ending, ReadLines, ReadFirst}
 use Rattle.outside_io.specs.Reading.Ending.{ReadOut, TooMuch, Faulted}
-use Rattle.store_spec.specs.Input.{script_limit, lines_of, ended_lines, lines_within, taken_line, taken_lines, taken_within}
 
 -- all lines are those within the limit
 all_taken : (text : List ℕ) → length text ≤ script_limit → taken_lines (lines_of text) ≡ taken_within script_limit text

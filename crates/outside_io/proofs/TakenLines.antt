@@ -1,7 +1,6 @@
 -- Lines as they are taken, and the lines themselves.
 use Rattle.std.proofs.Common.{◌≡◌, ℕ, ◌<◌, ◌≤◌, cond, List, [], ◌∷◌, ◌++◌, length, map, Option, Some, None, refl, ap, sym, ◌∙◌, inl, inr, le-leb}
-use Rattle.std.proofs.lemmas.Bool.{cases_lt, lt-leb}
-use Rattle.store_spec.specs.Input.{line_limit, taken_line, taken_lines}
+use Rattle.store_spec.proofs.Common.{cases_lt, line_limit, lt-leb, taken_line, taken_lines}
 
 pub taken_line-narrow : (line : List ℕ) → length line ≤ line_limit → taken_line line ≡ Some line
 taken_line-narrow line narrow = ap (λ test. cond test (Some line) None) (le-leb (length line) line_limit narrow)

@@ -1,15 +1,13 @@
 -- The bytes between two places of a buffer, behind the zeros that stand for forgotten ones.
 use Rattle.std.proofs.Common.{◌≡◌, ℕ, ◌+◌, ◌-◌, ◌<◌, ◌≤◌, Bool, true, false, List, ◌++◌, length, take, drop, get_or, replicate, refl, ap, sym, ◌∙◌, arith, length-append, length-drop, take-append-drop}
-use Rattle.std.proofs.lemmas.List.{take-append-le, take-take, drop_at, drop-drop, drop-take, take_rest, length-take-le, length-replicate}
+use Rattle.store_spec.proofs.Common.{Global, drop-drop, drop-take, drop_at, first_width, length-replicate, length-take-le, slice_range, take-add, take-append-le, take-take}
+use Rattle.std.proofs.lemmas.List.{take_rest}
 use Rattle.std.proofs.lemmas.List.Sums.{position_or_len_is}
-use Rattle.std.specs.Prelude.{slice_range, ◌==◌, Vec, vec_len}
+use Rattle.std.specs.Prelude.{◌==◌, Vec, vec_len}
 use Rattle.memchr.specs.Find.{Nowhere, Passes, is_byte}
-use Rattle.std.specs.declared.alloc.Global.{Global}
-use Rattle.std.proofs.Math.Seq.{take-add}
 use Rattle.outside_io.specs.declared.lines.Lines.TheInside.{Inside}
 use Rattle.outside_io.specs.Window.{window_of, kept_of, IsWindow}
 use Rattle.outside_io.proofs.FirstLine.{first_width-le, first_width-append, first_width-zeros}
-use Rattle.store_spec.specs.Input.{first_width}
 
 not_passed : (b : Bool) → ¬ (b ≡ true) → b ≡ false
 not_passed true not = absurd (not refl)

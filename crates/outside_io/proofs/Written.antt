@@ -1,10 +1,7 @@
 -- What a sink has taken of a text that is written part by part.
-use Rattle.std.proofs.Common.{◌≡◌, ℕ, ◌+◌, ◌≤◌, ◌<◌, inl, inr, List, [], ◌∷◌, ◌++◌, take, length, Option, Some, None, Result, Ok, Err, refl, sym, ap, subst, ◌∙◌, arith, append_assoc, append-nil, take_at}
-use Rattle.std.proofs.lemmas.Bool.{cases_lt}
-use Rattle.std.proofs.lemmas.List.{take-append-le, take_all}
-use Rattle.std.proofs.Math.Seq.{take-append-add}
+use Rattle.std.proofs.Common.{◌≡◌, ℕ, ◌+◌, inl, inr, List, [], ◌++◌, take, length, Option, Some, None, Result, Ok, Err, refl, sym, ap, subst, ◌∙◌, arith, append_assoc, append-nil, take_at}
+use Rattle.store_spec.proofs.Common.{OnErr, cases_lt, take-append-add, take-append-le, take_all}
 use Rattle.std.specs.Option.{option_map}
-use Rattle.std.specs.Prelude.{OnErr}
 use Rattle.outside_io.specs.Stream.{TakesAll, TakesSome}
 
 -- one text was taken, and then another

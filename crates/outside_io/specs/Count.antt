@@ -2,5 +2,5 @@
 use Rattle.std.specs.Prelude.{ℕ}
 use Rattle.outside_io.specs.declared.count.Count.{Count}
 
-abbrev pub count_of : Count → ℕ
-count_of count = count.value
+abbrev pub count_value : Count → ℕ
+count_value count = count.value

@@ -37,21 +37,21 @@ pub record LooksLike (before now : List ℕ) : Type 0 where
   pub size : length now ≡ length before
 
 -- What a call answers for the text that was kept or left then, and what is kept and left of it now.
-abbrev pub Answers : Result NextLine LineEndFault → List ℕ → ℕ → Kept → List ℕ → Type 0
-Answers (Ok Whole) text room now rest = HandsOut (Some now.line) text room rest now.room now.ended
-Answers (Ok TooWide) text room now rest = HandsOut None text room rest now.room now.ended
-Answers (Ok End) text room now rest = HandsNothing text room × (rest ≡ []) × (now.room ≡ room) × (now.ended ≡ true)
-Answers (Err TooLong) text room now rest = HasNoFurtherLine text room × LooksLike text rest × IsTooLong now.text now.room × (now.room ≡ room)
-Answers (Err ReadFault) text room now rest = LooksLike text rest × (now.room ≡ room)
+abbrev pub AnswersNext : Result NextLine LineEndFault → List ℕ → ℕ → Kept → List ℕ → Type 0
+AnswersNext (Ok Whole) text room now rest = HandsOut (Some now.line) text room rest now.room now.ended
+AnswersNext (Ok TooWide) text room now rest = HandsOut None text room rest now.room now.ended
+AnswersNext (Ok End) text room now rest = HandsNothing text room × (rest ≡ []) × (now.room ≡ room) × (now.ended ≡ true)
+AnswersNext (Err TooLong) text room now rest = HasNoFurtherLine text room × LooksLike text rest × IsTooLong now.text now.room × (now.room ≡ room)
+AnswersNext (Err ReadFault) text room now rest = LooksLike text rest × (now.room ≡ room)
 
 -- where it is known that the source has ended, nothing is kept, and the source has nothing left
-abbrev pub HasEnded : Kept → Option (List ℕ) → Type 0
-HasEnded kept left = kept.ended ≡ true → (kept.text ≡ []) × IfSome left (λ rest. rest ≡ [])
+abbrev pub EndsEmpty : Kept → Option (List ℕ) → Type 0
+EndsEmpty kept left = kept.ended ≡ true → (kept.text ≡ []) × IfSome left (λ rest. rest ≡ [])
 
 -- The same of one source, where it tells its bytes. Only a source that has not ended is asked, and so can fail.
 pub record AnswersTold (answer : Result NextLine LineEndFault) (old : Kept) (before : Option (List ℕ)) (now : Kept) (left : Option (List ℕ)) : Type 0 where
-  pub told : HasEnded old before → IfTold before left (λ before left. Answers answer (old.text ++ before) old.room now (now.text ++ left))
-  pub ended : HasEnded old before → HasEnded now left
+  pub told : EndsEmpty old before → IfTold before left (λ before left. AnswersNext answer (old.text ++ before) old.room now (now.text ++ left))
+  pub ended : EndsEmpty old before → EndsEmpty now left
   pub asked : answer ≡ Err ReadFault → old.ended ≡ false
 
 -- what is printed of a fault
@@ -82,10 +82,10 @@ pub record StaysSame (old now : Kept) : Type 0 where
   pub ended : now.ended ≡ old.ended
 
 -- what stands in the text that is kept
-abbrev pub Finds : Found → Kept → Kept → Type 0
-Finds (Line answer) old now = CutsOff answer old now
-Finds TooMuch old now = IsTooLong old.text old.room × StaysSame old now
-Finds Nothing old now = (first_width old.text ≡ length old.text) × (length old.text ≤ old.room) × StaysSame old now
+abbrev pub FindsIn : Found → Kept → Kept → Type 0
+FindsIn (Line answer) old now = CutsOff answer old now
+FindsIn TooMuch old now = IsTooLong old.text old.room × StaysSame old now
+FindsIn Nothing old now = (first_width old.text ≡ length old.text) × (length old.text ≤ old.room) × StaysSame old now
 
 -- all that is kept is the last line, or nothing is, and the source has ended
 abbrev pub TakesLast : NextLine → Kept → Kept → Type 0

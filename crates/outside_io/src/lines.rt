@@ -124,7 +124,7 @@ fn answer_for(width: usize) -> NextLine
 }
 
 impl Lines {
-    ghost use Rattle.outside_io.specs.Lines.{AnswersTold, Finds, TakesLast, LooksLike};
+    ghost use Rattle.outside_io.specs.Lines.{AnswersTold, FindsIn, TakesLast, LooksLike};
     ghost use Rattle.outside_io.specs.Window.{Kept};
 
     /// Takes its buffer, and reads nothing yet.
@@ -155,7 +155,7 @@ impl Lines {
 
     // Cuts off the next line where all of it is kept.
     fn cut(&mut self) -> Found
-        ensures finds { Finds result self.old self.new }
+        ensures finds { FindsIn result self.old self.new }
         ensures within_room { length self.old.text ≤ self.old.room + 1 }
     {
         let window = &self.buffer[self.start..self.end];

@@ -1,7 +1,7 @@
 //! Sources and sinks of the system: its standard streams, and files.
 
 ghost use Rattle.std.specs.Prelude.{◌≡◌, ◌≤◌, ℕ, length, None, IsSome, IfOk, OnOk};
-ghost use Rattle.outside_io.specs.Count.{count_of};
+ghost use Rattle.outside_io.specs.Count.{count_value};
 
 use crate::{Count, Failed, Sink, Source};
 use std::io::{ErrorKind, Read};
@@ -60,7 +60,7 @@ impl<'a, I: Input> StdinSource<'a, I> {
 impl<I: Input> Source for StdinSource<'_, I> {
     ghost left = { λ _. None };
 
-    ghost faults = { λ source. count_of source.faults };
+    ghost faults = { λ source. count_value source.faults };
 
     ghost counted = { λ source. source.faults.within };
 
@@ -114,7 +114,7 @@ impl<'a, F: Files> FileSource<'a, F> {
 impl<F: Files> Source for FileSource<'_, F> {
     ghost left = { λ _. None };
 
-    ghost faults = { λ source. count_of source.faults };
+    ghost faults = { λ source. count_value source.faults };
 
     ghost counted = { λ source. source.faults.within };
 
@@ -146,7 +146,7 @@ impl<'a, P: Print> StdoutSink<'a, P> {
 impl<P: Print> Sink for StdoutSink<'_, P> {
     ghost taken = { λ _. None };
 
-    ghost faults = { λ sink. count_of sink.faults };
+    ghost faults = { λ sink. count_value sink.faults };
 
     ghost counted = { λ sink. sink.faults.within };
 

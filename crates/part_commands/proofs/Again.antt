@@ -1,16 +1,13 @@
 -- What the next run makes of parts that were left with shares of two sets.
 use Rattle.std.proofs.Common.{◌≡◌, ◌⊎◌, ◌≤◌, ◌<◌, ◌+◌, ⊎_elim, ℕ, zero, suc, List, [], ◌∷◌, get_or, length, Some, inl, inr, refl, sym, ap, subst, ◌∙◌, arith}
-use Rattle.std.proofs.lemmas.Option.{get_or_from_slice_get}
-use Rattle.std.proofs.lemmas.Slice.Zip.{AllZip-long}
-use Rattle.std.specs.List.{AllZip}
-use Rattle.std.specs.Prelude.{IfSome, slice_get}
+use Rattle.store_spec.proofs.Common.{AllZip, AllZip-long, Ballot, DiskModel, Election, HoldsSet, IfSome, IsElection, get_or_from_slice_get, script_limit, share, slice_get}
 use Rattle.image_builder.proofs.Held.{one_held}
 use Rattle.medium_commands.proofs.Several.{Tell, all_as, one_of_media}
-use Rattle.medium_commands.specs.Several.{AllHold}
+use Rattle.medium_commands.specs.Several.{MediaHold}
 use Rattle.outside_io.specs.Outside.{Input, Output}
 use Rattle.part_commands.proofs.PartLaws.{SetsDecide, against_decides, against_settled, from_looks, one_of_sets, one_part, part_decides, part_laws, share_own}
 use Rattle.part_commands.proofs.Together.{stands}
-use Rattle.part_commands.specs.Part.{AreOwn, HasBegun, NotBegun, open_status}
+use Rattle.part_commands.specs.Part.{AreOwn, PartsHaveBegun, PartsNotBegun, open_status}
 use Rattle.part_commands.specs.Standing.{BeginsOfTwo, HoldsShare, HoldsShareOf, RunsOnTwo}
 use Rattle.parted_store.specs.Slots.{models_of, seen_in}
 use Rattle.partition_store.proofs.SideBySide.{zip_to}
@@ -26,12 +23,6 @@ use Rattle.run_outcome.specs.Status.{IsDecided}
 use Rattle.run_outcome.specs.World.{Reported, World}
 use Rattle.run_outcome.specs.declared.status.Status.{Status}
 use Rattle.run_outcome.specs.declared.status.Status.TheVariants as status
-use Rattle.store_spec.specs.Ballot.{Ballot}
-use Rattle.store_spec.specs.Disk.{DiskModel}
-use Rattle.store_spec.specs.Election.{Election, IsElection}
-use Rattle.store_spec.specs.Input.{script_limit}
-use Rattle.store_spec.specs.Medium.{HoldsSet}
-use Rattle.store_spec.specs.Parts.{share}
 
 -- ---- all media hold sets whose ballots belong there
 
@@ -71,7 +62,7 @@ module _ (e : Election) (old other : List Ballot) (content : Content) (each : (p
       (λ (holds : HoldsShare e content part other). record { own = share bits part other; held = holds; belongs = share_own bits part other })
       (each part few)
 
-  all_hold : AllHold e content (AreOwn bits)
+  all_hold : MediaHold e content (AreOwn bits)
   all_hold =
       let first = own_at 0 (omega arith) in
       let rest = all_own e bits 1 content.more (λ k part lt is.
@@ -103,19 +94,19 @@ module _ {D : Type 0} (model : DiskModel D) (e : Election) (valid : IsElection e
   size : length content.more ≡ length more
   size = AllZip-long (λ disk bytes. model.seen disk ≡ Some bytes) more content.more tell
 
-  not_against : (fault : PartFault) → IsDecided (open_status fault) → IsAgainst model model e one after more now fault → AllHold e content (AreOwn (bits_of (length content.more))) → ⊥
+  not_against : (fault : PartFault) → IsDecided (open_status fault) → IsAgainst model model e one after more now fault → MediaHold e content (AreOwn (bits_of (length content.more))) → ⊥
   not_against fault decided against all =
       let bits = bits_of (length more) in
       let bare = unscripted content in
       let none : length bare.script ≤ script_limit = omega arith in
-      let holds : AllHold e bare (AreOwn bits) = record { set = all.set; sets = all.sets; held = all.held; each = all.each; so = subst (λ (n : ℕ). AreOwn (bits_of n) (all.set ∷ all.sets)) size all.so } in
+      let holds : MediaHold e bare (AreOwn bits) = record { set = all.set; sets = all.sets; held = all.held; each = all.each; so = subst (λ (n : ℕ). AreOwn (bits_of n) (all.set ∷ all.sets)) size all.so } in
       not_well fault (one_of_media e bare valid (open_status fault) status.Ok (SetsDecide bits [] (open_status fault)) (SetsDecide bits [] status.Ok)
       (one_of_sets bits [] (open_status fault) status.Ok)
       (against_decides model e one after more now bare is tell fault decided against)
       (inr (inr (all_as holds (λ sets own. inr (own, inl (refl, none)))))))
 
   module _ {S K : Type 0} (a : Status) (report : Reported) (old_script new_script : Input S) (sink sunk : Output K) where
-    module _ (begun : HasBegun model e a report old_script new_script sink sunk one after more now) where
+    module _ (begun : PartsHaveBegun model e a report old_script new_script sink sunk one after more now) where
       -- each part holds its share of the set with which the session began
       share_held : (part : ℕ) → part ≤ length content.more → HoldsShare e content part begun.set
       share_held part few =
@@ -148,7 +139,7 @@ module _ {D : Type 0} (model : DiskModel D) (e : Election) (valid : IsElection e
 
 module _ {S K D : Type 0} (model : DiskModel D) (e : Election) (old other : List Ballot) (content : Content) (a : Status) (report : Reported) (before after : World S K D) (valid : IsElection e) (runs : RunsOnTwo model e old other content a report before after) where
   -- it is not refused
-  not_refused : NotBegun model e a report before.streams.script after.streams.script before.streams.sink after.streams.sink before.disk after.disk before.more after.more → a ≡ status.Memory
+  not_refused : PartsNotBegun model e a report before.streams.script after.streams.script before.streams.sink after.streams.sink before.disk after.disk before.more after.more → a ≡ status.Memory
   not_refused not = ⊎_elim
       (λ decided. absurd (not_against model e valid before.disk after.disk before.more after.more content runs.tells.disk runs.tells.more not.fault decided not.against (all_hold e old other content runs.each)))
       (λ memory. not.is ∙ memory)
@@ -166,7 +157,7 @@ module _ {S K D : Type 0} (model : DiskModel D) (e : Election) (old other : List
       }))
       runs.ends
     where
-      is : (begun : HasBegun model e a report before.streams.script after.streams.script before.streams.sink after.streams.sink before.disk after.disk before.more after.more)
+      is : (begun : PartsHaveBegun model e a report before.streams.script after.streams.script before.streams.sink after.streams.sink before.disk after.disk before.more after.more)
           → (part : ℕ) → part ≤ length content.more → (set : List Ballot) → HoldsShare e content part set → HoldsShareOf e content part begun.set set
       is = share_is model e valid before.disk after.disk before.more after.more content runs.tells.disk runs.tells.more a report before.streams.script after.streams.script before.streams.sink after.streams.sink
 

@@ -1,7 +1,6 @@
 -- A disk was looked at and recovered: what a session on it finds, seen from its start, or from behind the look.
 use Rattle.std.proofs.Common.{◌≡◌, ◌⊎◌, ◌<◌, ◌≤◌, ⊎_elim, ℕ, List, [], Some, sym, ap, subst, ◌∙◌, arith}
-use Rattle.std.proofs.lemmas.Bool.{cases_lt}
-use Rattle.std.specs.Prelude.{is_some}
+use Rattle.store_spec.proofs.Common.{Ballot, DiskModel, EachCrashImage, Election, HoldsSet, HoldsTheSame, IsElection, IsMediumOf, KeepsCrashImages, LeavesOnly, LeavesOnlyOnceSynced, SyncsFirst, after_calls, cases_lt, inside_next, is_some, last_count, leaves_now}
 use Rattle.any_store.specs.Checkpointed.{IsMediumNow}
 use Rattle.crash_disk.proofs.Moments.{once_weaker, started, synced_first, weaker}
 use Rattle.image_builder.proofs.Held.{medium_holds, one_held}
@@ -12,11 +11,6 @@ use Rattle.run_outcome.proofs.Laws.{at_told}
 use Rattle.session_run.proofs.Beginning.{recovered}
 use Rattle.session_run.proofs.Stops.{first_of}
 use Rattle.session_run.specs.History.{Acknowledged, HoldsOne}
-use Rattle.store_spec.specs.Ballot.{Ballot}
-use Rattle.store_spec.specs.Disk.{DiskModel, EachCrashImage, KeepsCrashImages, LeavesOnly, LeavesOnlyOnceSynced, SyncsFirst, after_calls, inside_next, leaves_now}
-use Rattle.store_spec.specs.Election.{Election, IsElection}
-use Rattle.store_spec.specs.Fault.{last_count}
-use Rattle.store_spec.specs.Medium.{HoldsSet, HoldsTheSame, IsMediumOf}
 
 -- The disk was looked at and recovered, which gave this set.
 pub record WasOpened {D : Type 0} (model : DiskModel D) (e : Election) (set : List Ballot) (start looked ready : D) : Type 0 where

@@ -1,19 +1,16 @@
 -- What a session does to disks that stand in a value, said of the disks themselves.
 use Rattle.std.proofs.Common.{◌≡◌, ⊎_elim, ℕ, List, [], ◌∷◌, length, map, Option, Result, Ok, Err, inl, inr, subst, sym}
+use Rattle.store_spec.proofs.Common.{Ballot, Closes, DiskModel, Effect, Election, State, acknowledged_in}
 use Rattle.any_store.specs.Checkpointed.{IsMediumNow}
 use Rattle.any_store.specs.Disks.{StoreModel, store_model}
 use Rattle.any_store.specs.Disks.StoreDisks.{Parted}
 use Rattle.outside_io.specs.Outside.{Input}
 use Rattle.parted_store.specs.Slots.{along}
 use Rattle.phase_gate.specs.Around.{Around}
-use Rattle.session_run.specs.Ends.{BegunWith, GoesOn, HandlingEnds, HasBegun, IsAtCheckpoint, IsDiskFailed, IsInterrupted, OfScript, StopsBehind}
+use Rattle.session_run.specs.Ends.{BegunWith, GoesOn, HandlingEnds, HasBegun, IsAtCheckpoint, IsDiskFailed, IsInterrupted, OfSource, StopsBehind}
 use Rattle.session_run.specs.History.{Acknowledged, AreAcknowledged, AreTried, FailedAlone, HoldsOnceSynced, HoldsOne, Tried, Wrote, column, latest}
 use Rattle.session_run.specs.declared.fault.RunFault.{RunFault}
 use Rattle.session_run.specs.declared.fault.RunFault.TheVariants as run
-use Rattle.store_spec.specs.Ballot.{Ballot}
-use Rattle.store_spec.specs.Disk.{DiskModel}
-use Rattle.store_spec.specs.Election.{Election}
-use Rattle.store_spec.specs.Session.{Closes, Effect, State, acknowledged_in}
 
 -- ---- one disk
 
@@ -112,27 +109,27 @@ module _ {S X : Type 0} (closes : Election → Closes) (more : ℕ) (models : �
         uncalled = λ j behind few. medium_back (models j) at e (parts j last) after.disk (did.uncalled j behind few);
       }
 
-      module _ (tell : List ℕ → List ℕ) (effects : List Effect) where
-        wrote_back : (rest : List ℕ) (acknowledged : List (List Ballot)) → Wrote within tell e set effects rest acknowledged before after
-            → Wrote itself tell e set effects rest acknowledged (moved before) (moved after)
+      module _ (write : List ℕ → List ℕ) (effects : List Effect) where
+        wrote_back : (rest : List ℕ) (acknowledged : List (List Ballot)) → Wrote within write e set effects rest acknowledged before after
+            → Wrote itself write e set effects rest acknowledged (moved before) (moved after)
         wrote_back rest acknowledged did = record { taken = did.taken; acknowledged = all_back _ did.acknowledged }
 
         module _ {T : Type 0} (lines : List (Option (List ℕ))) (state : State) (old new : Input T) where
-          interrupted_back : IsInterrupted within tell e set lines effects state old new before after → IsInterrupted itself tell e set lines effects state old new (moved before) (moved after)
+          interrupted_back : IsInterrupted within write e set lines effects state old new before after → IsInterrupted itself write e set lines effects state old new (moved before) (moved after)
           interrupted_back did = record { reply = did.reply; more = did.more; next = did.next; count = did.count; wrote = wrote_back _ did.more did.wrote }
 
-          checkpoint_back : IsAtCheckpoint tell e lines effects state old new before after → IsAtCheckpoint tell e lines effects state old new (moved before) (moved after)
+          checkpoint_back : IsAtCheckpoint write e lines effects state old new before after → IsAtCheckpoint write e lines effects state old new (moved before) (moved after)
           checkpoint_back did = record { line = did.line; read = did.read; says = did.says; closed = did.closed; taken = did.taken; held = did.held }
 
-          disk_failed_back : IsDiskFailed within tell e set lines effects state old new before after → IsDiskFailed itself tell e set lines effects state old new (moved before) (moved after)
+          disk_failed_back : IsDiskFailed within write e set lines effects state old new before after → IsDiskFailed itself write e set lines effects state old new (moved before) (moved after)
           disk_failed_back did = record {
             stops = checkpoint_back did.stops;
             tried = all_tried_back (acknowledged_in effects) state.set did.tried;
             rose = (did.rose.0, failed_back (latest set (acknowledged_in effects)) state.set did.rose.0 did.rose.1);
           }
 
-          handling_back : (answer : Result (Unit {0}) RunFault) → HandlingEnds within tell e set lines effects state answer old new before after
-              → HandlingEnds itself tell e set lines effects state answer old new (moved before) (moved after)
+          handling_back : (answer : Result (Unit {0}) RunFault) → HandlingEnds within write e set lines effects state answer old new before after
+              → HandlingEnds itself write e set lines effects state answer old new (moved before) (moved after)
           handling_back (Ok done) did = (did.0, wrote_back _ [] did.1, did.2, did.3, did.4)
           handling_back (Err run.TooLong) did = (did.0, wrote_back [] [] did.1, did.2, did.3, did.4)
           handling_back (Err run.ReadFault) did = (did.0, wrote_back [] [] did.1, did.2, did.3, did.4)
@@ -140,16 +137,16 @@ module _ {S X : Type 0} (closes : Election → Closes) (more : ℕ) (models : �
           handling_back (Err run.WriteFault) did = (interrupted_back did.0, did.1, did.2)
           handling_back (Err run.Memory) did = (
             ⊎_elim
-                (λ (none : OfScript old new (StopsBehind lines) × Wrote within tell e set effects [] [] before after × (after.held ≡ length state.set)). inl (none.0, wrote_back [] [] none.1, none.2))
-                (λ (cut : IsInterrupted within tell e set lines effects state old new before after). inr (interrupted_back cut))
+                (λ (none : OfSource old new (StopsBehind lines) × Wrote within write e set effects [] [] before after × (after.held ≡ length state.set)). inl (none.0, wrote_back [] [] none.1, none.2))
+                (λ (cut : IsInterrupted within write e set lines effects state old new before after). inr (interrupted_back cut))
                 did.0,
             did.1,
             did.2,
           )
           handling_back (Err other) did = absurd did
 
-    module _ {T : Type 0} (tell : List ℕ → List ℕ) (e : Election) (answer : Result (Unit {0}) RunFault) (old new : Input T) where
-      begun_back : (set : List Ballot) (before after : Around K S) → BegunWith within tell e set answer old new before after → BegunWith itself tell e set answer old new (moved before) (moved after)
+    module _ {T : Type 0} (write : List ℕ → List ℕ) (e : Election) (answer : Result (Unit {0}) RunFault) (old new : Input T) where
+      begun_back : (set : List Ballot) (before after : Around K S) → BegunWith within write e set answer old new before after → BegunWith itself write e set answer old new (moved before) (moved after)
       begun_back set before after did =
           let one = did.0 in (
             record {
@@ -161,14 +158,14 @@ module _ {S X : Type 0} (closes : Election → Closes) (more : ℕ) (models : �
               effects = one.effects;
               state = one.state;
               plays = one.plays;
-              ends = handling_back e one.set before after tell one.effects one.lines one.state old new answer one.ends;
+              ends = handling_back e one.set before after write one.effects one.lines one.state old new answer one.ends;
             },
             did.1,
           )
 
       -- a session that goes on over the value goes on over the disks, from each state of the disks that stands in a value
-      pub goes_on_back : (state : State) (now after : Around K S) → GoesOn within tell e state answer old new now after
-          → (set : List Ballot) (before : Around K X) (from : S) → at from ≡ before.disk → HasBegun itself e set state before (moved now) → BegunWith itself tell e set answer old new before (moved after)
+      pub goes_on_back : (state : State) (now after : Around K S) → GoesOn within write e state answer old new now after
+          → (set : List Ballot) (before : Around K X) (from : S) → at from ≡ before.disk → HasBegun itself e set state before (moved now) → BegunWith itself write e set answer old new before (moved after)
       goes_on_back state now after goes set before from stands begins =
           let low : Around K S = record { sink = before.sink; disk = from; marks = before.marks; others = before.others; held = before.held } in
           let there : HasBegun itself e set state (moved low) (moved now) =
@@ -182,5 +179,5 @@ module _ {S X : Type 0} (closes : Election → Closes) (more : ℕ) (models : �
             acknowledged = all_along e set low now [] there.acknowledged;
             count = there.count;
           } in
-          subst (λ (x : X). BegunWith itself tell e set answer old new (record { sink = before.sink; disk = x; marks = before.marks; others = before.others; held = before.held }) (moved after)) stands
+          subst (λ (x : X). BegunWith itself write e set answer old new (record { sink = before.sink; disk = x; marks = before.marks; others = before.others; held = before.held }) (moved after)) stands
           (begun_back set low after (goes set low starts))

@@ -1,14 +1,13 @@
 -- How a run of `part` ends: with media that are not opened, or with a session on the parts.
 use Rattle.std.proofs.Common.{◌≡◌, ◌≤◌, ℕ, zero, suc, List, Result, Ok, Err, Some, inl, length, refl, sym, ap, subst, ◌∙◌, arith}
-use Rattle.std.proofs.lemmas.Slice.Zip.{AllZip-long}
-use Rattle.std.specs.List.{AllZip}
+use Rattle.store_spec.proofs.Common.{AllZip, AllZip-long, Ballot, DiskModel, Election, IsElection, Rose, begun, leaves_now, of_parts}
 use Rattle.any_store.specs.Disks.{store_model}
 use Rattle.crash_disk.proofs.Moments.{started}
 use Rattle.outside_io.specs.Outside.{Input, Output}
 use Rattle.part_commands.proofs.Together.{begins, stands}
 use Rattle.part_commands.specs.Handled.{Handles, only_held}
-use Rattle.part_commands.specs.Part.{IsSeenFrom, HasBegun, IsStatusOf, PartEnds, part_model}
-use Rattle.parted_store.specs.Slots.{count_in, models_of, parted_disks}
+use Rattle.part_commands.specs.Part.{IsSeenFrom, PartsHaveBegun, IsStatusOf, PartEnds, part_model}
+use Rattle.parted_store.specs.Slots.{models_of, parted_disks, slot_count}
 use Rattle.partition_store.proofs.Opened.{only_looked}
 use Rattle.partition_store.proofs.SideBySide.{zip_to}
 use Rattle.partition_store.specs.Opening.{HoldsThroughout, IsOpened, KeepsMedium, LooksThenRecovers}
@@ -24,12 +23,6 @@ use Rattle.session_commands.specs.Session.{with_report}
 use Rattle.session_run.specs.Ends as session
 use Rattle.session_run.specs.declared.fault.RunFault.{RunFault}
 use Rattle.session_run.specs.declared.fault.RunFault.TheVariants as run
-use Rattle.store_spec.specs.Ballot.{Ballot}
-use Rattle.store_spec.specs.Disk.{DiskModel, leaves_now}
-use Rattle.store_spec.specs.Election.{Election, IsElection}
-use Rattle.store_spec.specs.Fault.{Rose}
-use Rattle.store_spec.specs.Parts.{of_parts}
-use Rattle.store_spec.specs.Session.{begun}
 
 -- ---- before anything was done
 
@@ -67,7 +60,7 @@ module _ {D : Type 0} (model : DiskModel D) (one ready after : D) (more ready_mo
   same_faults (suc k) few =
       let there = stands more k (omega (arith, few)) in
       let then = zip_to (λ old new. model.faults new ≡ model.faults old) more ready_more k there.0 none_rose there.1 in
-      ap (count_in model.faults) then.1 ∙ then.2 ∙ sym (ap (count_in model.faults) there.1)
+      ap (slot_count model.faults) then.1 ∙ then.2 ∙ sym (ap (slot_count model.faults) there.1)
 
   size : length ready_more ≡ length more
   size = AllZip-long (λ old new. model.faults new ≡ model.faults old) more ready_more none_rose
@@ -93,7 +86,7 @@ module _ {D : Type 0} (model : DiskModel D) (e : Election) (one ready after : D)
     (looks : LooksThenRecovers {T = Parted} {E = PartFault} model model e (Ok store) one ready more ready_more) (throughout : HoldsThroughout model e one ready) (others : AllZip (HoldsThroughout model e) more ready_more)
     (bits : store.bits ≡ bits_of (length more)) where
   pub has_begun : {S K : Type 0} (a : Status) (report : Reported) (old new : Input S) (sink sunk : Output K) → Handles model e (joined store.sets) a report old new sink sunk ready after ready_more now
-      → HasBegun model e a report old new sink sunk one after more now
+      → PartsHaveBegun model e a report old new sink sunk one after more now
   has_begun {S} {K} a report old new sink sunk handles = record {
     looked = looks.looked;
     reads = looks.reads;

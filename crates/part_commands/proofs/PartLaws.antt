@@ -1,17 +1,14 @@
 -- The laws of `part`: a script and the bytes of all media decide how it ends, but for faults and want of memory.
 use Rattle.std.proofs.Common.{◌≡◌, ◌≢◌, ◌⊎◌, ◌+◌, ◌<◌, ◌≤◌, ℕ, zero, suc, List, [], ◌∷◌, length, get_or, map, Some, Result, Ok, Err, inl, inr, ⊎_elim, refl, sym, ap, subst, ◌∙◌, arith}
-use Rattle.std.proofs.lemmas.Bool.{cases_lt, eqb-true}
-use Rattle.std.proofs.lemmas.List.Elements.{All-contains, filter_passes}
-use Rattle.std.proofs.lemmas.List.FromFn.{get_or-map-range_with_len, length-map-range_with_len}
-use Rattle.std.proofs.lemmas.Slice.Zip.{AllZip-long}
-use Rattle.std.specs.List.{AllZip, Contains, range_with_len, slice_get}
-use Rattle.std.specs.Prelude.{◌==◌, IfSome}
+use Rattle.store_spec.proofs.Common.{All-contains, AllZip, AllZip-long, Ballot, Contains, DiskModel, Election, HoldsSet, IfSome, IsElection, Rose, cases_lt, eqb-true, filter_passes, get_or-map-range_with_len, length-map-range_with_len, numbers_of, part_of, range_with_len, share}
+use Rattle.std.specs.List.{slice_get}
+use Rattle.std.specs.Prelude.{◌==◌}
 use Rattle.ballot_record.proofs.BallotNumbers.{ballot_with}
 use Rattle.medium_commands.proofs.Several.{MediaDecide, Tell, all_as, all_told, further_told, one_of_media, one_told, zip_at}
 use Rattle.medium_commands.specs.Refused.{refused_status}
 use Rattle.outside_io.specs.Outside.{Input, Output}
-use Rattle.part_commands.specs.Part.{AreOwn, HasBegun, IsStatusOf, PartEnds, disk_status, open_status, part_model, part_row}
-use Rattle.parted_store.specs.Slots.{count_in, models_of, seen_in}
+use Rattle.part_commands.specs.Part.{AreOwn, IsStatusOf, PartEnds, PartsHaveBegun, disk_status, open_status, part_model, part_row}
+use Rattle.parted_store.specs.Slots.{models_of, seen_in, slot_count}
 use Rattle.partition_store.specs.Foreign.{IsForeignIn, IsLeast, IsMisplaced}
 use Rattle.partition_store.specs.Opening.{IsAgainst, RoseAt}
 use Rattle.partition_store.specs.Parted.{BelongsTo, bits_of}
@@ -32,12 +29,6 @@ use Rattle.session_commands.specs.Session.{run_status, with_report}
 use Rattle.session_run.specs.Ends.{BegunWith}
 use Rattle.session_run.specs.declared.fault.RunFault.{RunFault}
 use Rattle.session_run.specs.declared.fault.RunFault.TheVariants as run
-use Rattle.store_spec.specs.Ballot.{Ballot, numbers_of}
-use Rattle.store_spec.specs.Disk.{DiskModel}
-use Rattle.store_spec.specs.Election.{Election, IsElection}
-use Rattle.store_spec.specs.Fault.{Rose}
-use Rattle.store_spec.specs.Medium.{HoldsSet}
-use Rattle.store_spec.specs.Parts.{part_of, share}
 
 -- ---- a number of another part
 
@@ -125,7 +116,7 @@ Reads model old new = WritesNothing model.seen model.calls model.may_leave old n
 
 -- from them on the session is seen
 pub from_looks : {S K D : Type 0} (model : DiskModel D) (e : Election) (a : Status) (report : Reported) (old new : Input S) (sink sunk : Output K) (one after : D) (more now : List D)
-    → (begun : HasBegun model e a report old new sink sunk one after more now)
+    → (begun : PartsHaveBegun model e a report old new sink sunk one after more now)
     → BegunWith (part_model model (length more)) (λ text. text) e begun.set begun.answer old new (with_report sink begun.looked nothing_reported) (with_report sunk (after, now) report)
 from_looks model e a report old new sink sunk one after more now begun =
     begun.goes_on begun.looked (record { size = AllZip-long (Reads model) more begun.looked.1 begun.others_read; each = λ part le. inl refl })
@@ -176,7 +167,7 @@ module _ {D : Type 0} (model : DiskModel D) (e : Election) where
       answer_decides (Ok done) ended script = subst (ScriptDecides content.script) (sym ended) (script (subst IsDecided ended decided))
       answer_decides (Err other) ended script = subst (ScriptDecides content.script) (sym ended) (script (subst IsDecided ended decided))
 
-      begun_decides : HasBegun model e a report old new sink sunk one after more now → Decides a
+      begun_decides : PartsHaveBegun model e a report old new sink sunk one after more now → Decides a
       begun_decides begun =
           let began = (from_looks model e a report old new sink sunk one after more now begun).0 in
           let first = at_told (model.seen begun.looked.0) content.disk (λ x. HoldsSet e x (share bits 0 began.set)) (begun.reads.same_bytes ∙ is) (began.held 0 (omega arith)) in
@@ -208,7 +199,7 @@ module _ {D : Type 0} (model : DiskModel D) where
   abbrev Steady : D → D → Type 0
   Steady old new = IsSteady (model.faults old) (model.faults new)
 
-  none_risen : (more now : List D) (place : ℕ) → AllZip Steady more now → Rose (count_in model.faults (slice_get more place)) (count_in model.faults (slice_get now place)) → ⊥
+  none_risen : (more now : List D) (place : ℕ) → AllZip Steady more now → Rose (slot_count model.faults (slice_get more place)) (slot_count model.faults (slice_get now place)) → ⊥
   none_risen [] [] place still rose = let less = rose (omega arith) in omega (arith, less)
   none_risen [] (new ∷ now) place still rose = still
   none_risen (old ∷ more) [] place still rose = still

@@ -1,12 +1,11 @@
 -- Which share a stop leaves of a part.
 use Rattle.std.proofs.Common.{◌≡◌, ◌⊎◌, ◌≤◌, ◌+◌, ⊎_elim, ℕ, zero, suc, List, [], ◌∷◌, ◌++◌, append-nil, length, map, Option, None, Some, Result, Ok, Err, inl, inr, refl, sym, ap, subst, arith}
-use Rattle.std.proofs.lemmas.Bool.{cases_Bool}
-use Rattle.std.proofs.lemmas.Slice.Zip.{AllZip-long}
-use Rattle.std.specs.Prelude.{if◌then◌else◌, Bool, false, slice_get, true}
+use Rattle.store_spec.proofs.Common.{AllZip-long, AnswersBy, Ballot, Casts, Checkpoint, Close, Closed, Closes, DiskModel, DoesBy, Effect, Election, Finds, HoldsAcknowledged, Phase, PlaysBy, ScriptLine, State, Withdraws, acknowledged_in, cases_Bool, of_parts, share, slice_get}
+use Rattle.std.specs.Prelude.{if◌then◌else◌, Bool, false, true}
 use Rattle.any_store.specs.Disks.{AcknowledgesNothing}
 use Rattle.outside_io.specs.Outside.{Input, Output}
 use Rattle.part_commands.proofs.Lifting.{one_along, one_back}
-use Rattle.part_commands.specs.Part.{HasBegun, IsSeenFrom, disk_of, part_model}
+use Rattle.part_commands.specs.Part.{IsSeenFrom, PartsHaveBegun, disk_of, part_model}
 use Rattle.part_commands.specs.Standing.{LosesNoShare}
 use Rattle.parted_store.specs.Slots.{along, models_of, slot_model}
 use Rattle.partition_store.specs.Parted.{bits_of}
@@ -19,16 +18,7 @@ use Rattle.session_run.specs.Ends.ComesNext.{to_end, to_line}
 use Rattle.session_run.specs.History.{HoldsOne, LosesNothing, Wrote, column}
 use Rattle.session_run.specs.declared.fault.RunFault.{RunFault}
 use Rattle.session_run.specs.declared.fault.RunFault.TheVariants as run
-use Rattle.store_spec.specs.Ballot.{Ballot}
-use Rattle.store_spec.specs.Disk.{DiskModel}
-use Rattle.store_spec.specs.Election.{Election}
-use Rattle.store_spec.specs.Parts.{of_parts, share}
-use Rattle.store_spec.specs.ScriptLine.{ScriptLine}
-use Rattle.store_spec.specs.ScriptLine.ScriptLine.{Checkpoint, Close}
-use Rattle.store_spec.specs.Session.{AnswersBy, Closes, DoesBy, Effect, Phase, PlaysBy, State, acknowledged_in}
 use Rattle.store_spec.specs.Session as session
-use Rattle.store_spec.specs.Session.Phase.{Casts, Closed, Finds, Withdraws}
-use Rattle.store_spec.specs.Stop.{HoldsAcknowledged}
 
 -- ---- what a line acknowledges
 
@@ -171,7 +161,7 @@ module _ {D : Type 0} (model : DiskModel D) (e : Election) (set : List Ballot) (
 -- ---- the law
 
 module _ {S K D : Type 0} (model : DiskModel D) (e : Election) (status : Status) (report : Reported) (old new : Input S) (sink sunk : Output K) (one after : D) (more now : List D) where
-  pub none_lost : (begun : HasBegun model e status report old new sink sunk one after more now) (parts : ℕ → Bool)
+  pub none_lost : (begun : PartsHaveBegun model e status report old new sink sunk one after more now) (parts : ℕ → Bool)
       → ((part : ℕ) → part ≤ length more → parts part ≡ true → HoldsOne (models_of model model part) e (share (bits_of (length more)) part begun.set) (one, more)) → LosesNoShare model e begun.set report one after more now parts
   none_lost begun parts holds =
       let bits = bits_of (length more) in

@@ -1,9 +1,6 @@
 -- All media were looked at and recovered: what a session on the parts finds.
 use Rattle.std.proofs.Common.{◌≡◌, ◌⊎◌, ◌<◌, ◌≤◌, ⊎_elim, ℕ, zero, suc, All, List, [], ◌∷◌, Some, get_or, inl, inr, length, Ok, refl, sym, ap, subst, ◌∙◌, arith}
-use Rattle.std.proofs.lemmas.List.Elements.{All-head, All-tail, All-weaker}
-use Rattle.std.proofs.lemmas.Option.{get_or_from_slice_get}
-use Rattle.std.specs.List.{AllZip}
-use Rattle.std.specs.Prelude.{IfSome, slice_get}
+use Rattle.store_spec.proofs.Common.{All-head, All-tail, All-weaker, AllZip, Ballot, DiskModel, Election, HoldsSet, IfSome, IsBallotSet, IsElection, IsWithinLimit, begun, get_or_from_slice_get, last_count, of_parts, share, slice_get}
 use Rattle.any_store.specs.Checkpointed.{IsMediumNow}
 use Rattle.any_store.specs.Disks.{store_model}
 use Rattle.outside_io.specs.Outside.{Output}
@@ -23,13 +20,6 @@ use Rattle.run_outcome.specs.World.{nothing_reported}
 use Rattle.session_commands.specs.Session.{with_report}
 use Rattle.session_run.specs.Ends.{HasBegun}
 use Rattle.session_run.specs.History.{Acknowledged, HoldsOne, column}
-use Rattle.store_spec.specs.Ballot.{Ballot, IsBallotSet, IsWithinLimit}
-use Rattle.store_spec.specs.Disk.{DiskModel}
-use Rattle.store_spec.specs.Election.{Election, IsElection}
-use Rattle.store_spec.specs.Fault.{last_count}
-use Rattle.store_spec.specs.Medium.{HoldsSet}
-use Rattle.store_spec.specs.Parts.{of_parts, share}
-use Rattle.store_spec.specs.Session.{begun}
 
 -- ---- a place at which there is a disk
 

@@ -15,9 +15,9 @@ use Rattle.store_spec.specs.Election.{Election}
 use Rattle.store_spec.specs.Session.{begun}
 
 -- the status of an answer, where this part's disk failed, if one did
-abbrev pub Tells : Result (Unit {0}) RunFault → Option ℕ → Status → Type 0
-Tells (Err run.DiskFault) (Some part) a = a ≡ disk_status part
-Tells answer failed a = a ≡ ended_as run_status answer
+abbrev pub EndsAs : Result (Unit {0}) RunFault → Option ℕ → Status → Type 0
+EndsAs (Err run.DiskFault) (Some part) a = a ≡ disk_status part
+EndsAs answer failed a = a ≡ ended_as run_status answer
 
 -- so many ballots are held, and nothing else is reported yet
 abbrev pub only_held : ℕ → Reported

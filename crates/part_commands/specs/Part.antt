@@ -4,7 +4,7 @@ use Rattle.std.specs.Prelude.{◌≡◌, ◌⊎◌, ℕ, zero, suc, ◌≤◌, E
 use Rattle.std.specs.List.{AllZip}
 use Rattle.any_store.specs.Disks.{StoreModel, store_model}
 use Rattle.medium_commands.specs.Refused.{refused_status}
-use Rattle.medium_commands.specs.Several.{AllHold}
+use Rattle.medium_commands.specs.Several.{MediaHold}
 use Rattle.outside_io.specs.Outside.{Input, Output}
 use Rattle.parted_store.specs.Leads.{PartFails}
 use Rattle.parted_store.specs.Slots.{models_of, parted_disks}
@@ -56,7 +56,7 @@ IsStatusOf model answer a one after more now = a ≡ ended_as run_status answer
 
 -- The media were refused for this reason, as far as that allows nothing was written to them, and nothing was read of the
 -- script or written to the sink.
-pub record NotBegun {S K D : Type 0} (model : DiskModel D) (e : Election) (a : Status) (report : Reported)
+pub record PartsNotBegun {S K D : Type 0} (model : DiskModel D) (e : Election) (a : Status) (report : Reported)
     (old new : Input S) (sink sunk : Output K) (one after : D) (more now : List D) : Type 0 where
   pub fault : PartFault
   pub is : a ≡ open_status fault
@@ -93,7 +93,7 @@ part_model model more = store_model (of_parts (bits_of more)) (parted_disks mode
 
 -- The media of all parts were looked at, which wrote nothing, then each was recovered, and a session began with the set of
 -- which they held the shares.
-pub record HasBegun {S K D : Type 0} (model : DiskModel D) (e : Election) (a : Status) (report : Reported)
+pub record PartsHaveBegun {S K D : Type 0} (model : DiskModel D) (e : Election) (a : Status) (report : Reported)
     (old new : Input S) (sink sunk : Output K) (one after : D) (more now : List D) : Type 0 where
   pub looked : D × List D
   pub reads : WritesNothing model.seen model.calls model.may_leave one looked.0
@@ -111,8 +111,8 @@ pub record HasBegun {S K D : Type 0} (model : DiskModel D) (e : Election) (a : S
 abbrev pub PartEnds : {S K D : Type 0} → DiskModel D → Election → Status → Reported → Input S → Input S → Output K
     → Output K → D → D → List D → List D → Type 0
 PartEnds model e a report old new sink sunk one after more now =
-    NotBegun model e a report old new sink sunk one after more now
-    ⊎ HasBegun model e a report old new sink sunk one after more now
+    PartsNotBegun model e a report old new sink sunk one after more now
+    ⊎ PartsHaveBegun model e a report old new sink sunk one after more now
 
 -- ---- the row
 
@@ -121,13 +121,13 @@ abbrev pub AreOwn : ℕ → List (List Ballot) → Type 0
 AreOwn bits sets = EachIndex sets (λ part. BelongsTo bits part (get_or sets part []))
 
 -- all media hold sets, whose ballots belong there, and the script is within its limit
-pub record MayOpen (e : Election) (content : Content) : Type 0 where
-  pub media : AllHold e content (AreOwn (bits_of (length content.more)))
+pub record MayOpenParts (e : Election) (content : Content) : Type 0 where
+  pub media : MediaHold e content (AreOwn (bits_of (length content.more)))
   pub script : length content.script ≤ script_limit
 
 -- 1, 3 or 7 words of further media
-abbrev pub AreParts : List (List ℕ) → Type 0
-AreParts words = AreFurther (length words)
+abbrev pub ArePartWords : List (List ℕ) → Type 0
+ArePartWords words = AreFurther (length words)
 
 abbrev part_ends : {S K D : Type 0} → DiskModel D → Election → Status → Reported → World S K D → World S K D → Type 0
 part_ends model e a report before after =
@@ -137,9 +137,9 @@ part_ends model e a report before after =
 abbrev pub part_row : Row
 part_row = record {
   word = codes "part";
-  further = AreParts;
+  further = ArePartWords;
   touches = record { script = true; disk = true; more = true; report = true };
-  served = MayOpen;
+  served = MayOpenParts;
   done = EndsWell;
   ends = part_ends;
 }

@@ -1,6 +1,6 @@
 -- Which share a stop leaves of a part, and what the next run makes of parts that were left with shares of two sets.
 use Rattle.std.specs.Prelude.{◌≡◌, ◌⊎◌, ℕ, ◌≤◌, List, [], ◌∷◌, ◌++◌, get_or, length, map, Option, Bool, true}
-use Rattle.part_commands.specs.Part.{HasBegun, part_row}
+use Rattle.part_commands.specs.Part.{PartsHaveBegun, part_row}
 use Rattle.parted_store.specs.Slots.{models_of}
 use Rattle.partition_store.specs.Parted.{bits_of}
 use Rattle.run_outcome.specs.Row.{Content, NothingFailed, Tells}
@@ -60,7 +60,7 @@ HoldsShareOf e content part set held =
 -- other.
 pub record BeginsOfTwo {S K D : Type 0} (model : DiskModel D) (e : Election) (old other : List Ballot)
     (content : Content) (status : Status) (report : Reported) (before after : World S K D) : Type 0 where
-  pub begun : HasBegun model e status report before.streams.script after.streams.script before.streams.sink
+  pub begun : PartsHaveBegun model e status report before.streams.script after.streams.script before.streams.sink
       after.streams.sink before.disk after.disk before.more after.more
   pub each : (part : ℕ) → part ≤ length content.more
       → HoldsShareOf e content part begun.set old ⊎ HoldsShareOf e content part begun.set other

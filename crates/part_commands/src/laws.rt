@@ -1,7 +1,7 @@
 //! Laws of a store in parts whose run was stopped. Each function here states a law and does nothing.
 
 ghost use Rattle.outside_io.specs.Outside.{Input, Output};
-ghost use Rattle.part_commands.specs.Part.{HasBegun};
+ghost use Rattle.part_commands.specs.Part.{PartsHaveBegun};
 ghost use Rattle.part_commands.specs.Standing.{BeginsOfTwo, LosesNoShare, RunsOnTwo};
 ghost use Rattle.parted_store.specs.Slots.{models_of};
 ghost use Rattle.partition_store.specs.Parted.{bits_of};
@@ -26,7 +26,7 @@ use outside_io::{Sink, Source};
 pub fn no_share_is_lost<S: Source, K: Sink, D: Disk>()
     ensures { (e : Election) (status : Status) (report : Reported) (old new : Input S) (sink sunk : Output K)
         (one after : D) (more now : List D)
-        (begun : HasBegun (disk_model D.seen D.calls D.may_leave D.faults) e status report old new sink sunk
+        (begun : PartsHaveBegun (disk_model D.seen D.calls D.may_leave D.faults) e status report old new sink sunk
         one after more now) (parts : ℕ → Bool) → ((part : ℕ) → part ≤ length more → parts part ≡ true
         → HoldsOne (models_of (disk_model D.seen D.calls D.may_leave D.faults)
         (disk_model D.seen D.calls D.may_leave D.faults) part)

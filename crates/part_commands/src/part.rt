@@ -2,7 +2,7 @@
 
 ghost use Rattle.any_store.specs.Checkpointed.{AreMedia};
 ghost use Rattle.outside_io.specs.Outside.{input, output};
-ghost use Rattle.part_commands.specs.Handled.{Handles, Tells};
+ghost use Rattle.part_commands.specs.Handled.{EndsAs, Handles};
 ghost use Rattle.part_commands.specs.Part.{PartEnds};
 ghost use Rattle.parted_store.specs.Leads.{OnePartFails};
 ghost use Rattle.parted_store.specs.Slots.{models_of, parted_disks};
@@ -26,7 +26,7 @@ use part_session::play;
 use parted_store::laws::opened_media;
 use parted_store::{Eight, Four, PartCount, Parts, PartsOf, Two};
 use partition_store::PartStore;
-use phase_gate::{Report, Session, Telling};
+use phase_gate::{Report, Session, Writing};
 use run_outcome::Status;
 use session_commands::fault;
 use session_run::RunFault;
@@ -36,7 +36,7 @@ use std::thread::Threads;
 /// How a session on the parts ended, by the disk that failed, if one did.
 fn told(answer: Result<(), RunFault>, failed: Option<usize>) -> Result<(), Status>
     requires { answer ≡ Err RunFault.DiskFault → IfSome failed (λ part. part < 2 ^ 32) }
-    ensures { Tells answer failed (ended result) }
+    ensures { EndsAs answer failed (ended result) }
 {
     match (answer, failed) {
         (Ok(()), _) => Ok(()),
@@ -77,7 +77,7 @@ fn handle<P: PartCount, R: Threads + Sync, S: Source, K: Sink, D: Disk, T: Turns
         disk.old disk.new more.old more.new }
 {
     report.held = store.len() as u32;
-    let session = Session::telling(alloc, PartsOf::<P>::new(store), Telling::All);
+    let session = Session::writing(alloc, PartsOf::<P>::new(store), Writing::All);
     let mut disks = Parts::<P, D, D>::new(disk, more);
     let answer = play(
         rt, alloc, session, lines, script, out, &mut disks, turns, scratch, report,

@@ -1,9 +1,9 @@
 -- Lists beside as many others, and what of them goes to a place.
 use Rattle.std.proofs.Common.{◌≡◌, ◌∙◌, ℕ, Bool, true, false, List, [], ◌∷◌, ap, ap₂, arith, cond, length, map, refl, zip}
-use Rattle.std.specs.List.{filter}
+use Rattle.store_spec.proofs.Common.{filter}
 use Rattle.std.specs.Prelude.{◌==◌}
 use Rattle.part_play.specs.Plays.{beside}
-use Rattle.part_play.specs.Several.{replies_at}
+use Rattle.part_play.specs.Several.{part_replies}
 use Rattle.phase_kind.proofs.Trays.{firsts_of-zip, seconds_of-zip}
 use Rattle.phase_kind.specs.Team.{replies_to, those_of}
 
@@ -61,7 +61,7 @@ module _ {I F : Type 0} (goes_to : I → ℕ) (place : ℕ) where
   rows_there (x ∷ list) (r ∷ replies) same =
       one_there x r (those_of goes_to place list) (filter (λ row. goes_to row.0 == place) (zip list replies)) (goes_to x == place) (rows_there list replies (omega arith))
 
-  pub beside_there : (work : List (List I)) (replies : List (List F)) → map length replies ≡ map length work → beside (map (those_of goes_to place) work) (replies_at goes_to place work replies) ≡ map (filter (λ row. goes_to row.0 == place)) (beside work replies)
+  pub beside_there : (work : List (List I)) (replies : List (List F)) → map length replies ≡ map length work → beside (map (those_of goes_to place) work) (part_replies goes_to place work replies) ≡ map (filter (λ row. goes_to row.0 == place)) (beside work replies)
   beside_there [] replies same = refl
   beside_there (list ∷ work) [] same = absurd cc
   beside_there (list ∷ work) (told ∷ replies) same =

@@ -1,18 +1,13 @@
 -- Numbers that are looked up in the set of their part.
 use Rattle.std.proofs.Common.{◌≡◌, ◌^◌, ◌<◌, ◌≤◌, ◌∙◌, ℕ, Bool, true, false, All, List, [], ◌∷◌, Some, ap, ap₂, cond, is_some, map, refl}
-use Rattle.std.proofs.lemmas.Bool.{eq-eqb, eqb-true}
-use Rattle.std.proofs.lemmas.List.Elements.{All-head, All-tail}
-use Rattle.std.proofs.lemmas.Option.{get_or_from_slice_get}
-use Rattle.std.specs.List.{filter, find}
+use Rattle.store_spec.proofs.Common.{All-head, All-tail, Ballot, ClosesFinding, Effect, closing, eq-eqb, eqb-true, filter, find_text, get_or_from_slice_get, part_of, share}
+use Rattle.std.specs.List.{find}
 use Rattle.std.specs.Prelude.{◌==◌}
 use Rattle.part_play.specs.Plays.{AreSharesOf, PlaysFindingInParts, is_present_in}
 use Rattle.partition_store.proofs.Shares.{each_in_part}
 use Rattle.phase_find.specs.Present.{is_present}
 use Rattle.phase_play.proofs.Closing.{closes_finding}
 use Rattle.phase_play.proofs.Playing.{plays_finding}
-use Rattle.store_spec.specs.Ballot.{Ballot}
-use Rattle.store_spec.specs.Parts.{part_of, share}
-use Rattle.store_spec.specs.Session.{ClosesFinding, Effect, closing, find_text}
 
 -- ---- the part of a number has its ballot, if a set has it
 

@@ -1,6 +1,6 @@
 -- Numbers of 64 bits, and how many parts there are.
 use Rattle.std.proofs.Common.{◌≡◌, ◌+◌, ◌^◌, ◌<◌, ◌≤◌, ℕ, zero, suc, All, List, Some, arith, length, slice_get, subst, sym, take}
-use Rattle.std.proofs.lemmas.List.Elements.{All-push}
+use Rattle.store_spec.proofs.Common.{All-push}
 use Rattle.phase_kind.proofs.Counts.{something_there}
 use Rattle.phase_kind.proofs.Trays.{take_next}
 

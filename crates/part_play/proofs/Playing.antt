@@ -1,36 +1,29 @@
 -- What the phases of all parts lead to.
 use Rattle.std.proofs.Common.{◌≡◌, ◌∙◌, ℕ, All, List, Some, ap, arith, get_or, length, map, slice_get, subst, sym}
-use Rattle.std.proofs.lemmas.List.{length-map}
-use Rattle.std.proofs.lemmas.Option.{slice_get-get_or, slice_get_within}
+use Rattle.store_spec.proofs.Common.{Ballot, BallotOutcome, CastLine, Election, WithdrawOutcome, Withdrawal, ballots_without, length-map, listed, numbers_of, of_part, part_of, slice_get-get_or, slice_get_within}
 use Rattle.std.specs.Prelude.{◌==◌}
 use Rattle.body_store.specs.Contents.{Contents, IsStored}
 use Rattle.part_play.proofs.Beside.{beside_mapped, beside_parts, beside_there, filters_mapped, firsts_beside, seconds_beside}
 use Rattle.part_play.specs.Plays.{PlaysCastingInParts, PlaysWithdrawingInParts, beside}
-use Rattle.part_play.specs.Several.{HasPlayed, replies_at}
+use Rattle.part_play.specs.Several.{HasPlayed, part_replies}
 use Rattle.phase_delete.proofs.Whole.{listed_is}
 use Rattle.phase_delete.specs.Closing as withdrawn
-use Rattle.phase_delete.specs.Tray.{Withdrawal as Withdrawn}
+use Rattle.phase_delete.specs.Tray.{TrayWithdrawal as Withdrawn}
 use Rattle.phase_insert.specs.Closing as cast
-use Rattle.phase_insert.specs.Closing.{ClosesAs, line, reply_of}
+use Rattle.phase_insert.specs.Closing.{ClosesAs, reply_of, tray_line}
 use Rattle.phase_insert.specs.Tray.{Cast}
 use Rattle.phase_insert.specs.declared.reply.Final.{Final}
 use Rattle.phase_kind.proofs.Counts.{something_there}
 use Rattle.phase_kind.proofs.Planned.{holds_at, mapped_at, same_at_each}
 use Rattle.phase_kind.specs.Team.{those_of}
-use Rattle.phase_kind.specs.Told.{Told}
+use Rattle.phase_kind.specs.AnsweredItem.{AnsweredItem}
 use Rattle.phase_play.proofs.Rows.{map_twice}
 use Rattle.step_core.specs.WithdrawCore as core
 use Rattle.step_core.specs.declared.withdrawer.WithdrawReply.{WithdrawReply}
-use Rattle.store_spec.specs.Ballot.{Ballot, numbers_of}
-use Rattle.store_spec.specs.BallotPhase.{BallotOutcome, CastLine}
-use Rattle.store_spec.specs.Election.{Election}
-use Rattle.store_spec.specs.Parts.{of_part, part_of}
-use Rattle.store_spec.specs.Session.{ballots_without}
-use Rattle.store_spec.specs.WithdrawPhase.{Withdrawal, WithdrawOutcome, listed}
 
 -- ---- any kind
 
-module _ {I R F : Type 0} (closes : Contents → List (List (Told I R)) → List (List F) → List Ballot → Type 0) (goes_to : I → ℕ) (before : List Contents) (work : List (List I)) (after : List Contents) (replies : List (List F)) (played : HasPlayed closes goes_to before work after replies) where
+module _ {I R F : Type 0} (closes : Contents → List (List (AnsweredItem I R)) → List (List F) → List Ballot → Type 0) (goes_to : I → ℕ) (before : List Contents) (work : List (List I)) (after : List Contents) (replies : List (List F)) (played : HasPlayed closes goes_to before work after replies) where
   abbrev election_of : Contents → Election
   election_of store = store.election
 
@@ -65,11 +58,11 @@ cast_lines work finals = map (map told_line) (beside work finals)
 
 -- the lines of one part
 lines_cast : (bits part : ℕ) (trays : List (List Cast)) (work : List (List Ballot)) (finals : List (List Final)) → map length finals ≡ map length work → map (map (λ c. c.item)) trays ≡ map (those_of (λ b. part_of bits b.number) part) work
-    → map (map line) (cast.beside trays (replies_at (λ b. part_of bits b.number) part work finals)) ≡ map (of_part (λ l. l.ballot.number) bits part) (cast_lines work finals)
+    → map (map tray_line) (cast.trays_beside trays (part_replies (λ b. part_of bits b.number) part work finals)) ≡ map (of_part (λ l. l.ballot.number) bits part) (cast_lines work finals)
 lines_cast bits part trays work finals same items =
     let goes : Ballot → ℕ = λ b. part_of bits b.number in
     let item : Cast → Ballot = λ c. c.item in
-    let told = replies_at goes part work finals in
+    let told = part_replies goes part work finals in
     sym (map_twice told_line (λ (p : Cast × Final). (item p.0, p.1)) (beside trays told))
     ∙ ap (map (map told_line)) (sym (beside_mapped item trays told) ∙ ap (λ (l : List (List Ballot)). beside l told) items ∙ beside_there goes part work finals same)
     ∙ sym (filters_mapped (λ (l : CastLine). part_of bits l.ballot.number == part) told_line (beside work finals))
@@ -105,8 +98,8 @@ answer_line row = record { number = row.0; reply = core.reply_of row.1 }
 abbrev withdraw_lines : List (List ℕ) → List (List WithdrawReply) → List (List Withdrawal)
 withdraw_lines work replies = map (map answer_line) (beside work replies)
 
-lines_withdrawn : (bits part : ℕ) (trays : List (List Withdrawn)) (work : List (List ℕ)) (replies : List (List WithdrawReply)) → map length replies ≡ map length work → map (map (λ w. w.item)) trays ≡ map (those_of (λ n. part_of bits n) part) work → replies_at (λ n. part_of bits n) part work replies ≡ map (map (λ w. w.reply)) trays
-    → withdrawn.lines_of trays ≡ map (of_part (λ a. a.number) bits part) (withdraw_lines work replies)
+lines_withdrawn : (bits part : ℕ) (trays : List (List Withdrawn)) (work : List (List ℕ)) (replies : List (List WithdrawReply)) → map length replies ≡ map length work → map (map (λ w. w.item)) trays ≡ map (those_of (λ n. part_of bits n) part) work → part_replies (λ n. part_of bits n) part work replies ≡ map (map (λ w. w.reply)) trays
+    → withdrawn.tray_lines trays ≡ map (of_part (λ a. a.number) bits part) (withdraw_lines work replies)
 lines_withdrawn bits part trays work replies same items told =
     let goes : ℕ → ℕ = λ n. part_of bits n in
     let item : Withdrawn → ℕ = λ w. w.item in
@@ -115,7 +108,7 @@ lines_withdrawn bits part trays work replies same items told =
     ∙ ap (map (map answer_line))
     (sym (beside_parts item reply trays)
     ∙ ap (λ (l : List (List WithdrawReply)). beside (map (map item) trays) l) (sym told)
-    ∙ ap (λ (l : List (List ℕ)). beside l (replies_at goes part work replies)) items
+    ∙ ap (λ (l : List (List ℕ)). beside l (part_replies goes part work replies)) items
     ∙ beside_there goes part work replies same)
     ∙ sym (filters_mapped (λ (a : Withdrawal). part_of bits a.number == part) answer_line (beside work replies))
 

@@ -1,8 +1,6 @@
 -- Lists that are shared out among stores, and then turned round: a row of lists for each store.
 use Rattle.std.proofs.Common.{◌≡◌, ◌∙◌, ℕ, All, List, ap, arith, get_or, length, map, subst}
-use Rattle.std.proofs.lemmas.List.{length-map}
-use Rattle.std.proofs.lemmas.List.Elements.{All-map}
-use Rattle.std.proofs.lemmas.Simd.{map-map}
+use Rattle.store_spec.proofs.Common.{All-map, length-map, map-map}
 use Rattle.part_play.proofs.Stages.{columns_long, rows_shared, turned_shows}
 use Rattle.part_play.specs.Several.{AreAllShared}
 use Rattle.phase_kind.specs.Table.{IsTurned}

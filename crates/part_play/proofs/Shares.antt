@@ -1,11 +1,6 @@
 -- Phases of parts, and the whole set of which the parts hold their shares.
 use Rattle.std.proofs.Common.{◌≡◌, ◌^◌, ◌<◌, ◌≤◌, ◌++◌, ◌∙◌, ℕ, Bool, true, false, All, List, [], ◌∷◌, ap, arith, cond, get_or, map, not, refl, subst, sym}
-use Rattle.std.proofs.lemmas.Bool.{eq-eqb, eqb-true}
-use Rattle.std.proofs.lemmas.List.Elements.{All-append, All-contains, All-filter, All-map, All-nil, filter-append, filter_passes}
-use Rattle.std.proofs.lemmas.List.Kept.{AllPairs-filter}
-use Rattle.std.proofs.lemmas.List.Sorted.{All-permutation}
-use Rattle.std.proofs.lemmas.Option.{slice_get_within}
-use Rattle.std.specs.List.{Contains, filter, list_any}
+use Rattle.store_spec.proofs.Common.{All-append, All-contains, All-filter, All-map, All-nil, All-permutation, AllPairs-filter, Ballot, CastLine, CastReply, ClosesCastingInParts, ClosesWithdrawingInParts, Contains, Effect, Election, IsBallotSet, IsValid, WithdrawReply, Withdrawal, accepted_in, ballots_without, cast_text, closing, eq-eqb, eqb-true, filter, filter-append, filter_passes, is_accepted, list_any, listed, numbers_of, of_part, part_of, share, slice_get_within, withdraw_text}
 use Rattle.std.specs.Prelude.{◌==◌}
 use Rattle.ballot_record.proofs.BallotSets.{same_members}
 use Rattle.part_play.proofs.Beside.{filter_mapped}
@@ -14,12 +9,6 @@ use Rattle.partition_store.proofs.Shares.{each_in_part}
 use Rattle.phase_delete.proofs.Left.{left_alike}
 use Rattle.phase_kind.proofs.Counts.{something_there}
 use Rattle.phase_play.proofs.Rows.{map_twice}
-use Rattle.store_spec.specs.Ballot.{Ballot, IsBallotSet, IsValid, numbers_of}
-use Rattle.store_spec.specs.BallotPhase.{CastLine, CastReply, accepted_in, is_accepted}
-use Rattle.store_spec.specs.Election.{Election}
-use Rattle.store_spec.specs.Parts.{ClosesCastingInParts, ClosesWithdrawingInParts, of_part, part_of, share}
-use Rattle.store_spec.specs.Session.{Effect, ballots_without, cast_text, closing, withdraw_text}
-use Rattle.store_spec.specs.WithdrawPhase.{Withdrawal, WithdrawReply, listed}
 use Rattle.word_rule.proofs.Members.{contains-filter, from_filter}
 
 -- ---- two tests

@@ -1,25 +1,20 @@
 -- The stages of phases that are played at once: how they are planned, begun, handled and closed.
 use Rattle.std.proofs.Common.{◌≡◌, ◌<◌, ◌++◌, ◌∙◌, ℕ, suc, All, Bool, true, false, List, [], ◌∷◌, Option, Some, ap, ap₂, arith, cond, get_or, length, length-append, map, refl, slice_get, subst, sym, zip}
-use Rattle.std.proofs.lemmas.List.{length-map, map_push}
-use Rattle.std.proofs.lemmas.List.Elements.{All-map, All-nil, All-push}
-use Rattle.std.proofs.lemmas.Option.{slice_get-get_or, slice_get-map, slice_get_within}
-use Rattle.std.proofs.lemmas.Simd.{map-map}
-use Rattle.std.proofs.lemmas.Slice.Zip.{length-zip}
+use Rattle.store_spec.proofs.Common.{All-map, All-nil, All-push, Ballot, length-map, length-zip, map-map, map_push, slice_get-get_or, slice_get-map, slice_get_within}
 use Rattle.std.specs.Option.{option_map}
 use Rattle.std.specs.Prelude.{◌==◌}
 use Rattle.body_store.specs.Contents.{Contents}
-use Rattle.part_play.specs.Several.{AreAllShared, AreReady, HasEnded, HaveBegun, HaveClosed, HaveEnded, HaveWork}
+use Rattle.part_play.specs.Several.{AreAllShared, AreReady, HaveBegun, HaveClosed, HaveEnded, HaveWork, IsClosedWith}
 use Rattle.phase_kind.proofs.Counts.{something_there}
 use Rattle.phase_kind.proofs.Planned.{column_belongs, holds_at, length-column, mapped_at, new_in_team, new_teams, row_at, same_at_each, zipped_at, zipped_there}
 use Rattle.phase_kind.proofs.Shared.{goes_within}
 use Rattle.phase_kind.proofs.Trays.{zip_more}
-use Rattle.phase_kind.specs.Phase.{Phase}
+use Rattle.phase_kind.specs.Phase.{OpenPhase}
 use Rattle.phase_kind.specs.Table.{IsTurned}
 use Rattle.phase_kind.specs.Team.{AreSharedOut, GoesWithin, HaveFinished, IsTeam, those_of}
-use Rattle.phase_kind.specs.Told.{Told}
+use Rattle.phase_kind.specs.AnsweredItem.{AnsweredItem}
 use Rattle.phase_kind.specs.Worker.{AreAll, WorkerView, worker_with}
 use Rattle.step_core.proofs.Sets.{All-from_map}
-use Rattle.store_spec.specs.Ballot.{Ballot}
 
 -- ---- lists
 
@@ -120,25 +115,25 @@ turned_beside {S} {X} {Y} {Z} P row_in column_in places heads rows columns turne
 
 -- ---- phases that have begun
 
-abbrev new_row : {V I R : Type 0} → V → Phase × List (List I) → List (WorkerView V I R)
+abbrev new_row : {V I R : Type 0} → V → OpenPhase × List (List I) → List (WorkerView V I R)
 new_row fresh at = map (worker_with fresh at.0) at.1
 
-abbrev base_of : Phase → Contents
+abbrev base_of : OpenPhase → Contents
 base_of phase = phase.base
 
-abbrev seats_of : Phase → ℕ
+abbrev seats_of : OpenPhase → ℕ
 seats_of phase = phase.words.seats
 
 abbrev long : {X : Type 0} → List X → ℕ
 long list = length list
 
-pub as_many_plans : {V I R : Type 0} (fresh : V) (stores : List Contents) (plans : List (List (List I))) (phases : List Phase) (rows : List (List (WorkerView V I R))) → HaveBegun fresh stores plans phases rows → length plans ≡ length phases
+pub as_many_plans : {V I R : Type 0} (fresh : V) (stores : List Contents) (plans : List (List (List I))) (phases : List OpenPhase) (rows : List (List (WorkerView V I R))) → HaveBegun fresh stores plans phases rows → length plans ≡ length phases
 as_many_plans fresh stores plans phases rows begun = sym (length-map plans long) ∙ sym (ap length begun.seats) ∙ length-map phases seats_of
 
 pub none_begun : {V I R : Type 0} (fresh : V) → HaveBegun {V = V} {I = I} {R = R} fresh [] [] [] []
 none_begun fresh = record { bases = refl; seats = refl; rows_are = refl }
 
-pub one_begun : {V I R : Type 0} (fresh : V) (stores : List Contents) (plans : List (List (List I))) (phases : List Phase) (rows : List (List (WorkerView V I R))) (store : Contents) (plan : List (List I)) (phase : Phase) (row : List (WorkerView V I R))
+pub one_begun : {V I R : Type 0} (fresh : V) (stores : List Contents) (plans : List (List (List I))) (phases : List OpenPhase) (rows : List (List (WorkerView V I R))) (store : Contents) (plan : List (List I)) (phase : OpenPhase) (row : List (WorkerView V I R))
     → HaveBegun fresh stores plans phases rows → phase.base ≡ store → phase.words.seats ≡ length plan → row ≡ map (worker_with fresh phase) plan
     → HaveBegun fresh (stores ++ store ∷ []) (plans ++ plan ∷ []) (phases ++ phase ∷ []) (rows ++ row ∷ [])
 one_begun {V} {I} {R} fresh stores plans phases rows store plan phase row begun base seats is = record {
@@ -151,18 +146,18 @@ one_begun {V} {I} {R} fresh stores plans phases rows store plan phase row begun 
 }
 
 -- the same, where they are pushed
-pub next_begun : {V I R T : Type 0} (fresh : V) (workers_of : T → List (WorkerView V I R)) (stores : List Contents) (store : Contents) (plans : List (List (List I))) (plan : List (List I)) (phases phases_now : List Phase) (rows rows_now : List T) (phase : Phase) (row : T)
+pub next_begun : {V I R T : Type 0} (fresh : V) (workers_of : T → List (WorkerView V I R)) (stores : List Contents) (store : Contents) (plans : List (List (List I))) (plan : List (List I)) (phases phases_now : List OpenPhase) (rows rows_now : List T) (phase : OpenPhase) (row : T)
     → HaveBegun fresh stores plans phases (map workers_of rows) → phases_now ≡ phases ++ phase ∷ [] → rows_now ≡ rows ++ row ∷ []
     → phase.base ≡ store → phase.words.seats ≡ length plan → workers_of row ≡ map (worker_with fresh phase) plan
     → HaveBegun fresh (stores ++ store ∷ []) (plans ++ plan ∷ []) phases_now (map workers_of rows_now)
 next_begun {V} {I} {R} fresh workers_of stores store plans plan phases phases_now rows rows_now phase row begun pushed more base seats is =
     let rows_are = ap (map workers_of) more ∙ map_push workers_of rows row in
-    subst (λ (p : List Phase). HaveBegun fresh (stores ++ store ∷ []) (plans ++ plan ∷ []) p (map workers_of rows_now)) (sym pushed)
+    subst (λ (p : List OpenPhase). HaveBegun fresh (stores ++ store ∷ []) (plans ++ plan ∷ []) p (map workers_of rows_now)) (sym pushed)
     (subst (λ (r : List (List (WorkerView V I R))). HaveBegun fresh (stores ++ store ∷ []) (plans ++ plan ∷ []) (phases ++ phase ∷ []) r) (sym rows_are)
     (one_begun fresh stores plans phases (map workers_of rows) store plan phase (workers_of row) begun base seats is))
 
 -- as many workers in each row as it has lists
-pub rows_long : {V I R : Type 0} (fresh : V) (stores : List Contents) (plans : List (List (List I))) (phases : List Phase) (rows : List (List (WorkerView V I R))) (n : ℕ) → HaveBegun fresh stores plans phases rows → All (λ plan. length plan ≡ n) plans → All (λ row. length row ≡ n) rows
+pub rows_long : {V I R : Type 0} (fresh : V) (stores : List Contents) (plans : List (List (List I))) (phases : List OpenPhase) (rows : List (List (WorkerView V I R))) (n : ℕ) → HaveBegun fresh stores plans phases rows → All (λ plan. length plan ≡ n) plans → All (λ row. length row ≡ n) rows
 rows_long {V} {I} {R} fresh stores plans phases rows n begun each =
     let IsLong : List (WorkerView V I R) → Type 0 = λ row. length row ≡ n in
     subst (All IsLong) (sym begun.rows_are)
@@ -188,17 +183,17 @@ module _ {V I R T : Type 0} (workers_of : T → List (WorkerView V I R)) where
   abbrev IsIdle : WorkerView V I R → Type 0
   IsIdle worker = worker.waiting ≡ []
 
-  abbrev tray_of : WorkerView V I R → List (Told I R)
+  abbrev tray_of : WorkerView V I R → List (AnsweredItem I R)
   tray_of worker = worker.tray
 
   -- a team has as many workers as there are phases
-  pub teams_long : (phases : List Phase) (teams : List T) → All (λ team. IsTeam phases (workers_of team)) teams → All (λ team. length (workers_of team) ≡ length phases) teams
+  pub teams_long : (phases : List OpenPhase) (teams : List T) → All (λ team. IsTeam phases (workers_of team)) teams → All (λ team. length (workers_of team) ≡ length phases) teams
   teams_long phases teams belong k d within =
       let team = workers_of (get_or teams k d) in
       sym (length-map team (λ (worker : WorkerView V I R). worker.phase)) ∙ ap length (belong k d within)
 
   -- the workers of each phase are all there
-  pub all_belong : {C : Type 0} (workers_in : C → List (WorkerView V I R)) (phases : List Phase) (after : List T) (columns : List C) → All (λ team. IsTeam phases (workers_of team)) after → All (λ team. All IsIdle (workers_of team)) after
+  pub all_belong : {C : Type 0} (workers_in : C → List (WorkerView V I R)) (phases : List OpenPhase) (after : List T) (columns : List C) → All (λ team. IsTeam phases (workers_of team)) after → All (λ team. All IsIdle (workers_of team)) after
       → IsTurned (length phases) (map workers_of after) (map workers_in columns) → All (λ phase. phase.words.seats ≡ length after) phases
       → All (λ at. AreAll at.0 (workers_in at.1)) (zip phases columns)
   all_belong workers_in phases after columns belong idle turned seats k d within =
@@ -206,11 +201,11 @@ module _ {V I R T : Type 0} (workers_of : T → List (WorkerView V I R)) where
       let parts = zipped_at phases columns k both (slice_get-get_or (zip phases columns) k d within) in
       column_belongs phases (length phases) (map workers_of after) (map workers_in columns) k both.0 (workers_in both.1) (All-map (IsTeam phases) workers_of after belong) (All-map (All IsIdle) workers_of after idle) turned parts.0
       (shown_at workers_in columns k both.1 parts.1)
-      (length-map after workers_of ∙ sym (holds_at (λ (p : Phase). p.words.seats ≡ length after) phases k both.0 seats parts.0))
+      (length-map after workers_of ∙ sym (holds_at (λ (p : OpenPhase). p.words.seats ≡ length after) phases k both.0 seats parts.0))
 
   -- ---- new workers are teams, with whom the shares of their lists wait
 
-  module _ (goes_to : I → ℕ) (fresh : V) (places : ℕ) (stores : List Contents) (shared lists : List (List (List I))) (orders : List (List ℕ)) (phases : List Phase) (rows : List (List (WorkerView V I R))) (teams : List T) (work : List (List I)) (all : AreAllShared goes_to places work shared orders) (planned : IsTurned places shared lists) (begun : HaveBegun fresh stores lists phases rows) (turned : IsTurned (length work) rows (map workers_of teams)) where
+  module _ (goes_to : I → ℕ) (fresh : V) (places : ℕ) (stores : List Contents) (shared lists : List (List (List I))) (orders : List (List ℕ)) (phases : List OpenPhase) (rows : List (List (WorkerView V I R))) (teams : List T) (work : List (List I)) (all : AreAllShared goes_to places work shared orders) (planned : IsTurned places shared lists) (begun : HaveBegun fresh stores lists phases rows) (turned : IsTurned (length work) rows (map workers_of teams)) where
     same_rows : IsTurned (length work) (map (λ at. map (worker_with fresh at.0) at.1) (zip phases lists)) (map workers_of teams)
     same_rows = subst (λ (r : List (List (WorkerView V I R))). IsTurned (length work) r (map workers_of teams)) begun.rows_are turned
 
@@ -266,7 +261,7 @@ module _ {V I R T : Type 0} (workers_of : T → List (WorkerView V I R)) where
       → IsTurned places (map workers_of after) columns → slice_get columns place ≡ Some column
       → map (map (λ t. t.item)) (map (λ worker. worker.tray) column) ≡ map (those_of goes_to place) work
   trays_are goes_to rests places before after work columns place column same have empty finished turned there =
-      let item : Told I R → I = λ t. t.item in
+      let item : AnsweredItem I R → I = λ t. t.item in
       let shown : WorkerView V I R → List I = λ worker. map item worker.tray in
       let asked : List I → List I = λ list. those_of goes_to place list in
       let long = length-column places (map workers_of after) columns place column turned there in
@@ -287,19 +282,19 @@ module _ {V I R T : Type 0} (workers_of : T → List (WorkerView V I R)) where
       let new = holds_at IsNew (workers_of old.0) place was.0 (holds_at (All IsNew) (map workers_of before) k (workers_of old.0) empty stood) was.1 in
       let Waits : List (WorkerView V I R) × List I → Type 0 = λ at. (place : ℕ) (worker : WorkerView V I R) → slice_get at.0 place ≡ Some worker → worker.waiting ≡ those_of goes_to place at.1 in
       let waits = holds_at Waits (zip (map workers_of before) work) k (workers_of old.0, list.0) have.waits (zipped_there (map workers_of before) work k (workers_of old.0) list.0 stood list.1) place was.0 was.1 in
-      now.2 ∙ ap (map item) (answered.tray ∙ ap (λ (tray : List (Told I R)). tray ++ answered.told) new) ∙ answered.items ∙ waits ∙ sym list.2)
+      now.2 ∙ ap (map item) (answered.tray ∙ ap (λ (tray : List (AnsweredItem I R)). tray ++ answered.told) new) ∙ answered.items ∙ waits ∙ sym list.2)
 
 -- ---- phases that are closed
 
-module _ {V I R F : Type 0} (closes : Contents → List (List (Told I R)) → List (List F) → List Ballot → Type 0) where
-  abbrev Ends : (Phase × List (WorkerView V I R)) × (Contents × List (List F)) → Type 0
-  Ends at = HasEnded closes at.0.0 at.0.1 at.1.0 at.1.1
+module _ {V I R F : Type 0} (closes : Contents → List (List (AnsweredItem I R)) → List (List F) → List Ballot → Type 0) where
+  abbrev Ends : (OpenPhase × List (WorkerView V I R)) × (Contents × List (List F)) → Type 0
+  Ends at = IsClosedWith closes at.0.0 at.0.1 at.1.0 at.1.1
 
   pub none_ended : HaveEnded {V = V} closes [] [] [] []
   none_ended = record { stores = refl; as_many = refl; each = All-nil Ends }
 
-  pub one_ended : (phases : List Phase) (columns : List (List (WorkerView V I R))) (stores : List Contents) (told : List (List (List F))) (phase : Phase) (column : List (WorkerView V I R)) (store : Contents) (finals : List (List F))
-      → HaveEnded closes phases columns stores told → length columns ≡ length phases → HasEnded closes phase column store finals
+  pub one_ended : (phases : List OpenPhase) (columns : List (List (WorkerView V I R))) (stores : List Contents) (told : List (List (List F))) (phase : OpenPhase) (column : List (WorkerView V I R)) (store : Contents) (finals : List (List F))
+      → HaveEnded closes phases columns stores told → length columns ≡ length phases → IsClosedWith closes phase column store finals
       → HaveEnded closes (phases ++ phase ∷ []) (columns ++ column ∷ []) (stores ++ store ∷ []) (told ++ finals ∷ [])
   one_ended phases columns stores told phase column store finals ended same one =
       let one_more : zip (zip (phases ++ phase ∷ []) (columns ++ column ∷ [])) (zip (stores ++ store ∷ []) (told ++ finals ∷ [])) ≡ zip (zip phases columns) (zip stores told) ++ ((phase, column), (store, finals)) ∷ [] =
@@ -312,8 +307,8 @@ module _ {V I R F : Type 0} (closes : Contents → List (List (Told I R)) → Li
       }
 
   -- the same, where they are pushed
-  pub next_ended : {T : Type 0} (finals_in : T → List (List F)) (phases : List Phase) (phase : Phase) (columns : List (List (WorkerView V I R))) (column : List (WorkerView V I R)) (stores stores_now : List Contents) (told told_now : List T) (store : Contents) (finals : T)
-      → HaveEnded closes phases columns stores (map finals_in told) → length columns ≡ length phases → stores_now ≡ stores ++ store ∷ [] → told_now ≡ told ++ finals ∷ [] → HasEnded closes phase column store (finals_in finals)
+  pub next_ended : {T : Type 0} (finals_in : T → List (List F)) (phases : List OpenPhase) (phase : OpenPhase) (columns : List (List (WorkerView V I R))) (column : List (WorkerView V I R)) (stores stores_now : List Contents) (told told_now : List T) (store : Contents) (finals : T)
+      → HaveEnded closes phases columns stores (map finals_in told) → length columns ≡ length phases → stores_now ≡ stores ++ store ∷ [] → told_now ≡ told ++ finals ∷ [] → IsClosedWith closes phase column store (finals_in finals)
       → HaveEnded closes (phases ++ phase ∷ []) (columns ++ column ∷ []) stores_now (map finals_in told_now)
   next_ended finals_in phases phase columns column stores stores_now told told_now store finals ended same pushed more one =
       let told_are = ap (map finals_in) more ∙ map_push finals_in told finals in
@@ -322,7 +317,7 @@ module _ {V I R F : Type 0} (closes : Contents → List (List (Told I R)) → Li
       (one_ended phases columns stores (map finals_in told) phase column store (finals_in finals) ended same one))
 
   -- each phase is closed over the items that went there
-  pub all_closed : {T : Type 0} (goes_to : I → ℕ) (workers_of : T → List (WorkerView V I R)) (rests : V → Type 0) (phases : List Phase) (before after : List T) (orders : List (List ℕ)) (work : List (List I)) (columns : List (List (WorkerView V I R))) (stores : List Contents) (told : List (List (List F)))
+  pub all_closed : {T : Type 0} (goes_to : I → ℕ) (workers_of : T → List (WorkerView V I R)) (rests : V → Type 0) (phases : List OpenPhase) (before after : List T) (orders : List (List ℕ)) (work : List (List I)) (columns : List (List (WorkerView V I R))) (stores : List Contents) (told : List (List (List F)))
       → AreReady (map base_of phases) phases (map workers_of before) orders → HaveWork goes_to work (map workers_of before) → length after ≡ length before
       → All (λ at. HaveFinished rests (workers_of at.0) (workers_of at.1)) (zip before after)
       → IsTurned (length phases) (map workers_of after) columns → HaveEnded closes phases columns stores told

@@ -1,21 +1,16 @@
 -- The replies of several phases, in the order of the lists.
 use Rattle.std.proofs.Common.{◌≡◌, ◌∙◌, ℕ, All, Bool, true, false, List, [], ◌∷◌, Some, ap, ap₂, arith, cond, get_or, length, map, refl, slice_get, subst, sym, zip}
-use Rattle.std.proofs.lemmas.List.{length-map}
-use Rattle.std.proofs.lemmas.List.Elements.{All-map}
-use Rattle.std.proofs.lemmas.Option.{same_Some, slice_get-get_or, slice_get_within}
-use Rattle.std.proofs.lemmas.Slice.Zip.{length-zip}
-use Rattle.std.specs.List.{filter}
+use Rattle.store_spec.proofs.Common.{All-map, Ballot, filter, length-map, length-zip, same_Some, slice_get-get_or, slice_get_within}
 use Rattle.std.specs.Prelude.{◌==◌}
 use Rattle.body_store.specs.Contents.{Contents}
 use Rattle.part_play.proofs.Stages.{shown_at, those_named}
-use Rattle.part_play.specs.Several.{AnswersEach, AreAllTold, AreByPlaces, HasClosed, HasPlayed, HaveClosed, replies_at}
+use Rattle.part_play.specs.Several.{AnswersEach, AreAllTold, AreByPlaces, HasClosed, HasPlayed, HaveClosed, part_replies}
 use Rattle.phase_kind.proofs.Counts.{something_there}
 use Rattle.phase_kind.proofs.Planned.{column_at, holds_at, length-column, mapped_at, row_at, same_at_each, zipped_at, zipped_there}
 use Rattle.phase_kind.proofs.Shared.{goes_within}
 use Rattle.phase_kind.specs.Table.{IsTurned}
-use Rattle.phase_kind.specs.Team.{AreByPlace, AreInOrder, GoesWithin, replies_to, those_of}
-use Rattle.phase_kind.specs.Told.{Told}
-use Rattle.store_spec.specs.Ballot.{Ballot}
+use Rattle.phase_kind.specs.Team.{AreByPlace, AreInListOrder, GoesWithin, replies_to, those_of}
+use Rattle.phase_kind.specs.AnsweredItem.{AnsweredItem}
 
 -- as many as the items of each
 pub lengths_of : {X Y : Type 0} (f : X → Y) (xss : List (List X)) → map length xss ≡ map length (map (map f) xss)
@@ -54,15 +49,15 @@ module _ {I L E C F : Type 0} (goes_to : I → ℕ) (items : L → List I) (list
       ∙ ap (λ (l : List ℕ). slice_get l k) (by_places place (map list_of entries.0) (shown_at (map list_of) told place entries.0 entries.1))
       ∙ shown_at many those k (those_of goes_to place (items both.0)) there)
 
-  module _ (replies : List E) (same : length replies ≡ length work) (each : All (λ at. AreInOrder goes_to (items at.0.0) (map list_of (entries_of at.0.1)) (list_of at.1)) (zip (zip work rows) replies)) where
+  module _ (replies : List E) (same : length replies ≡ length work) (each : All (λ at. AreInListOrder goes_to (items at.0.0) (map list_of (entries_of at.0.1)) (list_of at.1)) (zip (zip work rows) replies)) where
     -- one list with its replies
     one_told : (k : ℕ) (list : L) (reply : E) → slice_get work k ≡ Some list → slice_get replies k ≡ Some reply
-        → (row : C) × (slice_get rows k ≡ Some row) × AreInOrder goes_to (items list) (map list_of (entries_of row)) (list_of reply)
+        → (row : C) × (slice_get rows k ≡ Some row) × AreInListOrder goes_to (items list) (map list_of (entries_of row)) (list_of reply)
     one_told k list reply at_list at_reply =
         let row = something_there rows k (omega (arith, as_many, slice_get_within work k list at_list)) in (
           row.0,
           row.1,
-          holds_at (λ at. AreInOrder goes_to (items at.0.0) (map list_of (entries_of at.0.1)) (list_of at.1)) (zip (zip work rows) replies) k ((list, row.0), reply) each
+          holds_at (λ at. AreInListOrder goes_to (items at.0.0) (map list_of (entries_of at.0.1)) (list_of at.1)) (zip (zip work rows) replies) k ((list, row.0), reply) each
               (zipped_there (zip work rows) replies k (list, row.0) reply (zipped_there work rows k list row.0 at_list row.1) at_reply),
         )
 
@@ -124,7 +119,7 @@ module _ {I : Type 0} (goes_to : I → ℕ) where
         by true rest = ap (λ l. reply ∷ l) rest
         by false rest = rest
 
-    all_named : (place : ℕ) (work : List (List I)) (replies : List (List F)) → replies_at (λ p. p) place (map (map goes_to) work) replies ≡ replies_at goes_to place work replies
+    all_named : (place : ℕ) (work : List (List I)) (replies : List (List F)) → part_replies (λ p. p) place (map (map goes_to) work) replies ≡ part_replies goes_to place work replies
     all_named place [] replies = refl
     all_named place (list ∷ work) [] = refl
     all_named place (list ∷ work) (row ∷ replies) = ap₂ (λ (r : List F) (l : List (List F)). r ∷ l) (replies_named place list row) (all_named place work replies)
@@ -137,7 +132,7 @@ module _ {I : Type 0} (goes_to : I → ℕ) where
 
 -- ---- the whole
 
-module _ {I R F : Type 0} (closes : Contents → List (List (Told I R)) → List (List F) → List Ballot → Type 0) (goes_to : I → ℕ) (before : List Contents) (work : List (List I)) (after : List Contents) (told : List (List (List F))) (closed : HaveClosed closes goes_to before work after told) where
+module _ {I R F : Type 0} (closes : Contents → List (List (AnsweredItem I R)) → List (List F) → List Ballot → Type 0) (goes_to : I → ℕ) (before : List Contents) (work : List (List I)) (after : List Contents) (told : List (List (List F))) (closed : HaveClosed closes goes_to before work after told) where
   -- each item that goes to a place has a reply there
   pub by_places : AnswersEach closes → AreByPlaces goes_to work told
   by_places answers place finals at =
@@ -146,7 +141,7 @@ module _ {I R F : Type 0} (closes : Contents → List (List (Told I R)) → List
       let now = something_there after place (omega (arith, within, closed.as_many, closed.stores)) in
       let one = closed.each place old.0 now.0 finals old.1 now.1 at in
       answers old.0 one.trays finals now.0.ballots one.told
-      ∙ lengths_of (λ (t : Told I R). t.item) one.trays
+      ∙ lengths_of (λ (t : AnsweredItem I R). t.item) one.trays
       ∙ ap (map (λ (l : List I). length l)) one.items
 
   pub has_played : (replies : List (List F)) → AreAllTold goes_to work told replies → HasPlayed closes goes_to before work after replies

@@ -2,8 +2,8 @@
 
 ghost use Rattle.body_store.specs.Contents.{Contents};
 ghost use Rattle.part_play.specs.Several.{AnswersEach, AreAllShared, AreAllTold, AreByPlaces, AreReady, HasPlayed, HaveBegun, HaveClosed, HaveEnded, HaveWork};
-ghost use Rattle.phase_kind.specs.Phase.{Phase};
-ghost use Rattle.phase_kind.specs.Team.{AreByPlace, AreInOrder, GoesWithin};
+ghost use Rattle.phase_kind.specs.Phase.{OpenPhase};
+ghost use Rattle.phase_kind.specs.Team.{AreByPlace, AreInListOrder, GoesWithin};
 ghost use Rattle.phase_kind.specs.Worker.{AreAll, WorkerView};
 ghost use Rattle.std.specs.Prelude.{◌≡◌, ◌≤◌, ◌++◌, ◌∷◌, ℕ, [], All, IfOk, List, OnOk, length, map, zip};
 
@@ -175,7 +175,7 @@ where
     requires all { length workers.items ≡ phase.words.seats }
     requires belong { All (λ worker. worker.phase ≡ phase) workers.items }
     requires idle { All (λ worker. worker.waiting ≡ []) workers.items }
-    ensures { OnOk result ((phases : List Phase) (columns : List (List (WorkerView K.Sight K.Item K.Reply)))
+    ensures { OnOk result ((phases : List OpenPhase) (columns : List (List (WorkerView K.Sight K.Item K.Reply)))
         → length columns ≡ length phases → HaveEnded K.closes phases columns stores.old.items
         (map (λ finals. map (λ list. list.items) finals.items) told.old.items)
         → HaveEnded K.closes (phases ++ phase ∷ []) (columns ++ workers.items ∷ []) stores.new.items
@@ -252,7 +252,7 @@ fn each_in_order<F: Copy + Drop>(
     requires by_place { All (λ at. AreByPlace (λ place. place) at.0.items
         (map (λ row. row.items) at.1.items)) (zip orders.now rows.now) }
     ensures as_many { IfOk result (λ told. length told.items ≡ length orders.now) }
-    ensures in_order { IfOk result (λ told. All (λ at. AreInOrder (λ place. place) at.0.0.items
+    ensures in_order { IfOk result (λ told. All (λ at. AreInListOrder (λ place. place) at.0.0.items
         (map (λ row. row.items) at.0.1.items) at.1.items) (zip (zip orders.now rows.now) told.items)) }
 {
     let mut told = Vec::with_capacity(alloc, orders.len())?;

@@ -1,6 +1,6 @@
 -- Numbers that are looked up in the set of their part are looked up in the set of all.
 use Rattle.std.proofs.Common.{◌≡◌, ◌∙◌, ℕ, Bool, List, ap, map, sym}
-use Rattle.std.proofs.lemmas.Simd.{map-map}
+use Rattle.store_spec.proofs.Common.{Ballot, ClosesFinding, closing, find_text, map-map, part_of}
 use Rattle.part_play.proofs.Found.{map_alike, part_has}
 use Rattle.part_play.specs.Plays.{PlaysFindingInParts, is_present_in}
 use Rattle.partition_store.proofs.Shares.{share_joined}
@@ -8,9 +8,6 @@ use Rattle.partition_store.specs.Parted.{AreParts, joined}
 use Rattle.phase_find.specs.Present.{is_present}
 use Rattle.phase_play.proofs.Closing.{closes_finding}
 use Rattle.phase_play.proofs.Playing.{plays_finding}
-use Rattle.store_spec.specs.Ballot.{Ballot}
-use Rattle.store_spec.specs.Parts.{part_of}
-use Rattle.store_spec.specs.Session.{ClosesFinding, closing, find_text}
 
 module _ (bits : ℕ) (sets : List (List Ballot)) (are : AreParts bits sets) where
   in_part : (number : ℕ) → is_present_in bits sets number ≡ is_present (joined sets) number

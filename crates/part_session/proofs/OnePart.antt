@@ -1,31 +1,21 @@
 -- What came of one part decides what is replied to its items at a close, and its share of the set after it.
 use Rattle.std.proofs.Common.{◌≡◌, ◌≢◌, ◌∙◌, ◌+◌, ◌^◌, ◌<◌, ◌≤◌, ◌==◌, ⊎_elim, ℕ, Bool, true, false, All, List, [], ◌∷◌, ◌++◌, ap, ap₂, arith, get_or, length, map, not, refl, subst, sym}
-use Rattle.std.proofs.lemmas.Bool.{cases_eq, cases_lt, eqb-true, eq-eqb}
-use Rattle.std.proofs.lemmas.List.Elements.{All-append, All-filter, All-head, All-map, All-tail, All-weaker, filter_passes}
+use Rattle.store_spec.proofs.Common.{All-append, All-filter, All-head, All-map, All-permutation, All-tail, All-weaker, AllPairs-filter, Ballot, BallotOutcome, CastLine, ClosesCastingInParts, ClosesFinding, ClosesWithdrawingInParts, Contains, Effect, Election, IsBallotSet, IsTrue, IsValid, IsWithinLimit, WithdrawOutcome, Withdrawal, accepted_in, ballots_without, cases_eq, cases_lt, cast_text, closing, eq-eqb, eqb-true, filter, filter_passes, find_text, get_or-map-range_with_len, length-map-range_with_len, list_any, listed, numbers_of, of_part, part_of, range_with_len, share, withdraw_text}
 use Rattle.std.proofs.lemmas.List.Filters.{length-filter_both}
-use Rattle.std.proofs.lemmas.List.FromFn.{get_or-map-range_with_len, length-map-range_with_len}
-use Rattle.std.proofs.lemmas.List.Kept.{AllPairs-filter}
-use Rattle.std.proofs.lemmas.List.Sorted.{All-permutation}
-use Rattle.std.specs.List.{Contains, filter, list_any, range_with_len}
-use Rattle.std.specs.Prelude.{◌↔◌, IsTrue}
+use Rattle.std.specs.Prelude.{◌↔◌}
 use Rattle.ballot_record.proofs.BallotNumbers.{ballot_with, contains_number}
 use Rattle.part_play.proofs.Beside.{filters_mapped}
 use Rattle.part_play.proofs.Shares.{accepted_own, share_left}
 use Rattle.part_session.proofs.Together.{all_together}
 use Rattle.part_session.proofs.Words.{finding}
-use Rattle.part_session.specs.Runs.{MayHold}
+use Rattle.part_session.specs.Runs.{MayHoldParts}
 use Rattle.partition_store.proofs.Shares.{each_in_part, joined_set, none_own, share_joined}
 use Rattle.partition_store.specs.Parted.{AreBits, AreParts, BelongsTo, joined}
 use Rattle.phase_find.specs.Present.{is_present}
 use Rattle.phase_play.proofs.Playing.{plays_finding}
 use Rattle.phase_play.proofs.Sequence.{an_outcome}
 use Rattle.phase_play.proofs.Withdrawals as withdrawals
-use Rattle.store_spec.specs.Ballot.{Ballot, IsBallotSet, IsValid, IsWithinLimit, numbers_of}
-use Rattle.store_spec.specs.BallotPhase.{BallotOutcome, CastLine, accepted_in}
-use Rattle.store_spec.specs.Election.{Election}
-use Rattle.store_spec.specs.Parts.{ClosesCastingInParts, ClosesWithdrawingInParts, of_part, part_of, share}
-use Rattle.store_spec.specs.Session.{ClosesFinding, Effect, ballots_without, cast_text, closing, find_text, withdraw_text}
-use Rattle.store_spec.specs.WithdrawPhase.{Finding, Withdrawal, WithdrawOutcome, listed}
+use Rattle.store_spec.specs.WithdrawPhase.{Finding}
 use Rattle.word_rule.proofs.Members.{contains-filter, from_filter}
 
 -- ---- sets
@@ -42,7 +32,7 @@ some_of : (test : Ballot → Bool) (set : List Ballot) → length (filter test s
 some_of test set = omega (arith, length-filter_both test (λ b. not (test b)) (λ b. refl) set)
 
 -- each share is within the limit: past the last part there are no ballots
-each_within : (e : Election) (bits : ℕ) (set : List Ballot) → AreBits bits → MayHold bits e set → (part : ℕ) → IsWithinLimit e (share bits part set)
+each_within : (e : Election) (bits : ℕ) (set : List Ballot) → AreBits bits → MayHoldParts bits e set → (part : ℕ) → IsWithinLimit e (share bits part set)
 each_within e bits set are may part = ⊎_elim
     (λ (lt : part < 2 ^ bits). may.within_limit part lt)
     (λ (past : 2 ^ bits ≤ part).
@@ -70,9 +60,9 @@ pub record Alike (L : Type 0) (bits part : ℕ) (e : Election) (number : L → �
   pub closes : Closes too left
   pub same : map (of_part number bits part) too ≡ map (of_part number bits part) lines
   pub alike : share bits part left ≡ share bits part after
-  pub may : MayHold bits e left
+  pub may : MayHoldParts bits e left
 
-module _ (e : Election) (bits part : ℕ) (are : AreBits bits) (below : part < 2 ^ bits) (set other : List Ballot) (may : MayHold bits e other) (alike : share bits part other ≡ share bits part set) where
+module _ (e : Election) (bits part : ℕ) (are : AreBits bits) (below : part < 2 ^ bits) (set other : List Ballot) (may : MayHoldParts bits e other) (alike : share bits part other ≡ share bits part set) where
   -- ---- casting
 
   module _ (lists others : List (List Ballot)) (effect : Effect) (valid : All (All (IsValid e)) others)
@@ -298,7 +288,7 @@ found_at bits part held lines all =
     ))
     lines all)
 
-pub found_alike : (e : Election) (bits part : ℕ) (set other : List Ballot) → MayHold bits e other → share bits part other ≡ share bits part set
+pub found_alike : (e : Election) (bits part : ℕ) (set other : List Ballot) → MayHoldParts bits e other → share bits part other ≡ share bits part set
     → (lists others : List (List ℕ)) (effect : Effect) → map (of_part (λ number. number) bits part) others ≡ map (of_part (λ number. number) bits part) lists
     → (one : ClosesFinding set lists effect)
     → Alike Finding bits part e (λ a. a.number)

@@ -1,20 +1,12 @@
 -- The stores of all parts, before a phase and after it.
 use Rattle.std.proofs.Common.{◌≡◌, ◌∙◌, ◌^◌, ◌<◌, ◌≤◌, ℕ, All, List, [], ◌∷◌, Some, ap, arith, get_or, length, map, refl, subst, sym}
-use Rattle.std.proofs.lemmas.List.{get_or-map, length-map}
-use Rattle.std.proofs.lemmas.Option.{get_or_from_slice_get, slice_get-get_or, slice_get_within}
-use Rattle.std.proofs.lemmas.Simd.{map-map}
+use Rattle.store_spec.proofs.Common.{Ballot, CastReply, ClosesCastingInParts, ClosesWithdrawingInParts, Effect, Election, IsBallotSet, WithdrawReply, cast_text, closing, get_or-map, get_or_from_slice_get, length-map, map-map, slice_get-get_or, slice_get_within, withdraw_text}
 use Rattle.body_store.specs.Contents.{Contents, IsStored}
 use Rattle.part_play.specs.Plays.{AreSharesOf, HoldTheirOwn, PlaysCastingInParts, PlaysWithdrawingInParts}
 use Rattle.partition_store.proofs.Keeping.{each_part, own_election, two_parts}
 use Rattle.partition_store.proofs.Shares.{joined_set, share_joined}
 use Rattle.partition_store.specs.Parted.{AreBits, AreParts, BelongsTo, IsParted, Parted, joined}
 use Rattle.partition_store.specs.PartedKept.{AreStores, election_of, sets_of}
-use Rattle.store_spec.specs.Ballot.{Ballot, IsBallotSet}
-use Rattle.store_spec.specs.BallotPhase.{CastReply}
-use Rattle.store_spec.specs.Election.{Election}
-use Rattle.store_spec.specs.Parts.{ClosesCastingInParts, ClosesWithdrawingInParts}
-use Rattle.store_spec.specs.Session.{Effect, cast_text, closing, withdraw_text}
-use Rattle.store_spec.specs.WithdrawPhase.{WithdrawReply}
 
 -- the words of replies, as a session tells them
 pub words_told : {V X R : Type 0} (text : R → List ℕ) (of : X → R) (items : V → List X) (lists : List V)

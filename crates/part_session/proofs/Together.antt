@@ -1,7 +1,6 @@
 -- Lists put together from what each place has of them.
 use Rattle.std.proofs.Common.{◌≡◌, ◌∙◌, ◌==◌, ℕ, Bool, true, false, List, [], ◌∷◌, ap, ap₂, cond, drop, map, refl, subst, sym}
-use Rattle.std.proofs.lemmas.Bool.{eq-eqb, eqb-true}
-use Rattle.std.specs.List.{filter}
+use Rattle.store_spec.proofs.Common.{eq-eqb, eqb-true, filter}
 
 -- what is made of nothing
 nothing : {X Y : Type 0} (f : X → Y) (xs : List X) → map f xs ≡ [] → [] ≡ xs

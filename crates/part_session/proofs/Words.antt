@@ -1,14 +1,9 @@
 -- What is replied at the close of a phase tells each reply.
 use Rattle.std.proofs.Common.{◌≡◌, ℕ, ◌+◌, if◌then◌else◌, ◌==◌, Bool, true, false, List, [], ◌∷◌, ◌++◌, get_or, map, refl, sym, ap, subst, ◌∙◌, append_assoc}
-use Rattle.std.proofs.lemmas.List.{append_cancel_left}
-use Rattle.std.specs.Fmt.{decimal}
-use Rattle.store_spec.specs.Ballot.{Ballot}
-use Rattle.store_spec.specs.BallotLine.{space}
+use Rattle.store_spec.proofs.Common.{Ballot, CastLine, CastReply, WithdrawReply, Withdrawal, all_reply_lines, append_cancel_left, cast_text, closing, decimal, find_text, reply_line, reply_lines, space, withdraw_text}
 use Rattle.store_spec.specs.BallotPhase as cast
-use Rattle.store_spec.specs.BallotPhase.{CastLine, CastReply}
-use Rattle.store_spec.specs.Session.{all_reply_lines, cast_text, closing, find_text, reply_line, reply_lines, withdraw_text}
 use Rattle.store_spec.specs.WithdrawPhase as withdraw
-use Rattle.store_spec.specs.WithdrawPhase.{Finding, Withdrawal, WithdrawReply}
+use Rattle.store_spec.specs.WithdrawPhase.{Finding}
 
 -- what stands before the reply in a line
 abbrev places : ℕ → ℕ → List ℕ

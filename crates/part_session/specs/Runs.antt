@@ -10,35 +10,35 @@ use Rattle.store_spec.specs.Session.Phase.{Closed, Casts, Withdraws, Finds}
 use Rattle.store_spec.specs.WithdrawPhase.{Finding, Withdrawal}
 
 -- a phase with a reply to each item of its lists
-pub data Answered : Type 0 where
-  Cast : List (List CastLine) → Answered
-  Withdrawn : List (List Withdrawal) → Answered
-  Found : List (List Finding) → Answered
+pub data AnsweredPhase : Type 0 where
+  Cast : List (List CastLine) → AnsweredPhase
+  Withdrawn : List (List Withdrawal) → AnsweredPhase
+  Found : List (List Finding) → AnsweredPhase
 
 -- what waited for its close
-abbrev pub asked : Answered → Phase
+abbrev pub asked : AnsweredPhase → Phase
 asked (Cast lines) = Casts (map (map (λ l. l.ballot)) lines)
 asked (Withdrawn lines) = Withdraws (map (map (λ a. a.number)) lines)
 asked (Found lines) = Finds (map (map (λ a. a.number)) lines)
 
 -- the word of each reply
-abbrev pub told : Answered → List (List (List ℕ))
-told (Cast lines) = map (map (λ l. cast_text l.reply)) lines
-told (Withdrawn lines) = map (map (λ a. withdraw_text a.reply)) lines
-told (Found lines) = map (map (λ a. find_text a.present)) lines
+abbrev pub reply_words : AnsweredPhase → List (List (List ℕ))
+reply_words (Cast lines) = map (map (λ l. cast_text l.reply)) lines
+reply_words (Withdrawn lines) = map (map (λ a. withdraw_text a.reply)) lines
+reply_words (Found lines) = map (map (λ a. find_text a.present)) lines
 
 -- its close, from one set to another
-abbrev pub IsClosed : Closes → List Ballot → Answered → List Ballot → Type 0
-IsClosed closes set phase after = ClosesBy closes set (asked phase) (closing (told phase) after)
+abbrev pub IsClosed : Closes → List Ballot → AnsweredPhase → List Ballot → Type 0
+IsClosed closes set phase after = ClosesBy closes set (asked phase) (closing (reply_words phase) after)
 
 -- phases are closed, each from the set that the one before it left
-abbrev pub AreClosed : Closes → List Ballot → List Answered → List Ballot → Type 0
+abbrev pub AreClosed : Closes → List Ballot → List AnsweredPhase → List Ballot → Type 0
 AreClosed closes set [] end = end ≡ set
 AreClosed closes set (phase ∷ phases) end =
     (after : List Ballot) × IsClosed closes set phase after × AreClosed closes after phases end
 
 -- a set that a store in parts may hold: in each part no more ballots than the election's store
-pub record MayHold (bits : ℕ) (e : Election) (set : List Ballot) : Type 0 where
+pub record MayHoldParts (bits : ℕ) (e : Election) (set : List Ballot) : Type 0 where
   pub is_set : IsBallotSet e set
   pub within_limit : (part : ℕ) → part < 2 ^ bits → IsWithinLimit e (share bits part set)
 
@@ -52,7 +52,7 @@ waiting_at bits part (Withdraws lists) = Withdraws (map (of_part (λ number. num
 waiting_at bits part (Finds lists) = Finds (map (of_part (λ number. number) bits part) lists)
 
 -- the same with the replies
-abbrev pub answered_at : ℕ → ℕ → Answered → Answered
+abbrev pub answered_at : ℕ → ℕ → AnsweredPhase → AnsweredPhase
 answered_at bits part (Cast lines) = Cast (map (of_part (λ l. l.ballot.number) bits part) lines)
 answered_at bits part (Withdrawn lines) = Withdrawn (map (of_part (λ a. a.number) bits part) lines)
 answered_at bits part (Found lines) = Found (map (of_part (λ a. a.number) bits part) lines)

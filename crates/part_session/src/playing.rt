@@ -3,7 +3,7 @@
 ghost use Rattle.partition_store.specs.Parted.{joined};
 ghost use Rattle.phase_gate.specs.Replies.{ClosesBy, words_of};
 ghost use Rattle.phase_gate.specs.Standing.{MayWait};
-ghost use Rattle.phase_gate.specs.Work.{AreOf, phase_of};
+ghost use Rattle.phase_gate.specs.Waiting.{AreListsOf, phase_of};
 ghost use Rattle.phase_gate.specs.declared.replies.Replies.TheVariants as replies;
 ghost use Rattle.std.specs.Prelude.{◌≡◌, ◌≤◌, All, IfOk, length, map};
 ghost use Rattle.store_spec.specs.Parts.{of_parts};
@@ -15,7 +15,7 @@ use part_play::laws::{a_phase_closes, parts_keep_their_own};
 use part_play::{ByParts, Final, play_casting, play_finding, play_withdrawing};
 use parted_store::{PartCount, PartsOf};
 use partition_store::PartStore;
-use phase_gate::{Replies, Work};
+use phase_gate::{Replies, Waiting};
 use std::alloc::Global;
 use std::thread::Threads;
 use step_core::WithdrawReply;
@@ -96,31 +96,29 @@ pub fn play_parts<P: PartCount, R: Threads + Sync, T: Turns>(
     rt: &R,
     alloc: Global,
     store: PartsOf<P>,
-    work: Work,
+    waiting: Waiting,
     turns: &T,
 ) -> Result<(PartsOf<P>, Replies), Memory>
-    requires waiting { MayWait store.store.election (phase_of work) }
-    requires lists { AreOf store.store.election work }
-    requires open { ¬ (phase_of work ≡ phases.Closed) }
+    requires waiting { MayWait store.store.election (phase_of waiting) }
+    requires lists { AreListsOf store.store.election waiting }
     ensures election { IfOk result (λ played. played.0.store.election ≡ store.store.election) }
     ensures closes { IfOk result (λ played. ClosesBy (of_parts P.bits store.store.election)
-        (joined store.store.sets) (phase_of work)
+        (joined store.store.sets) (phase_of waiting)
         (closing (words_of played.1) (joined played.0.store.sets))) }
 {
     let store = store.into_store();
-    match work {
-        Work::Casting(lists) => {
+    match waiting {
+        Waiting::Casting(lists) => {
             let (after, finals) = cast(rt, alloc, store, lists, turns)?;
             Ok((PartsOf::new(after), Replies::Cast(finals)))
         }
-        Work::Withdrawing(lists) => {
+        Waiting::Withdrawing(lists) => {
             let (after, answers) = withdraw(rt, alloc, store, lists, turns)?;
             Ok((PartsOf::new(after), Replies::Withdrawn(answers)))
         }
-        Work::Finding(lists) => {
+        Waiting::Finding(lists) => {
             let (same, found) = find(rt, alloc, store, &lists, turns)?;
             Ok((PartsOf::new(same), Replies::Found(found)))
         }
-        Work::Closed => unreachable!(),
     }
 }

@@ -1,16 +1,12 @@
 -- The checkpoints of the first disk and of the further ones, as those of the disks of all parts.
 use Rattle.std.proofs.Common.{◌≡◌, ◌+◌, ◌<◌, ◌≤◌, ℕ, zero, suc, List, [], Result, Ok, Err, OnOk, length, get_or, sym, ap, subst, ◌∙◌, arith}
-use Rattle.std.specs.Prelude.{IfErr, slice_get}
+use Rattle.store_spec.proofs.Common.{Ballot, DiskModel, Election, IfErr, share, slice_get}
 use Rattle.any_store.specs.Checkpointed.{AreMedia, Checkpointed, FailedAt, FailedOn, IsMediumNow, IsUncalled}
 use Rattle.parted_store.proofs.Slots.{checkpointed_along, failed_along, medium_of, uncalled_along}
 use Rattle.parted_store.specs.Slots.{models_of, parted_disks, slot_model}
-use Rattle.parted_store.specs.Stops.{AreRenewed, StopsAt}
+use Rattle.parted_store.specs.Stops.{AreRenewed, StopsAtPart}
 use Rattle.partition_store.proofs.Shares.{share_joined}
 use Rattle.partition_store.specs.Parted.{AreParts, joined}
-use Rattle.store_spec.specs.Ballot.{Ballot}
-use Rattle.store_spec.specs.Disk.{DiskModel}
-use Rattle.store_spec.specs.Election.{Election}
-use Rattle.store_spec.specs.Parts.{share}
 
 -- a disk that stays as it is was not called
 same_uncalled : {D : Type 0} (model : DiskModel D) (old new : D) → new ≡ old → IsUncalled model old new
@@ -70,7 +66,7 @@ module _ {A B : Type 0} (one : DiskModel A) (other : DiskModel B) (e : Election)
   }
 
   -- a further one failed
-  further_failed : Checkpointed one e (get_or sets 0 []) first now → (i : ℕ) → StopsAt other e sets more after i
+  further_failed : Checkpointed one e (get_or sets 0 []) first now → (i : ℕ) → StopsAtPart other e sets more after i
       → FailedAt (length more) (models_of one other) (share bits) e (joined sets) old new (suc i)
   further_failed did i stops = record {
     within = omega (arith, stops.within);
@@ -81,7 +77,7 @@ module _ {A B : Type 0} (one : DiskModel A) (other : DiskModel B) (e : Election)
   }
 
   pub failed_if : {T : Type 0} (r : Result T ℕ) → Checkpointed one e (get_or sets 0 []) first now
-      → IfErr r (λ part. (i : ℕ) × (part ≡ i + 1) × StopsAt other e sets more after i)
+      → IfErr r (λ part. (i : ℕ) × (part ≡ i + 1) × StopsAtPart other e sets more after i)
       → IfErr r (FailedAt (length more) (models_of one other) (share bits) e (joined sets) old new)
   failed_if (Ok x) did stops = tt
   failed_if (Err part) did stops =

@@ -1,11 +1,8 @@
 -- The sets of parts, up to one of them.
 use Rattle.std.proofs.Common.{◌≡◌, ◌+◌, ◌^◌, ◌<◌, ℕ, zero, suc, List, [], ◌∷◌, ◌++◌, Option, Result, Ok, Err, OnErr, length, append_assoc, length-append, take, drop, get_or, refl, sym, ap, subst, ◌∙◌, arith}
-use Rattle.std.proofs.lemmas.Grind.{flat_map-append}
-use Rattle.std.proofs.lemmas.List.{append-nil, take_more}
+use Rattle.store_spec.proofs.Common.{Ballot, Election, append-nil, flat_map-append, take_more}
 use Rattle.outside_io.specs.Stream.{TakesAll, TakesSome}
 use Rattle.partition_store.specs.Parted.{joined}
-use Rattle.store_spec.specs.Ballot.{Ballot}
-use Rattle.store_spec.specs.Election.{Election}
 use Rattle.outside_io.proofs.Written.{none_taken, takes_on, takes_some}
 use Rattle.tally_export.proofs.Writing.{records_append}
 use Rattle.tally_export.specs.Exported.{records_text}

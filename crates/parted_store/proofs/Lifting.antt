@@ -1,17 +1,10 @@
 -- What is said of disks, said of a value that holds them, and of a store that has a part for each.
 use Rattle.std.proofs.Common.{◌≡◌, ◌+◌, ◌<◌, ◌≤◌, ⊎_elim, ℕ, zero, suc, List, Option, None, Some, length, map, refl, sym, ap, subst, ◌∙◌, arith}
-use Rattle.std.proofs.lemmas.Bool.{cases_lt}
-use Rattle.std.specs.List.{range_with_len}
-use Rattle.std.specs.Prelude.{slice_get}
+use Rattle.store_spec.proofs.Common.{Ballot, DiskModel, Election, Rose, cases_lt, last_count, range_with_len, share, slice_get}
 use Rattle.any_store.specs.Checkpointed.{Checkpointed, FailedAt}
 use Rattle.parted_store.proofs.Slots.{calls_row, checkpointed_along, failed_along, uncalled_along}
-use Rattle.parted_store.specs.Slots.{along, count_in, models_of}
+use Rattle.parted_store.specs.Slots.{along, models_of, slot_count}
 use Rattle.partition_store.specs.Parted.{Parted, joined}
-use Rattle.store_spec.specs.Ballot.{Ballot}
-use Rattle.store_spec.specs.Disk.{DiskModel}
-use Rattle.store_spec.specs.Election.{Election}
-use Rattle.store_spec.specs.Fault.{Rose, last_count}
-use Rattle.store_spec.specs.Parts.{share}
 
 module _ {S X : Type 0} (models : ℕ → DiskModel X) (at : S → X) (bits last more : ℕ) (store kept : Parted) (same : kept ≡ store) (bits_are : kept.bits ≡ bits) (size : more ≡ last)
     (old new : S) where
@@ -44,7 +37,7 @@ further_row one other first more last size =
     calls_row other.calls more (λ i. (models_of one other i).calls (first, more)) 1
     (λ i.
     let next : suc i ≡ 1 + i = omega arith in
-    subst (λ n. (models_of one other n).calls (first, more) ≡ count_in other.calls (slice_get more i)) next refl)
+    subst (λ n. (models_of one other n).calls (first, more) ≡ slot_count other.calls (slice_get more i)) next refl)
     ∙ ap (λ n. map (λ i. (models_of one other i).calls (first, more)) (range_with_len 1 n)) size
 
 -- ---- counts of faults
@@ -54,7 +47,7 @@ pub counts_within : {A B : Type 0} (one : DiskModel A) (other : DiskModel B) →
     → (i : ℕ) (disks : A × List B) → (models_of one other i).faults disks ≤ last_count
 counts_within one other first further zero disks = first disks.0
 counts_within one other first further (suc i) disks = in_slot (slice_get disks.1 i) where
-  in_slot : (slot : Option _) → count_in other.faults slot ≤ last_count
+  in_slot : (slot : Option _) → slot_count other.faults slot ≤ last_count
   in_slot None = omega arith
   in_slot (Some disk) = further disk
 

@@ -1,7 +1,6 @@
 -- The disks of a store that was opened.
 use Rattle.std.proofs.Common.{◌≡◌, ◌<◌, ◌≤◌, ℕ, zero, suc, List, [], ◌∷◌, Some, length, get_or, refl, sym, ap, subst, ◌∙◌, arith}
-use Rattle.std.proofs.lemmas.Option.{get_or_from_slice_get}
-use Rattle.std.specs.Prelude.{slice_get}
+use Rattle.store_spec.proofs.Common.{Ballot, DiskModel, Election, get_or_from_slice_get, share, slice_get}
 use Rattle.any_store.specs.Checkpointed.{IsMediumNow}
 use Rattle.parted_store.proofs.Slots.{medium_along, medium_in}
 use Rattle.parted_store.specs.Slots.{models_of, slot_model}
@@ -9,10 +8,6 @@ use Rattle.partition_store.proofs.Shares.{share_joined}
 use Rattle.partition_store.specs.Opening.{IsOpened}
 use Rattle.partition_store.specs.Parted.{Parted, joined}
 use Rattle.partition_store.proofs.SideBySide.{zip_from}
-use Rattle.store_spec.specs.Ballot.{Ballot}
-use Rattle.store_spec.specs.Disk.{DiskModel}
-use Rattle.store_spec.specs.Election.{Election}
-use Rattle.store_spec.specs.Parts.{share}
 
 stands : {X : Type 0} (xs : List X) (k : ℕ) → k < length xs → (x : X) × (slice_get xs k ≡ Some x)
 stands [] k lt = absurd (omega (arith, lt))

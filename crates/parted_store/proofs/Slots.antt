@@ -1,13 +1,9 @@
 -- What is said of a disk, said of a state in which it stands.
 use Rattle.std.proofs.Common.{◌≡◌, ◌+◌, ℕ, suc, List, [], ◌∷◌, Some, length, map, refl, sym, ap, subst, ◌∙◌, arith}
-use Rattle.std.specs.Prelude.{slice_get}
-use Rattle.std.specs.List.{range_with_len}
+use Rattle.store_spec.proofs.Common.{Ballot, DiskModel, Election, range_with_len, slice_get}
 use Rattle.any_store.specs.Checkpointed.{Checkpointed, FailedOn, IsMediumNow, IsUncalled}
 use Rattle.body_store.specs.Contents.{Contents}
-use Rattle.parted_store.specs.Slots.{along, count_in, slot_model}
-use Rattle.store_spec.specs.Ballot.{Ballot}
-use Rattle.store_spec.specs.Disk.{DiskModel}
-use Rattle.store_spec.specs.Election.{Election}
+use Rattle.parted_store.specs.Slots.{along, slot_count, slot_model}
 
 module _ {S D : Type 0} (model : DiskModel D) (at : S → D) where
   pub uncalled_along : (old new : S) → IsUncalled model (at old) (at new) → IsUncalled (along model at) old new
@@ -87,12 +83,12 @@ module _ {D : Type 0} (model : DiskModel D) (e : Election) (set : List Ballot) w
 -- ---- the calls of all of a list
 
 pub calls_row : {D : Type 0} (calls : D → ℕ) (more : List D) (f : ℕ → ℕ) (a : ℕ)
-    → ((i : ℕ) → f (a + i) ≡ count_in calls (slice_get more i)) → map calls more ≡ map f (range_with_len a (length more))
+    → ((i : ℕ) → f (a + i) ≡ slot_count calls (slice_get more i)) → map calls more ≡ map f (range_with_len a (length more))
 calls_row calls [] f a is = refl
 calls_row calls (x ∷ xs) f a is =
     let first : a + 0 ≡ a = omega arith in
     let head : f a ≡ calls x = subst (λ n. f n ≡ calls x) first (is 0) in
     let tail = calls_row calls xs f (a + 1) (λ i.
     let next : a + suc i ≡ a + 1 + i = omega arith in
-    subst (λ n. f n ≡ count_in calls (slice_get xs i)) next (is (suc i))) in
+    subst (λ n. f n ≡ slot_count calls (slice_get xs i)) next (is (suc i))) in
     ap (λ n. n ∷ map calls xs) (sym head) ∙ ap (λ ns. f a ∷ ns) tail

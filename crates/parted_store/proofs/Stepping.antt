@@ -1,17 +1,11 @@
 -- The checkpoints of a list of disks, one after another.
 use Rattle.std.proofs.Common.{◌≡◌, ◌≢◌, ◌+◌, ◌<◌, ◌≤◌, ℕ, zero, suc, List, [], ◌∷◌, Option, Some, length, get_or, set, refl, sym, ap, subst, ◌∙◌, ⊎_elim, arith}
-use Rattle.std.proofs.lemmas.Bool.{cases_lt}
-use Rattle.std.proofs.lemmas.Option.{get_or_from_slice_get, slice_get-get_or}
-use Rattle.std.specs.List.{AllZip}
-use Rattle.std.specs.Prelude.{slice_get}
+use Rattle.store_spec.proofs.Common.{AllZip, Ballot, DiskModel, Election, cases_lt, get_or_from_slice_get, slice_get, slice_get-get_or}
 use Rattle.any_store.specs.Checkpointed.{Checkpointed, FailedOn, IsMediumNow}
 use Rattle.parted_store.proofs.Slots.{checkpointed_there, failed_there, medium_there}
 use Rattle.parted_store.specs.Slots.{slot_model}
-use Rattle.parted_store.specs.Stops.{AreRenewed, StopsAt}
+use Rattle.parted_store.specs.Stops.{AreRenewed, StopsAtPart}
 use Rattle.recovery.proofs.OneByOne.{stands_now, zip_set}
-use Rattle.store_spec.specs.Ballot.{Ballot}
-use Rattle.store_spec.specs.Disk.{DiskModel}
-use Rattle.store_spec.specs.Election.{Election}
 
 -- those from a place on are as they were
 abbrev pub AreStill : {D : Type 0} → ℕ → List D → List D → Type 0
@@ -60,7 +54,7 @@ module _ {D : Type 0} (first now : List D) (i : ℕ) (x y : D) (lt : i < length 
           (checkpointed_there model e (get_or sets (i + 1) []) (get_or now i x) y did)))
           (cases_lt j i)
 
-      pub stops_next : length now ≡ length first → AreRenewed model e sets i first now → FailedOn model e (get_or sets (i + 1) []) (get_or now i x) y → StopsAt model e sets first next i
+      pub stops_next : length now ≡ length first → AreRenewed model e sets i first now → FailedOn model e (get_or sets (i + 1) []) (get_or now i x) y → StopsAtPart model e sets first next i
       stops_next size done did = record {
         within = subst (λ n. i < n) size lt;
         done = before done;

@@ -20,9 +20,9 @@ abbrev pub seen_in : {D : Type 0} → (D → Option (List ℕ)) → Option D →
 seen_in seen None = None
 seen_in seen (Some disk) = seen disk
 
-abbrev pub count_in : {D : Type 0} → (D → ℕ) → Option D → ℕ
-count_in count None = 0
-count_in count (Some disk) = count disk
+abbrev pub slot_count : {D : Type 0} → (D → ℕ) → Option D → ℕ
+slot_count count None = 0
+slot_count count (Some disk) = count disk
 
 abbrev pub leaves_in : {D : Type 0} → (D → ℕ → List ℕ → Type 0) → Option D → ℕ → List ℕ → Type 0
 leaves_in may_leave None m image = ⊥
@@ -32,9 +32,9 @@ leaves_in may_leave (Some disk) m image = may_leave disk m image
 abbrev pub slot_model : {D : Type 0} → DiskModel D → DiskModel (Option D)
 slot_model model = record {
   seen = seen_in model.seen;
-  calls = count_in model.calls;
+  calls = slot_count model.calls;
   may_leave = leaves_in model.may_leave;
-  faults = count_in model.faults;
+  faults = slot_count model.faults;
 }
 
 -- ---- all disks

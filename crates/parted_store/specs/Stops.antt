@@ -13,7 +13,7 @@ AreRenewed model e sets count old new =
     → Checkpointed (slot_model model) e (get_or sets (i + 1) []) (slice_get old i) (slice_get new i)
 
 -- it failed on this one: each before it became the medium of its part, and those behind it are as they were
-pub record StopsAt {D : Type 0} (model : DiskModel D) (e : Election) (sets : List (List Ballot)) (old new : List D)
+pub record StopsAtPart {D : Type 0} (model : DiskModel D) (e : Election) (sets : List (List Ballot)) (old new : List D)
     (i : ℕ) : Type 0 where
   pub within : i < length old
   pub done : AreRenewed model e sets i old new

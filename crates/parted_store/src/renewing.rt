@@ -4,7 +4,7 @@ ghost use Rattle.std.specs.Prelude.{◌≡◌, ℕ, ◌+◌, ◌^◌, ◌<◌, I
 ghost use Rattle.std.specs.List.{AllZip};
 ghost use Rattle.any_store.specs.Checkpointed.{AreCheckpointed, AreMedia, Checkpointed, FailedAt, FailedOn, IsMediumNow};
 ghost use Rattle.parted_store.specs.Slots.{models_of, parted_disks, slot_model};
-ghost use Rattle.parted_store.specs.Stops.{AreRenewed, StopsAt};
+ghost use Rattle.parted_store.specs.Stops.{AreRenewed, StopsAtPart};
 ghost use Rattle.partition_store.specs.Parted.{joined};
 ghost use Rattle.store_spec.specs.Ballot.{Ballot};
 ghost use Rattle.store_spec.specs.Disk.{disk_model};
@@ -42,7 +42,7 @@ fn renew_further<B: Disk>(
         store.now.election set (slice_get more.old i) }
     ensures done { OnOk result (AreRenewed (disk_model B.seen B.calls B.may_leave B.faults)
         store.now.election store.now.sets (length more.old) more.old more.new) }
-    ensures failed { IfErr result (λ part. (i : ℕ) × (part ≡ i + 1) × StopsAt
+    ensures failed { IfErr result (λ part. (i : ℕ) × (part ≡ i + 1) × StopsAtPart
         (disk_model B.seen B.calls B.may_leave B.faults)
         store.now.election store.now.sets more.old more.new i) }
     ensures leads { AllZip B.leads_to more.old more.new }

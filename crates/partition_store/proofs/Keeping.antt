@@ -1,17 +1,11 @@
 -- What is kept of a store in parts is a store in parts.
 use Rattle.std.proofs.Common.{◌≡◌, ◌+◌, ◌^◌, ◌<◌, ◌≤◌, ℕ, zero, suc, List, [], ◌∷◌, ◌++◌, EachIndex, length, append_assoc, length-append, take, get_or, refl, sym, ap, subst, ◌∙◌, ⊎_elim, arith}
+use Rattle.store_spec.proofs.Common.{All, All-map, Ballot, Election, IsElection, append-nil, cases_lt, example, flat_map-append, get_or_append_left, length-map, map-append, most_ballots, take_more}
 use Rattle.std.proofs.Math.Seq.{get_or-append_seam}
-use Rattle.std.proofs.lemmas.Bool.{cases_lt}
-use Rattle.std.proofs.lemmas.Grind.{flat_map-append}
-use Rattle.std.proofs.lemmas.List.{append-nil, get_or_append_left, length-map, map-append, take_more}
-use Rattle.std.proofs.lemmas.List.Elements.{All-map}
-use Rattle.std.specs.List.{All}
 use Rattle.body_store.specs.Contents.{Contents, IsStored}
 use Rattle.partition_store.specs.Parted.{AreBits, AreFurther, AreParts, BelongsTo, IsPart, IsParted, bits_of, joined}
 use Rattle.partition_store.specs.PartedKept.{AreStores, IsPartedKept, election_of, parted_of, sets_of}
 use Rattle.partition_store.specs.declared.store.PartStore.TheInside.{Inside}
-use Rattle.store_spec.specs.Ballot.{Ballot}
-use Rattle.store_spec.specs.Election.{Election, IsElection, example, most_ballots}
 
 no_store : Contents
 no_store = record { election = example; ballots = [] }

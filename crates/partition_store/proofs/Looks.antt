@@ -1,18 +1,16 @@
 -- The media are looked at one after another.
 use Rattle.std.proofs.Common.{◌≡◌, ℕ, suc, List, [], ◌∷◌, Option, None, refl, sym, subst, arith}
+use Rattle.store_spec.proofs.Common.{Ballot, DiskModel, Election}
 use Rattle.partition_store.proofs.Seeking.{first_more}
 use Rattle.partition_store.specs.Foreign.{IsFirstForeign, IsForeignIn, first_foreign}
-use Rattle.partition_store.specs.Opening.{IsAgainst, RefusesAt, RefusesFurther, RefusesLook, RoseAt}
+use Rattle.partition_store.specs.Opening.{IsAgainst, RefusesAt, RefusesLook, RefusesParts, RoseAt}
 use Rattle.partition_store.specs.declared.fault.PartFault.{PartFault}
 use Rattle.partition_store.specs.declared.fault.PartFault.TheVariants.{First, Other, Misplaced, DiskFault, Memory}
 use Rattle.recovery.proofs.OneByOne.{zip_same}
 use Rattle.recovery.specs.Media.{HoldsIfTold, NoneRose}
-use Rattle.store_spec.specs.Ballot.{Ballot}
-use Rattle.store_spec.specs.Disk.{DiskModel}
-use Rattle.store_spec.specs.Election.{Election}
 
 pub refuses_further : {D : Type 0} (model : DiskModel D) (e : Election) (more now : List D) (fault : PartFault) → RefusesAt model e more now fault
-    → (fault ≡ Memory → NoneRose model more now) → RefusesFurther model e more now fault
+    → (fault ≡ Memory → NoneRose model more now) → RefusesParts model e more now fault
 refuses_further model e more now Memory one none = none refl
 refuses_further model e more now (First why) one none = one
 refuses_further model e more now (Other index why) one none = one
@@ -34,7 +32,7 @@ module _ {A B : Type 0} (first : DiskModel A) (further : DiskModel B) (e : Elect
   refuses_first Memory refused = (refused, zip_same (λ old new. further.faults new ≡ further.faults old) (λ disk. refl) more)
 
   -- why looks at the others gave none
-  pub refuses_rest : (now : List B) (set : List Ballot) (fault : PartFault) → HoldsIfTold first e one set → first.faults after ≡ first.faults one → RefusesFurther further e more now fault
+  pub refuses_rest : (now : List B) (set : List Ballot) (fault : PartFault) → HoldsIfTold first e one set → first.faults after ≡ first.faults one → RefusesParts further e more now fault
       → IsAgainst first further e one after more now fault
   refuses_rest now set (First why) held steady refused = let never : ⊥ = omega (arith, refused.refused.0) in absurd never
   refuses_rest now set (Other i why) held steady refused = ((set, held), steady, refused)

@@ -1,16 +1,8 @@
 -- A store in one part.
 use Rattle.std.proofs.Common.{◌≡◌, ◌/◌, ◌^◌, ◌<◌, ℕ, List, [], ◌∷◌, get_or, map, not, refl, sym, ap, subst, ◌∙◌, arith}
-use Rattle.std.proofs.lemmas.List.{get_or-map, length-map}
-use Rattle.std.proofs.lemmas.List.Elements.{All-filter, All-head, All-tail}
-use Rattle.std.specs.List.{All, list_any}
+use Rattle.store_spec.proofs.Common.{All, All-filter, All-head, All-tail, Ballot, BallotOutcome, CastLine, ClosesCasting, ClosesCastingInParts, ClosesWithdrawing, ClosesWithdrawingInParts, Effect, Election, IsBallotSet, IsValid, WithdrawOutcome, Withdrawal, ballots_without, get_or-map, length-map, list_any, listed, numbers_of, of_part, part_of, share}
 use Rattle.std.specs.Prelude.{◌==◌, ◌↔◌}
 use Rattle.partition_store.proofs.Shares.{all_own}
-use Rattle.store_spec.specs.Ballot.{Ballot, IsBallotSet, IsValid, numbers_of}
-use Rattle.store_spec.specs.BallotPhase.{BallotOutcome, CastLine}
-use Rattle.store_spec.specs.Election.{Election}
-use Rattle.store_spec.specs.Parts.{ClosesCastingInParts, ClosesWithdrawingInParts, of_part, part_of, share}
-use Rattle.store_spec.specs.Session.{ClosesCasting, ClosesWithdrawing, Effect, ballots_without}
-use Rattle.store_spec.specs.WithdrawPhase.{Withdrawal, WithdrawOutcome, listed}
 
 short_part : (n : ℕ) → n < 2 ^ 64 → part_of 0 n ≡ 0
 short_part n lt = let short : n < 18446744073709551616 = lt in let here : n / 18446744073709551616 ≡ 0 = omega (arith, short) in here

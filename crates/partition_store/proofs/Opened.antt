@@ -1,8 +1,7 @@
 -- All media are looked at, and then recovered.
 use Rattle.std.proofs.Common.{◌≡◌, ◌⊎◌, ◌≤◌, ℕ, zero, suc, List, ◌∷◌, ⊎_elim, Option, Some, Result, Ok, Err, inl, inr, sym, ap, subst, ◌∙◌, arith}
-use Rattle.std.specs.List.{AllZip}
+use Rattle.store_spec.proofs.Common.{AllZip, Ballot, DiskModel, Election, HoldsSet, IsErrAnd, OnOk, Rose, leaves_now}
 use Rattle.std.specs.Option.{IfSome, is_some}
-use Rattle.std.specs.Prelude.{IsErrAnd, OnOk}
 use Rattle.body_store.specs.Contents.{Contents}
 use Rattle.crash_disk.proofs.Moments.{joined, weaker}
 use Rattle.outside_io.specs.Told.{IfTold}
@@ -18,11 +17,6 @@ use Rattle.partition_store.proofs.Recoveries.{kept_still, recovers_still}
 use Rattle.recovery.specs.Media.{HoldsIfTold, NoneRose}
 use Rattle.recovery.specs.ReadsOnly.{WritesNothing}
 use Rattle.recovery.specs.Refused.{HoldsSetOf}
-use Rattle.store_spec.specs.Ballot.{Ballot}
-use Rattle.store_spec.specs.Disk.{DiskModel, leaves_now}
-use Rattle.store_spec.specs.Election.{Election}
-use Rattle.store_spec.specs.Fault.{Rose}
-use Rattle.store_spec.specs.Medium.{HoldsSet}
 
 -- ---- the recoveries of all
 

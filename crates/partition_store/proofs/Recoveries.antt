@@ -1,8 +1,8 @@
 -- The medium of a part is recovered.
 use Rattle.std.proofs.Common.{◌≡◌, ◌⊎◌, ◌+◌, ◌<◌, ℕ, suc, List, [], ◌∷◌, ◌++◌, length, set, take, Option, Some, None, Result, Err, inl, inr, refl, sym, ap, subst, ◌∙◌, arith}
-use Rattle.std.specs.List.{AllZip, slice_get}
+use Rattle.store_spec.proofs.Common.{AllZip, Ballot, CountsFaultIf, DiskModel, Election, HoldsSet, HoldsTheSame, IsErrOf, IsMediumOf, IsSettled, LeavesOnly, SyncsFirst, leaves_now}
+use Rattle.std.specs.List.{slice_get}
 use Rattle.std.specs.Option.{IfSome, is_some}
-use Rattle.std.specs.Prelude.{IsErrOf}
 use Rattle.any_store.specs.Checkpointed.{IsMediumNow}
 use Rattle.checkpoint.proofs.Pages.{told_back}
 use Rattle.crash_disk.proofs.Moments.{started, syncs_first, weaker}
@@ -19,11 +19,6 @@ use Rattle.recovery.specs.Media.{HoldsIfTold}
 use Rattle.recovery.specs.Refused.{HoldsSetOf, IsUnchangedAt, IsUnharmedAt}
 use Rattle.recovery.specs.declared.fault.RecoverFault.{RecoverFault}
 use Rattle.recovery.specs.declared.fault.RecoverFault.TheVariants.{NoStore, OtherElection, Damaged, DiskFault, Memory}
-use Rattle.store_spec.specs.Ballot.{Ballot}
-use Rattle.store_spec.specs.Disk.{DiskModel, IsSettled, LeavesOnly, SyncsFirst, leaves_now}
-use Rattle.store_spec.specs.Election.{Election}
-use Rattle.store_spec.specs.Fault.{CountsFaultIf}
-use Rattle.store_spec.specs.Medium.{HoldsSet, HoldsTheSame, IsMediumOf}
 
 pub if_told : {X : Type 0} (P : X → Type 0) (o : Option X) → ((x : X) → o ≡ Some x → P x) → IfSome o P
 if_told P None each = tt

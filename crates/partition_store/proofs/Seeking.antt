@@ -1,19 +1,12 @@
 -- The least number of a part that belongs to another part.
 use Rattle.std.proofs.Common.{◌≡◌, ◌≢◌, ◌+◌, ◌<◌, ◌≤◌, ℕ, List, [], ◌∷◌, ◌++◌, length, length-append, get_or, false, Option, Some, None, refl, sym, ◌∙◌, ap, subst, min, ⊎_elim, arith}
+use Rattle.store_spec.proofs.Common.{All, All-contains, Ballot, Contains, Contains-append_left, Contains-get_or, Contains-push, Contains-push_cases, Election, HoldsExactly, IsValid, cases_lt, get_or_append_left, numbers_of, part_of}
 use Rattle.std.proofs.Math.Seq.{get_or-append_seam}
-use Rattle.std.proofs.lemmas.Bool.{cases_lt}
-use Rattle.std.proofs.lemmas.List.{get_or_append_left}
-use Rattle.std.proofs.lemmas.List.Elements.{All-contains, Contains-append_left, Contains-get_or, Contains-push, Contains-push_cases}
-use Rattle.std.specs.List.{All, Contains}
 use Rattle.std.specs.Option.{is_some}
 use Rattle.ballot_record.proofs.BallotNumbers.{ballot_with, contains_number}
 use Rattle.partition_store.specs.Foreign.{IsAmong, IsFirstForeign, IsForeignIn, IsLeast, IsLeastForeign, first_foreign, least_with}
 use Rattle.partition_store.specs.Parted.{BelongsTo}
 use Rattle.partition_store.specs.declared.looking.Foreign.{Foreign}
-use Rattle.store_spec.specs.Ballot.{Ballot, IsValid, numbers_of}
-use Rattle.store_spec.specs.Election.{Election}
-use Rattle.store_spec.specs.Layout.{HoldsExactly}
-use Rattle.store_spec.specs.Parts.{part_of}
 
 module _ (bits part : ℕ) where
   -- the same of what is among others, and the other way round

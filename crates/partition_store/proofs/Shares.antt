@@ -1,15 +1,8 @@
 -- The shares of a set, and the sets of parts joined.
 use Rattle.std.proofs.Common.{◌≡◌, ◌≢◌, ◌+◌, ◌/◌, ◌^◌, ◌<◌, ◌≤◌, ℕ, zero, suc, List, [], ◌∷◌, ◌++◌, length, get_or, refl, sym, ap, subst, ◌∙◌, ⊎_elim, arith}
-use Rattle.std.proofs.lemmas.Bool.{cases_lt, cond-false, cond-true, eq-eqb, ne_eqb}
-use Rattle.std.proofs.lemmas.List.{append-nil}
-use Rattle.std.proofs.lemmas.List.Elements.{All-append, All-head, All-nil, All-tail, filter-append}
-use Rattle.std.proofs.lemmas.List.Folds.{flat_map-map}
-use Rattle.std.specs.List.{All, AllPairs, flat_map, range_with_len}
+use Rattle.store_spec.proofs.Common.{All, All-append, All-head, All-nil, All-tail, AllPairs, Ballot, Election, IsBallotSet, IsValid, append-nil, cases_lt, cond-false, cond-true, eq-eqb, filter-append, flat_map, flat_map-map, ne_eqb, of_part, part_of, range_with_len, share}
 use Rattle.std.specs.Prelude.{◌==◌}
 use Rattle.partition_store.specs.Parted.{AreBits, AreParts, BelongsTo, joined, shares}
-use Rattle.store_spec.specs.Ballot.{Ballot, IsBallotSet, IsValid}
-use Rattle.store_spec.specs.Election.{Election}
-use Rattle.store_spec.specs.Parts.{of_part, part_of, share}
 
 -- ---- numbers
 

@@ -1,8 +1,7 @@
 -- More on calls on a list of disks, one after another, and on lists that are related entry by entry.
 use Rattle.std.proofs.Common.{◌≡◌, ℕ, zero, suc, ◌+◌, ◌<◌, ◌≢◌, List, [], ◌∷◌, ◌++◌, length, get_or, take, drop, set, Some, refl, sym, ap, subst, ◌∙◌, arith}
-use Rattle.std.proofs.lemmas.List.{get_or-set_same, length-set, take-set, take_more}
-use Rattle.std.proofs.lemmas.Option.{get_or_from_slice_get}
-use Rattle.std.specs.List.{AllZip, slice_get}
+use Rattle.store_spec.proofs.Common.{AllZip, get_or-set_same, get_or_from_slice_get, length-set, take-set, take_more}
+use Rattle.std.specs.List.{slice_get}
 use Rattle.recovery.proofs.OneByOne.{stood_there, zip_more, zip_set}
 
 -- the next one was called

@@ -93,9 +93,9 @@ RefusesAt model e more now fault =
     StopsAt model e (λ place old new. RefusesLook model e (place + 1) old new fault) more now
 
 -- why looks at them gave no stores
-abbrev pub RefusesFurther : {D : Type 0} → DiskModel D → Election → List D → List D → PartFault → Type 0
-RefusesFurther model e more now Memory = NoneRose model more now
-RefusesFurther model e more now fault = RefusesAt model e more now fault
+abbrev pub RefusesParts : {D : Type 0} → DiskModel D → Election → List D → List D → PartFault → Type 0
+RefusesParts model e more now Memory = NoneRose model more now
+RefusesParts model e more now fault = RefusesAt model e more now fault
 
 -- ---- all disks
 

@@ -3,7 +3,7 @@
 ghost use Rattle.std.specs.Prelude.{◌≡◌, ◌++◌, ◌+◌, ◌≤◌, ℕ, ◌∷◌, [], IfErr, IfOk, List, OnOk, Some, length, option_map};
 ghost use Rattle.std.specs.List.{AllZip};
 ghost use Rattle.partition_store.specs.Foreign.{IsAmong, IsFirstForeign, IsForeignIn, IsLeastForeign, first_foreign, least_with};
-ghost use Rattle.partition_store.specs.Opening.{IsAgainst, RefusesFurther, RefusesLook};
+ghost use Rattle.partition_store.specs.Opening.{IsAgainst, RefusesLook, RefusesParts};
 ghost use Rattle.partition_store.specs.Parted.{AreBits, AreFurther, bits_of};
 ghost use Rattle.recovery.specs.Media.{EachHolds, HoldsIfTold, NoneRose};
 ghost use Rattle.recovery.specs.ReadsOnly.{WritesNothing};
@@ -108,7 +108,7 @@ fn look_further<B: Disk>(
         × EachHolds (disk_model B.seen B.calls B.may_leave B.faults) election.now more.old sets
         × ((set : List Ballot) → IsFirstForeign bits (set ∷ []) first
         → IsFirstForeign bits (set ∷ sets) foreign)) }
-    ensures refused { IfErr result (RefusesFurther
+    ensures refused { IfErr result (RefusesParts
         (disk_model B.seen B.calls B.may_leave B.faults) election.now more.old more.new) }
     ensures steady { OnOk result
         (NoneRose (disk_model B.seen B.calls B.may_leave B.faults) more.old more.new) }

@@ -1,16 +1,9 @@
 -- The numbers in the cells of a store are those of its ballots.
 use Rattle.std.proofs.Common.{◌≡◌, ◌≢◌, ℕ, ◌^◌, ◌<◌, ◌≤◌, ⊎_elim, Option, None, Some, MatchOption, List, length, slice_index, ap, ◌∙◌, sym}
-use Rattle.std.proofs.lemmas.Bool.{cases_lt}
-use Rattle.std.proofs.lemmas.List.{get_or_default, get_or_past}
-use Rattle.std.specs.List.{Contains}
+use Rattle.store_spec.proofs.Common.{Contains, HasRoom, cases_lt, cell_count, cells_of, get_or_default, get_or_past, home_in, numbers_of}
 use Rattle.body_store.proofs.BallotSets.{has_room, may_hold_set, stored_layout}
 use Rattle.body_store.specs.Contents.{Contents, IsStored}
 use Rattle.phase_delete.specs.Stands.{StoodAt}
-use Rattle.store_spec.specs.Ballot.{numbers_of}
-use Rattle.store_spec.specs.Election.{cell_count}
-use Rattle.store_spec.specs.Home.{home_in}
-use Rattle.store_spec.specs.Image.{cells_of}
-use Rattle.store_spec.specs.Layout.{HasRoom}
 use Rattle.word_rule.specs.Seats.{SharedWords}
 use Rattle.word_rule.specs.Stores.{AreWordsOf}
 

@@ -1,15 +1,10 @@
 -- What is left of ballots and of numbers when some numbers go.
 use Rattle.std.proofs.Common.{◌≡◌, ℕ, suc, ◌≢◌, ◌==◌, ⊎_elim, Bool, true, false, cond, not, List, [], ◌∷◌, get_or, refl, sym, ap, ◌∙◌, arith}
-use Rattle.std.proofs.lemmas.Bool.{cases_Bool, cases_eq, eq-eqb}
-use Rattle.std.proofs.lemmas.List.Folds.{list_any_at}
-use Rattle.std.specs.List.{Contains, list_any}
+use Rattle.store_spec.proofs.Common.{Ballot, Contains, cases_Bool, cases_eq, eq-eqb, list_any, list_any_at, numbers_of, times, without}
 use Rattle.std.specs.Prelude.{◌↔◌}
 use Rattle.body_store.specs.Contents.{ballots_without}
 use Rattle.step_core.proofs.Listings.{some_times, times_some, times_without, times_without_none}
 use Rattle.step_core.proofs.WithdrawingAnswers.{is_held}
-use Rattle.store_spec.specs.Ballot.{Ballot, numbers_of}
-use Rattle.store_spec.specs.WithdrawInvariant.{times}
-use Rattle.store_spec.specs.WithdrawPhase.{without}
 
 -- ---- whether a number is among others
 

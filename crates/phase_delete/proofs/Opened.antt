@@ -1,11 +1,8 @@
 -- What a phase begins with.
 use Rattle.std.proofs.Common.{◌≡◌, ℕ, ◌-◌, ◌≤◌, List, get_or, sym, ap, ◌∙◌, subst, arith}
+use Rattle.store_spec.proofs.Common.{Election, IsLayout, cell_count, home_in, most_cells, numbers_of}
 use Rattle.body_store.specs.Contents.{Contents, IsStored}
 use Rattle.step_core.specs.declared.shape.Shape.{Shape}
-use Rattle.store_spec.specs.Ballot.{numbers_of}
-use Rattle.store_spec.specs.Election.{Election, cell_count, most_cells}
-use Rattle.store_spec.specs.Home.{home_in}
-use Rattle.store_spec.specs.Layout.{IsLayout}
 use Rattle.word_rule.proofs.Stores.{ordered_by}
 use Rattle.word_rule.specs.Stores.{IsShapeOf}
 use Rattle.word_rule.specs.WithdrawWords.{MayEmpty}

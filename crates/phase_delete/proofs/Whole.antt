@@ -1,32 +1,21 @@
 -- All withdrawers of a phase at its end: what they removed, and that their trays have the outcome of withdrawing.
 use Rattle.std.proofs.Common.{◌≡◌, ℕ, ⊎_elim, true, List, [], ◌∷◌, ◌++◌, get_or, map, refl, sym, ap, ◌∙◌, subst, arith}
-use Rattle.std.proofs.lemmas.List.{length-map}
-use Rattle.std.proofs.lemmas.List.Elements.{All-contains, All-contains_itself, All-head, All-map, All-tail, Contains-append_cases, Contains-append_left, Contains-append_right, Contains-get_or}
-use Rattle.std.proofs.lemmas.Simd.{map-map}
-use Rattle.std.specs.List.{All, AllPairs, Contains}
+use Rattle.store_spec.proofs.Common.{All, All-contains, All-contains_itself, All-head, All-map, All-tail, AllPairs, Ballot, Contains, Contains-append_cases, Contains-append_left, Contains-append_right, Contains-get_or, Election, IsRightWithdrawal, MayBeWithdrawnBefore, WithdrawView, cell_count, cells_of, home_in, is_withdrawn, layout_of, length-map, listed, map-map, numbers_of, times, withdrawn_in, without}
 use Rattle.body_store.specs.Contents.{Contents, IsStored, ballots_without}
 use Rattle.phase_delete.proofs.Held.{room}
 use Rattle.phase_delete.proofs.Left.{left_alike, numbers_left}
-use Rattle.phase_delete.specs.Closing.{ClosesAs, all_numbers, lines_of}
+use Rattle.phase_delete.specs.Closing.{ClosesAs, all_numbers, tray_lines}
 use Rattle.phase_delete.specs.Ends.{TellsOf, WithdrawerView, all_withdrawn}
 use Rattle.phase_kind.specs.Worker.{AreAll, seat_of}
-use Rattle.phase_delete.specs.Tray.{IsTold, gone_of, line, withdrawn_of}
-use Rattle.phase_kind.specs.Phase.{Phase}
-use Rattle.phase_delete.specs.Tray.{Withdrawal}
+use Rattle.phase_delete.specs.Tray.{IsTrayOf, gone_of, tray_line, withdrawn_of}
+use Rattle.phase_kind.specs.Phase.{OpenPhase}
+use Rattle.phase_delete.specs.Tray.{TrayWithdrawal}
 use Rattle.step_core.proofs.Listings.{times_some}
 use Rattle.step_core.proofs.Sets.{All-flat_map, All-from_flat_map, All-from_map}
 use Rattle.step_core.proofs.WithdrawingAnswers.{numbers-contains}
 use Rattle.step_core.specs.WithdrawingInvariant.{is_gone}
 use Rattle.step_core.specs.declared.withdrawer.WithdrawReply.{WithdrawReply}
-use Rattle.store_spec.specs.Ballot.{Ballot, numbers_of}
-use Rattle.store_spec.specs.Election.{Election, cell_count}
-use Rattle.store_spec.specs.Home.{home_in}
-use Rattle.store_spec.specs.Image.{cells_of}
-use Rattle.store_spec.specs.Layout.{layout_of}
-use Rattle.store_spec.specs.WithdrawInvariant.{times}
 use Rattle.store_spec.specs.WithdrawPhase as outcome
-use Rattle.store_spec.specs.WithdrawPhase.{IsRightWithdrawal, MayBeWithdrawnBefore, is_withdrawn, listed, withdrawn_in, without}
-use Rattle.store_spec.specs.WithdrawStep.{WithdrawView}
 use Rattle.word_rule.proofs.Members.{from_kept}
 use Rattle.word_rule.proofs.Stores.{laid_out_without}
 use Rattle.word_rule.specs.Places.{AreWhole, Place}
@@ -37,31 +26,31 @@ use Rattle.word_rule.specs.WithdrawWords.{AgreeOn, begun_at, cells_after}
 
 -- ---- trays
 
-abbrev pub replies_in : List Withdrawal → List WithdrawReply
+abbrev pub replies_in : List TrayWithdrawal → List WithdrawReply
 replies_in tray = map (λ w. w.reply) tray
 
-abbrev pub trays_of : List WithdrawerView → List (List Withdrawal)
+abbrev pub trays_of : List WithdrawerView → List (List TrayWithdrawal)
 trays_of tabs = map (λ tab. tab.tray) tabs
 
 -- the numbers of the lines are those of the trays
-pub listed_is : (trays : List (List Withdrawal)) → listed (lines_of trays) ≡ all_numbers trays
+pub listed_is : (trays : List (List TrayWithdrawal)) → listed (tray_lines trays) ≡ all_numbers trays
 listed_is [] = refl
 listed_is (tray ∷ trays) =
-    ap (λ l. l ++ listed (lines_of trays)) (map-map (λ (a : outcome.Withdrawal). a.number) line tray)
-    ∙ ap (λ l. map (λ (w : Withdrawal). w.item) tray ++ l) (listed_is trays)
+    ap (λ l. l ++ listed (tray_lines trays)) (map-map (λ (a : outcome.Withdrawal). a.number) tray_line tray)
+    ∙ ap (λ l. map (λ (w : TrayWithdrawal). w.item) tray ++ l) (listed_is trays)
 
-withdrawn_is : (trays : List (List Withdrawal)) → withdrawn_in (lines_of trays) ≡ all_withdrawn trays
+withdrawn_is : (trays : List (List TrayWithdrawal)) → withdrawn_in (tray_lines trays) ≡ all_withdrawn trays
 withdrawn_is [] = refl
 withdrawn_is (tray ∷ trays) = ap (λ l. withdrawn_of tray ++ l) (withdrawn_is trays)
 
 -- a number that was withdrawn is one of the trays'
-pub withdrawn_listed : (trays : List (List Withdrawal)) (x : ℕ) → Contains (all_withdrawn trays) x → Contains (all_numbers trays) x
+pub withdrawn_listed : (trays : List (List TrayWithdrawal)) (x : ℕ) → Contains (all_withdrawn trays) x → Contains (all_numbers trays) x
 withdrawn_listed [] x c = c
 withdrawn_listed (tray ∷ trays) x c = ⊎_elim
     (λ (here : Contains (withdrawn_of tray) x).
-    Contains-append_left (map (λ (w : Withdrawal). w.item) tray) (all_numbers trays) x
-    (subst (λ (l : List ℕ). Contains l x) (map-map (λ (a : outcome.Withdrawal). a.number) line tray) (from_kept (λ (a : outcome.Withdrawal). is_withdrawn a.reply) (λ (a : outcome.Withdrawal). a.number) (map line tray) x here)))
-    (λ (later : Contains (all_withdrawn trays) x). Contains-append_right (map (λ (w : Withdrawal). w.item) tray) (all_numbers trays) x (withdrawn_listed trays x later))
+    Contains-append_left (map (λ (w : TrayWithdrawal). w.item) tray) (all_numbers trays) x
+    (subst (λ (l : List ℕ). Contains l x) (map-map (λ (a : outcome.Withdrawal). a.number) tray_line tray) (from_kept (λ (a : outcome.Withdrawal). is_withdrawn a.reply) (λ (a : outcome.Withdrawal). a.number) (map tray_line tray) x here)))
+    (λ (later : Contains (all_withdrawn trays) x). Contains-append_right (map (λ (w : TrayWithdrawal). w.item) tray) (all_numbers trays) x (withdrawn_listed trays x later))
     (Contains-append_cases (withdrawn_of tray) (all_withdrawn trays) x c)
 
 -- the numbers that trays tell as withdrawn are those that their seats have begun
@@ -74,26 +63,26 @@ begun_is (tab ∷ tabs) told =
 -- ---- one tray
 
 -- each number of a tray that is held was begun, here or elsewhere
-module _ (phase : Phase) (view : WithdrawView) (tray : List Withdrawal) (begun : List ℕ) (told : IsTold phase view tray) (own : All (Contains begun) view.begun) (others : All (Contains begun) view.gone) where
+module _ (phase : OpenPhase) (view : WithdrawView) (tray : List TrayWithdrawal) (begun : List ℕ) (told : IsTrayOf phase view tray) (own : All (Contains begun) view.begun) (others : All (Contains begun) view.gone) where
   abbrev WasBegun : outcome.Withdrawal → Type 0
   WasBegun a = Contains (numbers_of phase.base.ballots) a.number → Contains begun a.number
 
-  by_reply : (a : outcome.Withdrawal) → Contains (map line tray) a → (r : outcome.WithdrawReply) → a.reply ≡ r → IsRightWithdrawal (numbers_of phase.base.ballots) a.number r → WasBegun a
+  by_reply : (a : outcome.Withdrawal) → Contains (map tray_line tray) a → (r : outcome.WithdrawReply) → a.reply ≡ r → IsRightWithdrawal (numbers_of phase.base.ballots) a.number r → WasBegun a
   by_reply a there outcome.WithdrawReply.Withdrawn is right held =
-      let among = All-contains (λ (b : outcome.Withdrawal). is_withdrawn b.reply ≡ true → Contains (withdrawn_of tray) b.number) (map line tray) a (numbers-contains is_withdrawn (map line tray)) there (ap is_withdrawn is) in
+      let among = All-contains (λ (b : outcome.Withdrawal). is_withdrawn b.reply ≡ true → Contains (withdrawn_of tray) b.number) (map tray_line tray) a (numbers-contains is_withdrawn (map tray_line tray)) there (ap is_withdrawn is) in
       All-contains (Contains begun) view.begun a.number own (subst (λ (l : List ℕ). Contains l a.number) told.begun among)
   by_reply a there outcome.WithdrawReply.Gone is right held =
-      let among = All-contains (λ (b : outcome.Withdrawal). is_gone b.reply ≡ true → Contains (gone_of tray) b.number) (map line tray) a (numbers-contains is_gone (map line tray)) there (ap is_gone is) in
+      let among = All-contains (λ (b : outcome.Withdrawal). is_gone b.reply ≡ true → Contains (gone_of tray) b.number) (map tray_line tray) a (numbers-contains is_gone (map tray_line tray)) there (ap is_gone is) in
       All-contains (Contains begun) view.gone a.number others (subst (λ (l : List ℕ). Contains l a.number) told.gone among)
   by_reply a there outcome.WithdrawReply.Absent is right held = absurd (right held)
 
-  pub each_begun : All (λ a. Contains (numbers_of phase.base.ballots) a.number → Contains begun a.number) (map line tray)
-  each_begun k d within = let a = get_or (map line tray) k d in by_reply a (Contains-get_or (map line tray) k d within) a.reply refl (told.right k d within)
+  pub each_begun : All (λ a. Contains (numbers_of phase.base.ballots) a.number → Contains begun a.number) (map tray_line tray)
+  each_begun k d within = let a = get_or (map tray_line tray) k d in by_reply a (Contains-get_or (map tray_line tray) k d within) a.reply refl (told.right k d within)
 
 -- ---- the withdrawers of a phase
 
 module _ (base : Contents) (words : SharedWords) (tabs : List WithdrawerView) (all : AreAll (record { base = base; words = words }) tabs) (told : All TellsOf tabs) where
-  abbrev phase : Phase
+  abbrev phase : OpenPhase
   phase = record { base = base; words = words }
 
   abbrev held : List ℕ
@@ -102,15 +91,15 @@ module _ (base : Contents) (words : SharedWords) (tabs : List WithdrawerView) (a
   pub whole : AreWhole IsAtRest words (map seat_of tabs)
   whole = record {
     count = length-map tabs seat_of ∙ all.all;
-    belong = All-map (λ (s : Place WithdrawView). s.words ≡ words) seat_of tabs (λ k d within. ap (λ (p : Phase). p.words) (all.belong k d within));
+    belong = All-map (λ (s : Place WithdrawView). s.words ≡ words) seat_of tabs (λ k d within. ap (λ (p : OpenPhase). p.words) (all.belong k d within));
     such = All-map (λ (s : Place WithdrawView). IsAtRest s.view) seat_of tabs (λ k d within. (told k d within).at_rest);
   }
 
   -- what trays tell, in terms of the phase
-  told_by : All (λ tab. IsTold (record { base = base; words = words }) tab.seat tab.tray) tabs
+  told_by : All (λ tab. IsTrayOf (record { base = base; words = words }) tab.seat tab.tray) tabs
   told_by k d within =
       let tab = get_or tabs k d in
-      subst (λ (p : Phase). IsTold p tab.seat tab.tray) (all.belong k d within) (told k d within)
+      subst (λ (p : OpenPhase). IsTrayOf p tab.seat tab.tray) (all.belong k d within) (told k d within)
 
   -- ---- the cells and the ballots that are left
 
@@ -131,7 +120,7 @@ module _ (base : Contents) (words : SharedWords) (tabs : List WithdrawerView) (a
     abbrev begun : List ℕ
     begun = begun_at (map seat_of tabs)
 
-    abbrev trays : List (List Withdrawal)
+    abbrev trays : List (List TrayWithdrawal)
     trays = trays_of tabs
 
     own_begun : All (λ tab. All (Contains (begun_at (map seat_of tabs))) tab.seat.begun) tabs
@@ -143,19 +132,19 @@ module _ (base : Contents) (words : SharedWords) (tabs : List WithdrawerView) (a
     others_begun : All (λ tab. All (Contains (begun_at (map seat_of tabs))) tab.seat.gone) tabs
     others_begun = All-from_map (λ (s : Place WithdrawView). All (Contains begun) s.view.gone) seat_of tabs agree.gone
 
-    lists_begun : All (λ n. Contains (numbers_of base.ballots) n → Contains (begun_at (map seat_of tabs)) n) (listed (lines_of (trays_of tabs)))
+    lists_begun : All (λ n. Contains (numbers_of base.ballots) n → Contains (begun_at (map seat_of tabs)) n) (listed (tray_lines (trays_of tabs)))
     lists_begun =
         let Was : ℕ → Type 0 = λ n. Contains held n → Contains begun n in
-        All-flat_map Was (map (λ (a : outcome.Withdrawal). a.number)) (lines_of trays)
-        (All-map (λ (list : List outcome.Withdrawal). All Was (map (λ (a : outcome.Withdrawal). a.number) list)) (map line) trays
-        (All-map (λ (tray : List Withdrawal). All Was (map (λ (a : outcome.Withdrawal). a.number) (map line tray))) (λ (tab : WithdrawerView). tab.tray) tabs
+        All-flat_map Was (map (λ (a : outcome.Withdrawal). a.number)) (tray_lines trays)
+        (All-map (λ (list : List outcome.Withdrawal). All Was (map (λ (a : outcome.Withdrawal). a.number) list)) (map tray_line) trays
+        (All-map (λ (tray : List TrayWithdrawal). All Was (map (λ (a : outcome.Withdrawal). a.number) (map tray_line tray))) (λ (tab : WithdrawerView). tab.tray) tabs
         (λ k d within.
         let tab = get_or tabs k d in
-        All-map Was (λ (a : outcome.Withdrawal). a.number) (map line tab.tray) (each_begun phase tab.seat tab.tray begun (told_by k d within) (own_begun k d within) (others_begun k d within)))))
+        All-map Was (λ (a : outcome.Withdrawal). a.number) (map tray_line tab.tray) (each_begun phase tab.seat tab.tray begun (told_by k d within) (own_begun k d within) (others_begun k d within)))))
 
     -- a number of the trays that is held was begun
-    listed_begun : (x : ℕ) → Contains (numbers_of base.ballots) x → Contains (listed (lines_of (trays_of tabs))) x → Contains (begun_at (map seat_of tabs)) x
-    listed_begun x there named = All-contains (λ n. Contains held n → Contains begun n) (listed (lines_of trays)) x lists_begun named there
+    listed_begun : (x : ℕ) → Contains (numbers_of base.ballots) x → Contains (listed (tray_lines (trays_of tabs))) x → Contains (begun_at (map seat_of tabs)) x
+    listed_begun x there named = All-contains (λ n. Contains held n → Contains begun n) (listed (tray_lines trays)) x lists_begun named there
 
     -- so the ballots that are left are those without the numbers of the trays
     same_left : ballots_without base.ballots (all_withdrawn (trays_of tabs)) ≡ ballots_without base.ballots (all_numbers (trays_of tabs))
@@ -173,11 +162,11 @@ module _ (base : Contents) (words : SharedWords) (tabs : List WithdrawerView) (a
           rest = rest;
           outcome = record {
             rest = ap numbers_of rest ∙ numbers_left base.ballots (all_numbers trays) ∙ ap (without held) (sym (listed_is trays));
-            answers = All-map (All Right) (map line) trays (All-map (λ (tray : List Withdrawal). All Right (map line tray)) (λ (tab : WithdrawerView). tab.tray) tabs (λ k d within. (told_by k d within).right));
+            answers = All-map (All Right) (map tray_line) trays (All-map (λ (tray : List TrayWithdrawal). All Right (map tray_line tray)) (λ (tab : WithdrawerView). tab.tray) tabs (λ k d within. (told_by k d within).right));
             once = λ x there named.
-                let same : withdrawn_in (lines_of trays) ≡ begun = withdrawn_is trays ∙ begun_is tabs told in
+                let same : withdrawn_in (tray_lines trays) ≡ begun = withdrawn_is trays ∙ begun_is tabs told in
                 let some = times_some begun x (listed_begun x there named) in
                 omega (arith, ap (λ l. times l x) same, agree.once x);
-            in_order = All-map (AllPairs MayBeWithdrawnBefore) (map line) trays (All-map (λ (tray : List Withdrawal). AllPairs MayBeWithdrawnBefore (map line tray)) (λ (tab : WithdrawerView). tab.tray) tabs (λ k d within. (told_by k d within).in_order));
+            in_order = All-map (AllPairs MayBeWithdrawnBefore) (map tray_line) trays (All-map (λ (tray : List TrayWithdrawal). AllPairs MayBeWithdrawnBefore (map tray_line tray)) (λ (tab : WithdrawerView). tab.tray) tabs (λ k d within. (told_by k d within).in_order));
           };
         }

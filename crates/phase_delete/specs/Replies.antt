@@ -2,7 +2,7 @@
 use Rattle.std.specs.Prelude.{◌≡◌, ◌↔◌, ℕ, Contains}
 use Rattle.body_store.specs.Contents.{Contents}
 use Rattle.phase_delete.specs.Gains.{Gains, IsNewTo, StepsFor}
-use Rattle.phase_kind.specs.Phase.{Phase}
+use Rattle.phase_kind.specs.Phase.{OpenPhase}
 use Rattle.step_core.specs.Shape.{homes_of}
 use Rattle.step_core.specs.WithdrawCore.{reply_of}
 use Rattle.step_core.specs.declared.withdrawer.WithdrawReply.{WithdrawReply}
@@ -17,7 +17,7 @@ claims_none store claims = claims ≡ 0
 
 -- The reply is right: a number that was not held at the opening is answered without a step. The seat gained the number and
 -- made the steps for it, and where it was withdrawn, it was new to the seat.
-pub record IsReply (phase : Phase) (old : WithdrawView) (number : ℕ) (reply : WithdrawReply) (now : WithdrawView) : Type 0 where
+pub record IsReply (phase : OpenPhase) (old : WithdrawView) (number : ℕ) (reply : WithdrawReply) (now : WithdrawView) : Type 0 where
   pub right : IsRightWithdrawal (numbers_of phase.base.ballots) number (reply_of reply)
   pub absent : reply ≡ Absent ↔ (¬ Contains (numbers_of phase.base.ballots) number)
   pub zero : number ≡ 0 → reply ≡ Absent

@@ -23,14 +23,14 @@ pub type Withdrawer = Worker<Withdrawing>;
 impl Kind for Withdrawing {
     ghost use Rattle.std.specs.Prelude.{◌≡◌, ◌-◌, All, IfOk, OnErr, OnOk, length, map, vec_capacity};
     ghost use Rattle.body_store.specs.Contents.{IsStored};
-    ghost use Rattle.phase_kind.specs.Phase.{AreOf};
-    ghost use Rattle.phase_kind.specs.Told.{told_in};
+    ghost use Rattle.phase_kind.specs.Phase.{AreWordsOfStore};
+    ghost use Rattle.phase_kind.specs.AnsweredItem.{answered_items};
     ghost use Rattle.phase_kind.specs.Worker.{AreLeft};
     ghost use Rattle.store_spec.specs.WithdrawStep.{fresh_withdraw_view};
     ghost use Rattle.word_rule.specs.WithdrawSeats.{IsAtRest};
     ghost use Rattle.phase_delete.specs.Closing.{ClosesAs};
     ghost use Rattle.phase_delete.specs.Replies.{IsReply, claims_none};
-    ghost use Rattle.phase_delete.specs.Tray.{IsTold};
+    ghost use Rattle.phase_delete.specs.Tray.{IsTrayOf};
 
     type Sight = WithdrawSight;
 
@@ -66,7 +66,7 @@ impl Kind for Withdrawing {
 
     ghost answers = { IsReply };
 
-    ghost tells = { IsTold };
+    ghost tells = { IsTrayOf };
 
     ghost closes = { ClosesAs };
 
@@ -123,16 +123,16 @@ impl Kind for Withdrawing {
         trays: Vec<Tray<Vec<u64>, WithdrawReply>>,
     ) -> Result<Vec<Vec<WithdrawReply>>, Memory>
         requires stored { IsStored closed.old }
-        requires own { AreOf claims_none closed.old words }
-        requires left { AreLeft IsTold (record { base = closed.old; words = words })
+        requires own { AreWordsOfStore claims_none closed.old words }
+        requires left { AreLeft IsTrayOf (record { base = closed.old; words = words })
             (map (λ seat. seat) seats.items)
-            (map (λ tray. told_in tray.items.items tray.replies.items) trays.items) }
+            (map (λ tray. answered_items tray.items.items tray.replies.items) trays.items) }
         requires paired { All (λ tray. length tray.items.items ≡ length tray.replies.items)
             trays.items }
         ensures election { OnOk result (closed.new.election ≡ closed.old.election) }
         ensures stored { OnOk result (IsStored closed.new) }
         ensures closes { IfOk result (λ finals. ClosesAs closed.old
-            (map (λ tray. told_in tray.items.items tray.replies.items) trays.items)
+            (map (λ tray. answered_items tray.items.items tray.replies.items) trays.items)
             (map (λ list. list.items) finals.items) closed.new.ballots) }
         ensures unchanged { OnErr result (closed.new ≡ closed.old) }
     {

@@ -5,7 +5,7 @@ ghost use Rattle.phase_delete.specs.Replies.{IsReply, claims_none};
 ghost use Rattle.phase_kind.specs.Phase.{IsPhase};
 ghost use Rattle.std.specs.Prelude.{◌≡◌};
 ghost use Rattle.step_core.specs.Shape.{homes_of};
-ghost use Rattle.store_spec.specs.WithdrawStep.{IsSeated};
+ghost use Rattle.store_spec.specs.WithdrawStep.{StandsInBase};
 ghost use Rattle.store_spec.specs.WithdrawStep.WithdrawState.{Rest};
 
 use body_store::Closed;
@@ -46,7 +46,7 @@ fn remove(
 ) -> WithdrawReply
     requires belongs { seat.old.words ≡ words.now }
     requires at_rest { seat.old.view.state ≡ Rest }
-    requires seated { IsSeated words.now.base number place }
+    requires seated { StandsInBase words.now.base number place }
     ensures words { seat.new.words ≡ seat.old.words }
     ensures removal { IsRemoval result }
     ensures gains { Gains seat.old.view number result seat.new.view }

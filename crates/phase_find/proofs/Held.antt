@@ -1,10 +1,9 @@
 -- Whether a ballot has a number.
 use Rattle.std.proofs.Common.{◌≡◌, ℕ, ⊎_elim, List, None, Some, true, false, is_some, ap}
-use Rattle.std.specs.List.{Contains}
+use Rattle.store_spec.proofs.Common.{Ballot, Contains, ballot_of, numbers_of}
 use Rattle.ballot_record.proofs.BallotNumbers.{ballot_with, contains_number}
 use Rattle.ballot_record.proofs.Lookups.{found_in, missing_from, option_cases}
 use Rattle.phase_find.specs.Present.{is_present}
-use Rattle.store_spec.specs.Ballot.{Ballot, ballot_of, numbers_of}
 
 -- one that some ballot has
 pub present : (ballots : List Ballot) (number : ℕ) → Contains (numbers_of ballots) number

@@ -1,6 +1,6 @@
 -- Two lists, row by row.
 use Rattle.std.proofs.Common.{◌≡◌, ℕ, zero, suc, ◌<◌, List, [], ◌∷◌, length, get_or, map, refl, sym, ap, ◌∙◌, arith}
-use Rattle.std.proofs.lemmas.List.{get_or-map, length-map}
+use Rattle.store_spec.proofs.Common.{get_or-map, length-map}
 
 -- one row of each of two lists with the same rows
 pub rows_alike : {X Y Z : Type 0} (f : X → Z) (g : Y → Z) (xs : List X) (ys : List Y) (i : ℕ) (c : X) (d : Y)

@@ -1,14 +1,9 @@
 -- The close of a phase, from what was played to what is replied.
 use Rattle.std.proofs.Common.{◌≡◌, ℕ, Bool, List, [], ◌∷◌, ◌++◌, length, map, codes, ap, refl, sym, ◌∙◌}
-use Rattle.std.proofs.lemmas.Simd.{map-map}
-use Rattle.phase_gate.specs.Telling.{Tells, as_told, told_by}
-use Rattle.phase_gate.specs.declared.telling.Telling.{Telling}
+use Rattle.store_spec.proofs.Common.{Ballot, CastReply, ClosesCasting, ClosesFinding, ClosesWithdrawing, Effect, Election, WithdrawReply, all_reply_lines, begun, cast_text, closing, counted, find_text, map-map, replies, withdraw_text}
+use Rattle.phase_gate.specs.Writing.{WritesReply, as_written, written_of}
+use Rattle.phase_gate.specs.declared.writing.Writing.{Writing}
 use Rattle.phase_play.specs.Plays.{PlaysCasting, PlaysFinding, PlaysWithdrawing}
-use Rattle.store_spec.specs.Ballot.{Ballot}
-use Rattle.store_spec.specs.BallotPhase.{CastReply}
-use Rattle.store_spec.specs.Election.{Election}
-use Rattle.store_spec.specs.Session.{ClosesCasting, ClosesFinding, ClosesWithdrawing, Effect, all_reply_lines, begun, cast_text, closing, counted, find_text, replies, withdraw_text}
-use Rattle.store_spec.specs.WithdrawPhase.{WithdrawReply}
 
 -- one map after another, within lists
 map_maps : {X Y Z : Type 0} (f : Y → Z) (g : X → Y) (lists : List (List X))
@@ -29,12 +24,12 @@ words_of text of items reply lists lines same =
     ∙ map_maps text reply lines
 
 -- what is told of a close, whose text was appended to nothing
-told_of_text : (telling : Telling) (old text : List ℕ) (told words : List (List (List ℕ))) (count : ℕ)
+told_of_text : (writing : Writing) (old text : List ℕ) (told words : List (List (List ℕ))) (count : ℕ)
     (after : List Ballot) → told ≡ words → old ≡ []
-    → text ≡ old ++ told_by telling (all_reply_lines 1 told ++ counted (codes "closed") count) → count ≡ length after
-    → replies text (begun after) ≡ as_told telling (closing words after)
-told_of_text telling old text told words count after same nothing put counts =
-    let line : List ℕ → ℕ → List ℕ = λ t n. told_by telling (t ++ counted (codes "closed") n) in
+    → text ≡ old ++ written_of writing (all_reply_lines 1 told ++ counted (codes "closed") count) → count ≡ length after
+    → replies text (begun after) ≡ as_written writing (closing words after)
+told_of_text writing old text told words count after same nothing put counts =
+    let line : List ℕ → ℕ → List ℕ = λ t n. written_of writing (t ++ counted (codes "closed") n) in
     ap (λ t. replies t (begun after))
     (put
     ∙ ap (λ o. o ++ line (all_reply_lines 1 told) count) nothing
@@ -42,12 +37,12 @@ told_of_text telling old text told words count after same nothing put counts =
     ∙ ap (line (all_reply_lines 1 words)) counts)
 
 -- what is told of a close that did such a thing
-pub closes_told : (telling : Telling) (Did : Effect → Type 0) (old text : List ℕ) (told words : List (List (List ℕ)))
+pub closes_told : (writing : Writing) (Did : Effect → Type 0) (old text : List ℕ) (told words : List (List (List ℕ)))
     (count : ℕ) (after : List Ballot) → Did (closing words after) → told ≡ words → old ≡ []
-    → text ≡ old ++ told_by telling (all_reply_lines 1 told ++ counted (codes "closed") count) → count ≡ length after
-    → Tells telling Did (replies text (begun after))
-closes_told telling Did old text told words count after did same nothing put counts =
-    (closing words after, did, told_of_text telling old text told words count after same nothing put counts)
+    → text ≡ old ++ written_of writing (all_reply_lines 1 told ++ counted (codes "closed") count) → count ≡ length after
+    → WritesReply writing Did (replies text (begun after))
+closes_told writing Did old text told words count after did same nothing put counts =
+    (closing words after, did, told_of_text writing old text told words count after same nothing put counts)
 
 -- ---- one closed store
 

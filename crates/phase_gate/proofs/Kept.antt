@@ -1,14 +1,12 @@
 -- What a line leaves of the disks.
 use Rattle.std.proofs.Common.{ℕ, List, [], ◌∷◌, Ok, sym, subst}
+use Rattle.store_spec.proofs.Common.{Ballot, Election, State}
 use Rattle.phase_gate.specs.Around.{Around}
 use Rattle.any_store.proofs.Each.{each_then}
 use Rattle.any_store.specs.Disks.{StoreDisks, StoreModel}
 use Rattle.any_store.specs.Checkpointed.{AreCheckpointed, AreMedia}
 use Rattle.phase_gate.specs.Checkpointed.{Acknowledges}
 use Rattle.phase_gate.specs.LineEnds.{LineEnds}
-use Rattle.store_spec.specs.Ballot.{Ballot}
-use Rattle.store_spec.specs.Election.{Election}
-use Rattle.store_spec.specs.Session.{State}
 
 -- the disks are the media of some set
 abbrev pub AreSomeMedia : {D : Type 0} → StoreDisks D → Election → D → Type 0
@@ -28,10 +26,10 @@ media_kept disks e (set ∷ []) old new marks marks_now (done, marked) media =
 media_kept disks e (set ∷ next ∷ sets) old new marks marks_now not_both media = absurd not_both
 
 -- and they still are when a line was handled
-pub media_after : {K D : Type 0} (model : StoreModel D) (tell : List ℕ → List ℕ) (e : Election) (n : ℕ)
+pub media_after : {K D : Type 0} (model : StoreModel D) (write : List ℕ → List ℕ) (e : Election) (n : ℕ)
     (s next : State) (bytes : List ℕ) (before after : Around K D)
-    → LineEnds model tell e n s bytes (Ok next) before after → AreSomeMedia model.disks e before.disk
+    → LineEnds model write e n s bytes (Ok next) before after → AreSomeMedia model.disks e before.disk
     → AreSomeMedia model.disks e after.disk
-media_after model tell e n s next bytes before after ends media =
+media_after model write e n s next bytes before after ends media =
     media_kept model.disks e ends.effect.acknowledged before.disk after.disk before.marks after.marks
     ends.done.acknowledged media

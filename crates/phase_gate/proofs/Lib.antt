@@ -1,10 +1,10 @@
 pub mod Closes
 pub mod Kept
 pub mod LineParts
+pub mod MayWait
 pub mod Outcomes
 pub mod Phases
 pub mod Queues
 pub mod Reports
 pub mod Summaries
 pub mod Told
-pub mod Waiting

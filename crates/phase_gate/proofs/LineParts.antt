@@ -1,9 +1,8 @@
 -- Parts of lines, which hold no line end.
 use Rattle.std.proofs.Common.{◌≡◌, ◌==◌, ◌||◌, ℕ, zero, suc, ◌+◌, ◌<◌, ◌/◌, ◌%◌, Bool, true, false, List, [], ◌∷◌, ◌++◌, map, cond, refl, ap, ◌∙◌, arith}
-use Rattle.std.specs.Fmt.{decimal, digits, digits_onto, digit_glyph}
-use Rattle.std.specs.List.{join_with_byte, list_any}
-use Rattle.std.proofs.lemmas.List.Folds.{list_any-append}
-use Rattle.phase_gate.specs.Telling.{HasNoEnd}
+use Rattle.store_spec.proofs.Common.{decimal, join_with_byte, list_any, list_any-append}
+use Rattle.std.specs.Fmt.{digit_glyph, digits, digits_onto}
+use Rattle.phase_gate.specs.Writing.{HasNoEnd}
 
 -- two parts are one
 pub no_end_both : (front rest : List ℕ) → HasNoEnd front → HasNoEnd rest → HasNoEnd (front ++ rest)

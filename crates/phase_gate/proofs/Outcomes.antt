@@ -1,22 +1,16 @@
 -- What becomes of a line that was not handled to its end.
 use Rattle.std.proofs.Common.{arith, ◌≡◌, ℕ, List, [], ◌∷◌, length, Some, Result, Err, ap, inl, inr, refl, sym, subst, ◌∙◌}
+use Rattle.store_spec.proofs.Common.{AnswersBy, Ballot, Casts, Checkpoint, Close, Closed, Closes, CountsFaultIf, DoesBy, Effect, Election, Finds, Phase, Says, ScriptLine, State, Withdraws}
 use Rattle.outside_io.specs.Stream.{TakesSome}
 use Rattle.phase_gate.specs.Around.{Around}
 use Rattle.any_store.specs.Checkpointed.{FailsCheckpoint}
 use Rattle.phase_gate.specs.Checkpointed.{Acknowledges, NotAcknowledged}
 use Rattle.any_store.specs.Disks.{AcknowledgesNothing, StoreModel}
-use Rattle.phase_gate.specs.LineEnds.{Did, IsHalfTold, LineEnds}
-use Rattle.phase_gate.specs.Telling.{Tells, put_fault, told_by}
+use Rattle.phase_gate.specs.LineEnds.{Did, IsHalfWritten, LineEnds}
+use Rattle.phase_gate.specs.Writing.{WritesReply, put_fault, written_of}
 use Rattle.phase_gate.specs.declared.fault.SessionFault.{SessionFault}
 use Rattle.phase_gate.specs.declared.fault.SessionFault.TheVariants.{DiskFault, WriteFault, Memory}
-use Rattle.phase_gate.specs.declared.telling.Telling.{Telling}
-use Rattle.store_spec.specs.Ballot.{Ballot}
-use Rattle.store_spec.specs.Election.{Election}
-use Rattle.store_spec.specs.Fault.{CountsFaultIf}
-use Rattle.store_spec.specs.ScriptLine.{Says, ScriptLine}
-use Rattle.store_spec.specs.ScriptLine.ScriptLine.{Close, Checkpoint}
-use Rattle.store_spec.specs.Session.{AnswersBy, Closes, DoesBy, Effect, Phase, State}
-use Rattle.store_spec.specs.Session.Phase.{Casts, Closed, Finds, Withdraws}
+use Rattle.phase_gate.specs.declared.writing.Writing.{Writing}
 use Rattle.tally_export.specs.declared.fault.PutFault.{PutFault}
 use Rattle.tally_export.specs.declared.fault.PutFault.TheVariants as put
 
@@ -50,14 +44,14 @@ acknowledging closes none e n s bytes effect set (inr (line, says, does)) is =
     let told = checkpoints closes none e n s line s.phase effect set does is in
     (told.1, subst (Says e bytes) told.0 says, told.2)
 
-module _ {K D : Type 0} (model : StoreModel D) (telling : Telling) (e : Election) (n : ℕ) (s : State) (bytes : List ℕ)
+module _ {K D : Type 0} (model : StoreModel D) (writing : Writing) (e : Election) (n : ℕ) (s : State) (bytes : List ℕ)
     (told : Effect)
-    (tells : Tells telling (AnswersBy (model.closes e) e n s (Some bytes)) told) (before after : Around K D) where
+    (tells : WritesReply writing (AnswersBy (model.closes e) e n s (Some bytes)) told) (before after : Around K D) where
   -- a line whose set was not acknowledged
   pub unacknowledged : AcknowledgesNothing (model.closes e) → (set : List Ballot) (fault : SessionFault) → told.acknowledged ≡ set ∷ []
       → NotAcknowledged model.disks e set before.disk after.disk fault → after.sink ≡ before.sink
       → after.marks ≡ before.marks → after.others ≡ before.others → after.held ≡ before.held
-      → LineEnds model (told_by telling) e n s bytes (Err fault) before after
+      → LineEnds model (written_of writing) e n s bytes (Err fault) before after
   unacknowledged none set DiskFault asked fails sink marks others held =
       let checkpoint = acknowledging (model.closes e) none e n s bytes tells.0 set tells.1 (sym (ap (λ x. x.acknowledged) tells.2) ∙ asked) in
       record {
@@ -85,7 +79,7 @@ module _ {K D : Type 0} (model : StoreModel D) (telling : Telling) (e : Election
 
     -- a part of it was told
     half : TakesSome before.sink.taken told.reply after.sink.taken
-        → IsHalfTold model (told_by telling) e n s bytes before after
+        → IsHalfWritten model (written_of writing) e n s bytes before after
     half taken = record {
       effect = tells.0;
       answers = tells.1;
@@ -95,6 +89,6 @@ module _ {K D : Type 0} (model : StoreModel D) (telling : Telling) (e : Election
 
     pub half_told : (why : PutFault) → TakesSome before.sink.taken told.reply after.sink.taken
         → CountsFaultIf (as_answer why ≡ as_answer put.WriteFault) before.sink.faults after.sink.faults
-        → LineEnds model (told_by telling) e n s bytes (Err (put_fault why)) before after
+        → LineEnds model (written_of writing) e n s bytes (Err (put_fault why)) before after
     half_told put.WriteFault taken fault = (half taken, fault.rose refl)
     half_told put.Memory taken fault = inr (half taken, fault.steady (λ clash. cc))

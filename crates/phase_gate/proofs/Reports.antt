@@ -1,16 +1,9 @@
 -- The summaries of a tally and of an export.
 use Rattle.std.proofs.Common.{◌≡◌, ℕ, true, List, [], ◌∷◌, ◌++◌, map, take, length, codes, refl, sym, append_assoc, subst}
-use Rattle.std.specs.Fmt.{decimal}
-use Rattle.std.specs.List.{flat_map, join_with_byte, range_with_len}
-use Rattle.std.proofs.lemmas.Grind.{flat_map-append}
+use Rattle.store_spec.proofs.Common.{Ballot, Election, choice_line, choices_in, choices_of, contest_line, contest_lines, count_line, decimal, export_text, flat_map, flat_map-append, group_text, is_in_summary, join_with_byte, lines_text, overvotes, range_with_len, record_line, tally_text, undervotes, votes}
 use Rattle.phase_gate.proofs.LineParts.{decimal_no_end, decimal_numeral, no_end_both, no_end_joined}
 use Rattle.phase_gate.proofs.Summaries.{Sums, counted_no_end, line_in, line_out, numeral_out, sums_both}
-use Rattle.phase_gate.specs.Telling.{HasNoEnd}
-use Rattle.store_spec.specs.Ballot.{Ballot}
-use Rattle.store_spec.specs.BallotLine.{choices_in, group_text, record_line}
-use Rattle.store_spec.specs.Election.{Election, choices_of}
-use Rattle.store_spec.specs.Report.{choice_line, contest_line, contest_lines, count_line, export_text, lines_text, overvotes, tally_text, undervotes, votes}
-use Rattle.store_spec.specs.Summary.{is_in_summary}
+use Rattle.phase_gate.specs.Writing.{HasNoEnd}
 
 -- the lines are all in the summary
 abbrev pub AllIn : List (List ℕ) → Type 0

@@ -1,16 +1,8 @@
 -- The summary of what a session replies, text by text.
 use Rattle.std.proofs.Common.{◌≡◌, ◌==◌, ℕ, ◌+◌, ◌<◌, true, false, List, [], ◌∷◌, ◌++◌, map, All, cond, codes, refl, sym, ap, ◌∙◌, arith, append_assoc, append-nil, subst}
-use Rattle.std.specs.Fmt.{decimal}
-use Rattle.std.specs.List.{filter}
-use Rattle.std.proofs.lemmas.List.Elements.{All-head, All-tail}
+use Rattle.store_spec.proofs.Common.{All-head, All-tail, Casting, Finding, Withdrawing, Work, all_reply_lines, begun_with, counted, decimal, filter, is_in_summary, lines_of, lines_text, opened, phase_text, refusal, reply_line, reply_lines, summary_of}
 use Rattle.phase_gate.proofs.LineParts.{IsNumeral, decimal_no_end, decimal_numeral, no_end_both, no_end_parts, numeral_no_end}
-use Rattle.phase_gate.specs.Telling.{HasNoEnd}
-use Rattle.store_spec.specs.Input.{begun_with, lines_of}
-use Rattle.store_spec.specs.Report.{lines_text}
-use Rattle.store_spec.specs.Session.{all_reply_lines, counted, opened, phase_text, refusal, reply_line, reply_lines}
-use Rattle.store_spec.specs.ScriptLine.{Work}
-use Rattle.store_spec.specs.ScriptLine.Work.{Casting, Withdrawing, Finding}
-use Rattle.store_spec.specs.Summary.{is_in_summary, summary_of}
+use Rattle.phase_gate.specs.Writing.{HasNoEnd}
 
 -- whole lines, and their summary
 abbrev pub Sums : List ℕ → List ℕ → Type 0

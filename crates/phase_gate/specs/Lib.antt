@@ -1,9 +1,9 @@
 pub mod Around
 pub mod Beside
 pub mod Checkpointed
-pub mod Gate
+pub mod InnerSession
 pub mod LineEnds
 pub mod Replies
 pub mod Standing
-pub mod Telling
-pub mod Work
+pub mod Waiting
+pub mod Writing

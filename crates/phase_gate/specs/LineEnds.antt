@@ -21,23 +21,23 @@ pub record Did {K D : Type 0} (model : StoreModel D) (e : Election) (before afte
   pub acknowledged : Acknowledges model.disks e effect.acknowledged before.disk after.disk before.marks after.marks
   pub held : after.held ≡ length effect.next.set
 
--- line number n was handled, and so much of its reply told as `tell` says
-pub record IsHandled {K D : Type 0} (model : StoreModel D) (tell : List ℕ → List ℕ) (e : Election) (n : ℕ) (s : State)
+-- line number n was handled, and so much of its reply written as `write` says
+pub record IsHandled {K D : Type 0} (model : StoreModel D) (write : List ℕ → List ℕ) (e : Election) (n : ℕ) (s : State)
     (bytes : List ℕ) (next : State) (before after : Around K D) : Type 0 where
   pub effect : Effect
   pub answers : AnswersBy (model.closes e) e n s (Some bytes) effect
   pub next_state : next ≡ effect.next
   pub done : Did model e before after effect
-  pub taken : TakesAll before.sink.taken (tell effect.reply) after.sink.taken
+  pub taken : TakesAll before.sink.taken (write effect.reply) after.sink.taken
   pub no_fault : after.sink.faults ≡ before.sink.faults
 
--- it was, but of what is told of its reply the sink took a part alone
-pub record IsHalfTold {K D : Type 0} (model : StoreModel D) (tell : List ℕ → List ℕ) (e : Election) (n : ℕ) (s : State)
+-- it was, but of what is written of its reply the sink took a part alone
+pub record IsHalfWritten {K D : Type 0} (model : StoreModel D) (write : List ℕ → List ℕ) (e : Election) (n : ℕ) (s : State)
     (bytes : List ℕ) (before after : Around K D) : Type 0 where
   pub effect : Effect
   pub answers : AnswersBy (model.closes e) e n s (Some bytes) effect
   pub done : Did model e before after effect
-  pub taken : TakesSome before.sink.taken (tell effect.reply) after.sink.taken
+  pub taken : TakesSome before.sink.taken (write effect.reply) after.sink.taken
 
 -- it is a checkpoint in the phase closed, and the disk failed
 pub record IsUncheckpointed {K D : Type 0} (model : StoreModel D) (e : Election) (s : State) (bytes : List ℕ)
@@ -50,27 +50,27 @@ pub record IsUncheckpointed {K D : Type 0} (model : StoreModel D) (e : Election)
   pub others : after.others ≡ before.others
   pub held : after.held ≡ before.held
 
--- What becomes of line number n in a state, where `tell` says what is told of a reply. Where there was no memory the line
--- was not begun, or it is half told.
+-- What becomes of line number n in a state, where `write` says what is written of a reply. Where there was no memory the line
+-- was not begun, or it is half written.
 abbrev pub LineEnds : {K D : Type 0} → StoreModel D → (List ℕ → List ℕ) → Election → ℕ → State → List ℕ
     → Result State SessionFault → Around K D → Around K D → Type 0
-LineEnds model tell e n s bytes (Ok next) before after = IsHandled model tell e n s bytes next before after
-LineEnds model tell e n s bytes (Err DiskFault) before after = IsUncheckpointed model e s bytes before after
-LineEnds model tell e n s bytes (Err WriteFault) before after =
-    IsHalfTold model tell e n s bytes before after × Rose before.sink.faults after.sink.faults
-LineEnds model tell e n s bytes (Err Memory) before after =
-    (after ≡ before) ⊎ (IsHalfTold model tell e n s bytes before after × (after.sink.faults ≡ before.sink.faults))
+LineEnds model write e n s bytes (Ok next) before after = IsHandled model write e n s bytes next before after
+LineEnds model write e n s bytes (Err DiskFault) before after = IsUncheckpointed model e s bytes before after
+LineEnds model write e n s bytes (Err WriteFault) before after =
+    IsHalfWritten model write e n s bytes before after × Rose before.sink.faults after.sink.faults
+LineEnds model write e n s bytes (Err Memory) before after =
+    (after ≡ before) ⊎ (IsHalfWritten model write e n s bytes before after × (after.sink.faults ≡ before.sink.faults))
 
--- What is told at the end of the script.
+-- What is written at the end of the script.
 abbrev pub LastEnds : {K : Type 0} → (List ℕ → List ℕ) → Phase → Result (Unit {0}) SessionFault → Output K → Output K
     → Type 0
-LastEnds tell phase (Ok done) before after =
-    TakesAll before.taken (tell (last_reply phase)) after.taken × (after.faults ≡ before.faults)
-LastEnds tell phase (Err DiskFault) before after = ⊥
-LastEnds tell phase (Err WriteFault) before after =
-    TakesSome before.taken (tell (last_reply phase)) after.taken × Rose before.faults after.faults
-LastEnds tell phase (Err Memory) before after =
-    TakesSome before.taken (tell (last_reply phase)) after.taken × (after.faults ≡ before.faults)
+LastEnds write phase (Ok done) before after =
+    TakesAll before.taken (write (last_reply phase)) after.taken × (after.faults ≡ before.faults)
+LastEnds write phase (Err DiskFault) before after = ⊥
+LastEnds write phase (Err WriteFault) before after =
+    TakesSome before.taken (write (last_reply phase)) after.taken × Rose before.faults after.faults
+LastEnds write phase (Err Memory) before after =
+    TakesSome before.taken (write (last_reply phase)) after.taken × (after.faults ≡ before.faults)
 
 -- the state of the session that goes on
 abbrev pub state_left : {S : Type 0} → (S → State) → Result S SessionFault → Result State SessionFault

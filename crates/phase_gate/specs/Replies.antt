@@ -2,10 +2,10 @@
 use Rattle.std.specs.Prelude.{◌≡◌, ℕ, List, map, IfOk, Result}
 use Rattle.outside_io.specs.declared.error.Memory.{Memory}
 use Rattle.phase_gate.specs.Standing.{MayWait}
-use Rattle.phase_gate.specs.Work.{AreOf, phase_of}
+use Rattle.phase_gate.specs.Waiting.{AreListsOf, phase_of}
 use Rattle.phase_gate.specs.declared.replies.Replies.{Replies}
 use Rattle.phase_gate.specs.declared.replies.Replies.TheVariants.{Cast, Withdrawn, Found}
-use Rattle.phase_gate.specs.declared.work.Work.{Work}
+use Rattle.phase_gate.specs.declared.waiting.Waiting.{Waiting}
 use Rattle.phase_insert.specs.Closing as casting
 use Rattle.step_core.specs.WithdrawCore as withdrawing
 use Rattle.store_spec.specs.Ballot.{Ballot}
@@ -29,9 +29,10 @@ ClosesBy closes set (Finds lists) effect = ClosesFinding set lists effect
 -- This plays the phases of a store: whatever waits, it may be called, and the store after it and the replies are what the
 -- close asks.
 pub record PlaysPhases {S F : Type 0} (election : S → Election) (ballots : S → List Ballot) (closes : Election → Closes)
-    (pre : F → S → Work → Type 0) (post : F → S → Work → Result (S × Replies) Memory → Type 0) (play : F) : Type 0 where
-  pub may : (store : S) (work : Work) → MayWait (election store) (phase_of work) → AreOf (election store) work
-      → ¬ (phase_of work ≡ Closed) → pre play store work
-  pub gives : (store : S) (work : Work) (r : Result (S × Replies) Memory) → post play store work r
+    (pre : F → S → Waiting → Type 0) (post : F → S → Waiting → Result (S × Replies) Memory → Type 0) (play : F)
+    : Type 0 where
+  pub may : (store : S) (waiting : Waiting) → MayWait (election store) (phase_of waiting)
+      → AreListsOf (election store) waiting → pre play store waiting
+  pub gives : (store : S) (waiting : Waiting) (r : Result (S × Replies) Memory) → post play store waiting r
       → IfOk r (λ played. (election played.0 ≡ election store) × ClosesBy (closes (election store)) (ballots store)
-      (phase_of work) (closing (words_of played.1) (ballots played.0)))
+      (phase_of waiting) (closing (words_of played.1) (ballots played.0)))

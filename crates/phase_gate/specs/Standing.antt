@@ -1,17 +1,17 @@
 -- A session between two lines.
 use Rattle.std.specs.Prelude.{◌≡◌, ℕ, ◌≤◌, List, length, All}
-use Rattle.phase_gate.specs.declared.telling.Telling.{Telling}
+use Rattle.phase_gate.specs.declared.writing.Writing.{Writing}
 use Rattle.store_spec.specs.Ballot.{Ballot, IsBallotSet, IsValid, IsWithinLimit}
 use Rattle.store_spec.specs.Election.{Election, IsElection}
 use Rattle.store_spec.specs.ScriptLine.{most_tabs}
 use Rattle.store_spec.specs.Session.{Phase, State}
 use Rattle.store_spec.specs.Session.Phase.{Casts, Withdraws, Finds}
 
--- its election, its state, and what it tells of its replies
+-- its election, its state, and what it writes of its replies
 pub record Standing : Type 0 where
   pub election : Election
   pub state : State
-  pub telling : Telling
+  pub writing : Writing
 
 -- there is a list for each tabulator of a phase
 pub record AreLists {X : Type 0} (lists : List X) : Type 0 where

@@ -27,7 +27,7 @@ impl From<Memory> for SessionFault {
 
 impl From<PutFault> for SessionFault {
     ghost use Rattle.std.specs.Prelude.{◌≡◌};
-    ghost use Rattle.phase_gate.specs.Telling.{put_fault};
+    ghost use Rattle.phase_gate.specs.Writing.{put_fault};
 
     ghost from_gives = { λ why fault. fault ≡ put_fault why };
 

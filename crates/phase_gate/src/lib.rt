@@ -3,22 +3,22 @@
 
 mod closing;
 mod fault;
-mod gate;
+mod inner;
 mod item;
 mod line;
+mod phase;
 mod replies;
 mod report;
 mod session;
-mod telling;
 mod text;
-mod work;
+mod waiting;
 mod writing;
 
 pub use closing::play_phase;
 pub use fault::SessionFault;
-pub use gate::Phase;
+pub use phase::Phase;
 pub use replies::Replies;
 pub use report::Report;
 pub use session::Session;
-pub use telling::Telling;
-pub use work::Work;
+pub use waiting::Waiting;
+pub use writing::Writing;

@@ -1,123 +1,88 @@
 //! What a line of a script does with a session, and what is replied to it.
 
-ghost use Rattle.std.specs.Prelude.{◌≡◌, ℕ, [], List, IfOk, Some, false, string_bytes};
-ghost use Rattle.phase_gate.specs.Gate.{closes_of, effect_of, election_of, queued_effect, state_of, IsNamed};
+ghost use Rattle.std.specs.Prelude.{◌≡◌, [], List, ℕ, IfOk, Some, string_bytes};
+ghost use Rattle.phase_gate.specs.InnerSession.{WritesLine, closes_of, effect_of, election_of, phase_at, queued_effect, state_of};
 ghost use Rattle.phase_gate.specs.Replies.{PlaysPhases};
-ghost use Rattle.phase_gate.specs.Telling.{HasNoEnd, Tells, as_told};
-ghost use Rattle.phase_gate.specs.Work.{CanWait, IsCommand, item_line, kind_of, phase_of};
-ghost use Rattle.script_lines.specs.Line.{script_line};
+ghost use Rattle.phase_gate.specs.Writing.{HasNoEnd, WritesReply, as_written};
+ghost use Rattle.phase_gate.specs.Waiting.{CanWait};
+ghost use Rattle.script_lines.specs.Line.{IsSaid, command_line, entry_line};
+ghost use Rattle.script_lines.specs.Words.{work};
 ghost use Rattle.store_spec.specs.ScriptLine.{IsTab, Says};
-ghost use Rattle.store_spec.specs.ScriptLine.{ScriptLine as said};
-ghost use Rattle.store_spec.specs.Session.{AnswersBy, DoesBy, refusal, stays, wrong_phase};
+ghost use Rattle.store_spec.specs.ScriptLine.{ScriptLine as lines};
+ghost use Rattle.store_spec.specs.Session.{AnswersBy, refusal, stays, wrong_phase};
+ghost use Rattle.store_spec.specs.Session.{Phase as phases};
 
 use crate::closing::tell_replies;
-use crate::gate::{Answer, Gate, Phase, Task};
+use crate::inner::{Answer, InnerSession, Task};
+use crate::phase::Phase;
 use crate::replies::Replies;
-use crate::telling::Telling;
-use crate::text::{push_count, tell_opening, tell_refusal};
-use crate::work::{Item, Kind, Queued, Work, item_of};
+use crate::text::{push_count, write_opening, write_refusal};
+use crate::waiting::{Queued, Waiting};
+use crate::writing::Writing;
 use any_store::Store;
+use ballot_record::Record;
 use outside_io::Memory;
-use script_lines::{Line, read_script_line};
+use script_lines::{Command, Entry, Said, Work};
 use std::alloc::Global;
 
-impl<S: Store> Gate<S> {
-    /// Its phase.
-    pub fn phase(&self) -> Phase
-        ensures { IsNamed result (phase_of self.now.work) }
-    {
-        match self.work {
-            Work::Closed => Phase::Closed,
-            Work::Casting(_) => Phase::Casting,
-            Work::Withdrawing(_) => Phase::Withdrawing,
-            Work::Finding(_) => Phase::Finding,
-        }
-    }
-
-    /// What a line does that has this number. Its reply comes into `reply`.
-    pub fn answer<F: Fn(S, Work) -> Result<(S, Replies), Memory>>(
+impl<S: Store> InnerSession<S> {
+    /// What a line does that says this and has this number. The ballot of a cast is this one. Its reply comes into `reply`.
+    pub fn answer<F: Fn(S, Waiting) -> Result<(S, Replies), Memory>>(
         self,
         alloc: Global,
-        line: &[u8],
+        said: Said,
+        ballot: &Record,
         index: u64,
         play: &F,
-        telling: Telling,
+        writing: Writing,
         reply: &mut String,
     ) -> Result<Answer<S>, Memory>
         requires plays { PlaysPhases S.election S.ballots S.closes F.pre F.post play.now }
+        requires said { (line : List ℕ) × IsSaid (election_of self) line said ballot.now }
         requires nothing { string_bytes reply.old ≡ [] }
-        ensures answers { IfOk result (λ answer. Tells telling
-            (AnswersBy (closes_of self) (election_of self) index (state_of self) (Some line.now))
+        ensures answers { (line : List ℕ) → IsSaid (election_of self) line said ballot.now
+            → IfOk result (λ answer. WritesReply writing
+            (AnswersBy (closes_of self) (election_of self) index (state_of self) (Some line))
             (effect_of answer (string_bytes reply.new))) }
-        ensures election { IfOk result (λ answer. election_of answer.gate ≡ election_of self) }
+        ensures election { IfOk result (λ answer. election_of answer.inner ≡ election_of self) }
     {
-        match read_script_line(line, self.store.election()) {
-            Some(said) => self.perform(alloc, &said, index, play, telling, reply),
-            None => self.refuse(index, "malformed", telling, reply),
+        match said {
+            Said::Item { tab, entry } => self.wait(tab, entry, ballot, index, writing, reply),
+            Said::Command(command) => self.command(alloc, command, index, play, writing, reply),
+            Said::Malformed => self.refuse(index, "malformed", writing, reply),
         }
     }
 
-    /// Does what a line says. Nearly all lines bring an item, for which the others make no room.
-    fn perform<F: Fn(S, Work) -> Result<(S, Replies), Memory>>(
-        self,
-        alloc: Global,
-        line: &Line,
-        index: u64,
-        play: &F,
-        telling: Telling,
-        reply: &mut String,
-    ) -> Result<Answer<S>, Memory>
-        requires plays { PlaysPhases S.election S.ballots S.closes F.pre F.post play.now }
-        requires said { (bytes : List ℕ) × Says (election_of self) bytes (script_line line.now) }
-        requires nothing { string_bytes reply.old ≡ [] }
-        ensures does { IfOk result (λ answer. Tells telling
-            (DoesBy (closes_of self) (election_of self) index (state_of self) (script_line line.now) (phase_of self.work))
-            (effect_of answer (string_bytes reply.new))) }
-        ensures election { IfOk result (λ answer. election_of answer.gate ≡ election_of self) }
-    {
-        match item_of(line) {
-            Some((tab, item)) => self.wait(tab, item, index, telling, reply),
-            None => self.command(alloc, line, index, play, telling, reply),
-        }
-    }
-
-    /// Does what a line says that brings no item.
+    /// Does what a line says that brings nothing for a list. It is refused in a phase that it does not belong to.
     #[inline(never)]
-    fn command<F: Fn(S, Work) -> Result<(S, Replies), Memory>>(
+    fn command<F: Fn(S, Waiting) -> Result<(S, Replies), Memory>>(
         self,
         alloc: Global,
-        line: &Line,
+        command: Command,
         index: u64,
         play: &F,
-        telling: Telling,
+        writing: Writing,
         reply: &mut String,
     ) -> Result<Answer<S>, Memory>
         requires plays { PlaysPhases S.election S.ballots S.closes F.pre F.post play.now }
-        requires command { IsCommand line.now }
-        requires said { (bytes : List ℕ) × Says (election_of self) bytes (script_line line.now) }
+        requires said { (line : List ℕ) × Says (election_of self) line (command_line command) }
         requires nothing { string_bytes reply.old ≡ [] }
-        ensures does { IfOk result (λ answer. Tells telling
-            (DoesBy (closes_of self) (election_of self) index (state_of self) (script_line line.now) (phase_of self.work))
-            (effect_of answer (string_bytes reply.new))) }
-        ensures election { IfOk result (λ answer. election_of answer.gate ≡ election_of self) }
+        ensures does { IfOk result
+            (WritesLine writing self index (command_line command) (string_bytes reply.new)) }
+        ensures election { IfOk result (λ answer. election_of answer.inner ≡ election_of self) }
     {
-        match *line {
-            Line::OpenCast { tabs } => self.open(alloc, Kind::Casting, tabs, index, telling, reply),
-            Line::OpenWithdraw { tabs } => self.open(
-                alloc,
-                Kind::Withdrawing,
-                tabs,
-                index,
-                telling,
-                reply,
+        match (command, self.phase()) {
+            (Command::Open { work, tabs }, _) => self.open(
+                alloc, work, tabs, index, writing, reply,
             ),
-            Line::OpenFind { tabs } => self.open(alloc, Kind::Finding, tabs, index, telling, reply),
-            Line::CastInvalid { .. } => self.cast_invalid(index, telling, reply),
-            Line::Close => self.close(index, play, telling, reply),
-            Line::Checkpoint => self.checkpoint(index, telling, reply),
-            Line::Tally => self.tally(index, telling, reply),
-            Line::Export => self.export(index, telling, reply),
-            Line::Cast { .. } | Line::Withdraw { .. } | Line::Find { .. } => unreachable!(),
+            (Command::CastInvalid { .. }, Phase::Casting) => self.refuse(
+                index, "invalid", writing, reply,
+            ),
+            (Command::Close, _) => self.close(index, play, writing, reply),
+            (Command::Checkpoint, Phase::Closed) => self.checkpoint(reply),
+            (Command::Tally, Phase::Closed) => Ok(Answer::of(self, Task::Tally)),
+            (Command::Export, Phase::Closed) => Ok(self.export(writing)),
+            _ => self.refuse_phase(index, writing, reply),
         }
     }
 
@@ -127,17 +92,17 @@ impl<S: Store> Gate<S> {
         self,
         index: u64,
         why: &str,
-        telling: Telling,
+        writing: Writing,
         reply: &mut String,
     ) -> Result<Answer<S>, Memory>
         requires why { HasNoEnd why.now }
         requires nothing { string_bytes reply.old ≡ [] }
         ensures stays { IfOk result (λ answer. effect_of answer (string_bytes reply.new)
-            ≡ as_told telling (stays (state_of self) (refusal index why.now))) }
-        ensures election { IfOk result (λ answer. election_of answer.gate ≡ election_of self) }
+            ≡ as_written writing (stays (state_of self) (refusal index why.now))) }
+        ensures election { IfOk result (λ answer. election_of answer.inner ≡ election_of self) }
     {
-        tell_refusal(reply, telling, index, why)?;
-        Ok(Answer::of(self))
+        write_refusal(reply, writing, index, why)?;
+        Ok(Answer::of(self, Task::Nothing))
     }
 
     /// Does nothing: the line does not belong to the phase.
@@ -145,193 +110,132 @@ impl<S: Store> Gate<S> {
     fn refuse_phase(
         self,
         index: u64,
-        telling: Telling,
+        writing: Writing,
         reply: &mut String,
     ) -> Result<Answer<S>, Memory>
         requires nothing { string_bytes reply.old ≡ [] }
         ensures stays { IfOk result (λ answer. effect_of answer (string_bytes reply.new)
-            ≡ as_told telling (stays (state_of self) (wrong_phase index (phase_of self.work)))) }
-        ensures election { IfOk result (λ answer. election_of answer.gate ≡ election_of self) }
+            ≡ as_written writing (stays (state_of self) (wrong_phase index (phase_at self)))) }
+        ensures election { IfOk result (λ answer. election_of answer.inner ≡ election_of self) }
     {
-        let why = self.work.refusal();
-        self.refuse(index, why, telling, reply)
+        let why = self.refusal();
+        self.refuse(index, why, writing, reply)
     }
 
     /// Opens a phase for so many tabulators.
     fn open(
         self,
         alloc: Global,
-        kind: Kind,
+        named: Work,
         tabs: u8,
         index: u64,
-        telling: Telling,
+        writing: Writing,
         reply: &mut String,
     ) -> Result<Answer<S>, Memory>
         requires tabs { IsTab tabs }
         requires nothing { string_bytes reply.old ≡ [] }
-        ensures does { IfOk result (λ answer. Tells telling (DoesBy (closes_of self) (election_of self) index
-            (state_of self) (said.Open (kind_of kind) tabs) (phase_of self.work))
-            (effect_of answer (string_bytes reply.new))) }
-        ensures election { IfOk result (λ answer. election_of answer.gate ≡ election_of self) }
+        ensures does { IfOk result
+            (WritesLine writing self index (lines.Open (work named) tabs) (string_bytes reply.new)) }
+        ensures election { IfOk result (λ answer. election_of answer.inner ≡ election_of self) }
     {
-        let Gate { store, work } = self;
-        match work {
-            Work::Closed => {
-                let work = Work::opened(alloc, store.election(), kind, tabs)?;
-                tell_opening(reply, telling, kind, tabs)?;
-                Ok(Answer::of(Gate { store, work }))
+        let InnerSession { store, waiting } = self;
+        match waiting {
+            None => {
+                let waiting = Some(Waiting::opened(alloc, store.election(), named, tabs)?);
+                write_opening(reply, writing, named, tabs)?;
+                Ok(Answer::of(InnerSession { store, waiting }, Task::Nothing))
             }
-            work => Gate { store, work }.refuse_phase(index, telling, reply),
+            Some(_) => InnerSession { store, waiting }.refuse_phase(index, writing, reply),
         }
     }
 
-    /// A line of a ballot that is not valid.
-    fn cast_invalid(
-        self,
-        index: u64,
-        telling: Telling,
-        reply: &mut String,
-    ) -> Result<Answer<S>, Memory>
-        requires nothing { string_bytes reply.old ≡ [] }
-        ensures does { (tab : ℕ) → IfOk result (λ answer. Tells telling (DoesBy (closes_of self) (election_of self) index
-            (state_of self) (said.CastInvalid tab) (phase_of self.work))
-            (effect_of answer (string_bytes reply.new))) }
-        ensures election { IfOk result (λ answer. election_of answer.gate ≡ election_of self) }
-    {
-        match self.phase() {
-            Phase::Casting => self.refuse(index, "invalid", telling, reply),
-            _ => self.refuse_phase(index, telling, reply),
-        }
-    }
-
-    /// An item is to be handled at the close of the phase.
+    /// An entry is to be handled at the close of the phase.
     fn wait(
-        self,
+        mut self,
         tab: u8,
-        item: Item<'_>,
+        entry: Entry,
+        ballot: &Record,
         index: u64,
-        telling: Telling,
+        writing: Writing,
         reply: &mut String,
     ) -> Result<Answer<S>, Memory>
         requires tab { IsTab tab }
-        requires item { CanWait (election_of self) item }
+        requires entry { CanWait (election_of self) entry ballot.now }
         requires nothing { string_bytes reply.old ≡ [] }
-        ensures does { IfOk result (λ answer. Tells telling (DoesBy (closes_of self) (election_of self) index
-            (state_of self) (item_line tab item.entry) (phase_of self.work))
-            (effect_of answer (string_bytes reply.new))) }
-        ensures election { IfOk result (λ answer. election_of answer.gate ≡ election_of self) }
+        ensures does { IfOk result
+            (WritesLine writing self index (entry_line tab entry ballot.now) (string_bytes reply.new)) }
+        ensures election { IfOk result (λ answer. election_of answer.inner ≡ election_of self) }
     {
-        let Gate { store, mut work } = self;
-        let queued = work.wait(store.election(), tab, item)?;
-        Gate { store, work }.queued(queued, index, telling, reply)
+        let queued = self.queue_entry(tab, entry, ballot)?;
+        self.queued(queued, index, writing, reply)
     }
 
-    /// Answers for an item: it waits, or there is no such list, or the phase is another.
+    /// Answers for an entry: it waits, or there is no such list, or the phase is another.
     fn queued(
         self,
         queued: Queued,
         index: u64,
-        telling: Telling,
+        writing: Writing,
         reply: &mut String,
     ) -> Result<Answer<S>, Memory>
         requires nothing { string_bytes reply.old ≡ [] }
         ensures effect { IfOk result (λ answer. effect_of answer (string_bytes reply.new)
-            ≡ as_told telling (queued_effect index (state_of self) queued)) }
-        ensures election { IfOk result (λ answer. election_of answer.gate ≡ election_of self) }
+            ≡ as_written writing (queued_effect index (state_of self) queued)) }
+        ensures election { IfOk result (λ answer. election_of answer.inner ≡ election_of self) }
     {
         match queued {
-            Queued::Waits => Ok(Answer::of(self)),
-            Queued::NoList => self.refuse(index, "invalid", telling, reply),
-            Queued::OtherPhase => self.refuse_phase(index, telling, reply),
+            Queued::Waits => Ok(Answer::of(self, Task::Nothing)),
+            Queued::NoList => self.refuse(index, "invalid", writing, reply),
+            Queued::OtherPhase => self.refuse_phase(index, writing, reply),
         }
     }
 
     /// Closes a phase: what waits is handled.
-    fn close<F: Fn(S, Work) -> Result<(S, Replies), Memory>>(
+    fn close<F: Fn(S, Waiting) -> Result<(S, Replies), Memory>>(
         self,
         index: u64,
         play: &F,
-        telling: Telling,
+        writing: Writing,
         reply: &mut String,
     ) -> Result<Answer<S>, Memory>
         requires plays { PlaysPhases S.election S.ballots S.closes F.pre F.post play.now }
         requires nothing { string_bytes reply.old ≡ [] }
-        ensures does { IfOk result (λ answer. Tells telling (DoesBy (closes_of self) (election_of self) index
-            (state_of self) said.Close (phase_of self.work))
-            (effect_of answer (string_bytes reply.new))) }
-        ensures election { IfOk result (λ answer. election_of answer.gate ≡ election_of self) }
+        ensures does { IfOk result (WritesLine writing self index lines.Close (string_bytes reply.new)) }
+        ensures election { IfOk result (λ answer. election_of answer.inner ≡ election_of self) }
     {
-        let Gate { store, work } = self;
-        if let Work::Closed = work {
-            return Gate { store, work }.refuse_phase(index, telling, reply);
+        let InnerSession { store, waiting } = self;
+        match waiting {
+            Some(waiting) => {
+                let (store, replies) = play(store, waiting)?;
+                tell_replies(reply, writing, &replies, store.len())?;
+                let waiting = None;
+                Ok(Answer::of(InnerSession { store, waiting }, Task::Nothing))
+            }
+            None => InnerSession { store, waiting }.refuse_phase(index, writing, reply),
         }
-        let (store, replies) = play(store, work)?;
-        tell_replies(reply, telling, &replies, store.len())?;
-        Ok(Answer::of(Gate {
-            store,
-            work: Work::Closed,
-        }))
     }
 
     /// The set is to be acknowledged.
-    fn checkpoint(
-        self,
-        index: u64,
-        telling: Telling,
-        reply: &mut String,
-    ) -> Result<Answer<S>, Memory>
+    fn checkpoint(self, reply: &mut String) -> Result<Answer<S>, Memory>
+        requires closed { phase_at self ≡ phases.Closed }
         requires nothing { string_bytes reply.old ≡ [] }
-        ensures does { IfOk result (λ answer. Tells telling (DoesBy (closes_of self) (election_of self) index
-            (state_of self) said.Checkpoint (phase_of self.work))
-            (effect_of answer (string_bytes reply.new))) }
-        ensures election { IfOk result (λ answer. election_of answer.gate ≡ election_of self) }
+        ensures does { (writing : Writing) (index : ℕ) → IfOk result
+            (WritesLine writing self index lines.Checkpoint (string_bytes reply.new)) }
+        ensures election { IfOk result (λ answer. election_of answer.inner ≡ election_of self) }
     {
-        match self.phase() {
-            Phase::Closed => {
-                push_count(reply, "checkpoint", self.store.len())?;
-                Ok(Answer {
-                    gate: self,
-                    task: Task::Acknowledge,
-                })
-            }
-            _ => self.refuse_phase(index, telling, reply),
-        }
+        push_count(reply, "checkpoint", self.store.len())?;
+        Ok(Answer::of(self, Task::Acknowledge))
     }
 
-    /// The tally of the set is to be told.
-    fn tally(self, index: u64, telling: Telling, reply: &mut String) -> Result<Answer<S>, Memory>
-        requires nothing { string_bytes reply.old ≡ [] }
-        ensures does { IfOk result (λ answer. Tells telling (DoesBy (closes_of self) (election_of self) index
-            (state_of self) said.Tally (phase_of self.work))
-            (effect_of answer (string_bytes reply.new))) }
-        ensures election { IfOk result (λ answer. election_of answer.gate ≡ election_of self) }
+    /// The export of the set is to be written. A summary has none of its lines.
+    fn export(self, writing: Writing) -> Answer<S>
+        requires { phase_at self ≡ phases.Closed }
+        ensures does { (index : ℕ) → WritesLine writing self index lines.Export [] result }
+        ensures election { election_of result.inner ≡ election_of self }
     {
-        match self.phase() {
-            Phase::Closed => Ok(Answer {
-                gate: self,
-                task: Task::Tally,
-            }),
-            _ => self.refuse_phase(index, telling, reply),
-        }
-    }
-
-    /// The export of the set is to be told. A summary has none of its lines.
-    fn export(self, index: u64, telling: Telling, reply: &mut String) -> Result<Answer<S>, Memory>
-        requires nothing { string_bytes reply.old ≡ [] }
-        ensures does { IfOk result (λ answer. Tells telling (DoesBy (closes_of self) (election_of self) index
-            (state_of self) said.Export (phase_of self.work))
-            (effect_of answer (string_bytes reply.new))) }
-        ensures election { IfOk result (λ answer. election_of answer.gate ≡ election_of self) }
-    {
-        match self.phase() {
-            Phase::Closed => Ok(Answer {
-                gate: self,
-                task: match telling {
-                    Telling::All => Task::Export,
-                    Telling::Summary => Task::Nothing,
-                },
-            }),
-            _ => self.refuse_phase(index, telling, reply),
+        match writing {
+            Writing::All => Answer::of(self, Task::Export),
+            Writing::Summary => Answer::of(self, Task::Nothing),
         }
     }
 }

@@ -6,30 +6,32 @@ ghost use Rattle.phase_gate.specs.Around.{around};
 ghost use Rattle.any_store.specs.Checkpointed.{AreMedia, IsMediumNow};
 ghost use Rattle.phase_gate.specs.Checkpointed.{Acknowledges, NotAcknowledged};
 ghost use Rattle.any_store.specs.Disks.{one_store, store_model};
-ghost use Rattle.phase_gate.specs.Gate.{IsNamed, IsQueued, acknowledged_at, ballots_of, election_of};
+ghost use Rattle.phase_gate.specs.InnerSession.{IsPhaseName, IsQueued, acknowledged_at, ballots_of, election_of};
 ghost use Rattle.phase_gate.specs.LineEnds.{LastEnds, LineEnds, state_left};
 ghost use Rattle.phase_gate.specs.Replies.{ClosesBy, PlaysPhases, words_of};
 ghost use Rattle.phase_gate.specs.Standing.{MayWait};
-ghost use Rattle.phase_gate.specs.Telling.{told_by};
-ghost use Rattle.phase_gate.specs.Work.{AreOf, phase_of};
+ghost use Rattle.phase_gate.specs.Writing.{written_of};
+ghost use Rattle.phase_gate.specs.Waiting.{AreListsOf, phase_of};
+ghost use Rattle.script_lines.specs.Line.{IsSaid};
 ghost use Rattle.store_spec.specs.Ballot.{Ballot};
 ghost use Rattle.store_spec.specs.Disk.{disk_model};
-ghost use Rattle.store_spec.specs.Session.{Phase as phases, begun, closing, AnswersBy, of_one_store};
+ghost use Rattle.store_spec.specs.Session.{begun, closing, AnswersBy, of_one_store};
 
 use crate::closing::play_phase;
 use crate::fault::SessionFault;
-use crate::gate::{Answer, Gate, Phase, Task};
+use crate::inner::{Answer, InnerSession, Task};
+use crate::phase::Phase;
 use crate::replies::Replies;
 use crate::report::Report;
-use crate::telling::Telling;
-use crate::work::Work;
-use crate::writing::{tell, tell_task};
+use crate::waiting::Waiting;
+use crate::writing::{Writing, write_task, write_text};
 use any_store::{Disks, Store};
 use ballot_record::Record;
 use body_store::Closed;
 use crash_disk::Disk;
 use image_builder::Scratch;
 use outside_io::{Memory, Sink, Turns};
+use script_lines::Said;
 use std::alloc::Global;
 use std::marker::Model;
 use std::thread::Threads;
@@ -37,8 +39,8 @@ use std::thread::Threads;
 /// A session between two lines of its script.
 #[derive(Drop)]
 pub struct Session<S: Store = Closed> {
-    gate: Gate<S>,
-    telling: Telling,
+    inner: InnerSession<S>,
+    writing: Writing,
     reply: String,
 }
 
@@ -47,67 +49,70 @@ impl<S: Store> Model for Session<S> {
 
     ghost Value = { Standing };
 
-    ghost use Rattle.phase_gate.specs.Gate.{standing_of};
+    ghost use Rattle.phase_gate.specs.InnerSession.{standing_of};
 
     ghost view = { standing_of };
 }
 
 impl<S: Store> Session<S> {
-    /// It begins closed, with this store. It tells all of its replies.
+    /// It begins closed, with this store. It writes all of its replies.
     pub fn new(alloc: Global, store: S) -> Session<S>
         ensures election { result.election ≡ S.election store }
         ensures begun { result.state ≡ begun (S.ballots store) }
-        ensures telling { result.telling ≡ Telling.All }
+        ensures writing { result.writing ≡ Writing.All }
     {
-        Session::telling(alloc, store, Telling::All)
+        Session::writing(alloc, store, Writing::All)
     }
 
-    /// The same, and this is what it tells of its replies.
-    pub fn telling(alloc: Global, store: S, telling: Telling) -> Session<S>
+    /// The same, and this is what it writes of its replies.
+    pub fn writing(alloc: Global, store: S, writing: Writing) -> Session<S>
         ensures election { result.election ≡ S.election store }
         ensures begun { result.state ≡ begun (S.ballots store) }
-        ensures telling { result.telling ≡ telling }
+        ensures writing { result.writing ≡ writing }
     {
         Session {
-            gate: Gate {
+            inner: InnerSession {
                 store,
-                work: Work::Closed,
+                waiting: None,
             },
-            telling,
+            writing,
             reply: String::new(alloc),
         }
     }
 
     /// The phase that it is in.
     pub fn phase(&self) -> Phase
-        ensures { IsNamed result self.now.state.phase }
+        ensures { IsPhaseName result self.now.state.phase }
     {
-        self.gate.phase()
+        self.inner.phase()
     }
 
     /// Lets what a line of its script brings wait for the close of the phase. Nearly all lines bring something that
-    /// waits, and nothing is told of them. `false` where this one does not: then nothing was done, and `line` handles it.
-    /// The ballot of a cast is read in place of the one that stands in `ballot`, whatever that is.
-    pub fn queue(&mut self, line: &[u8], ballot: &mut Record) -> Result<bool, Memory>
-        ensures queued { (index : ℕ) → IfOk result (λ waits. IsQueued waits
+    /// waits, and nothing is written of them. Where this one does not, nothing is done, and what it says is given back, for
+    /// `line` to handle. The ballot of a cast is read in place of the one that stands in `ballot`, whatever that is.
+    pub fn queue(&mut self, line: &[u8], ballot: &mut Record) -> Result<Option<Said>, Memory>
+        ensures queued { (index : ℕ) → IfOk result (λ left. IsQueued left
             (AnswersBy (S.closes self.old.election) self.old.election index self.old.state (Some line.now))
+            (λ said. IsSaid self.old.election line.now said ballot.new)
             self.old.state self.new.state) }
         ensures set { self.new.state.set ≡ self.old.state.set }
         ensures election { self.new.election ≡ self.old.election }
-        ensures telling { self.new.telling ≡ self.old.telling }
+        ensures writing { self.new.writing ≡ self.old.writing }
         ensures unchanged { OnErr result (self.new ≡ self.old) }
     {
-        self.gate.queue(line, ballot)
+        self.inner.queue(line, ballot)
     }
 
-    /// Handles a line of its script, which has this number, counted from 1. `play` plays the phases of its store. Whoever has
-    /// read the reply to a checkpoint can rely on it: the disks are the media of the set. A tally and an export go straight
-    /// to the sink. A refusal gives the session up.
+    /// Handles a line of its script, which says this and has this number, counted from 1. The ballot of a cast is this one.
+    /// `play` plays the phases of its store. Whoever has read the reply to a checkpoint can rely on it: the disks are the
+    /// media of the set. A tally and an export go straight to the sink. A refusal gives the session up.
     pub fn line_by<R, M, K, F>(
         self,
         rt: &R,
         alloc: Global,
         line: &[u8],
+        said: Said,
+        ballot: &Record,
         index: u64,
         disks: &mut M,
         out: &mut K,
@@ -119,56 +124,61 @@ impl<S: Store> Session<S> {
         R: Threads + Sync,
         M: Disks<S>,
         K: Sink,
-        F: Fn(S, Work) -> Result<(S, Replies), Memory>,
+        F: Fn(S, Waiting) -> Result<(S, Replies), Memory>,
         requires plays { PlaysPhases S.election S.ballots S.closes F.pre F.post play.now }
+        requires said { IsSaid self.election line.now said ballot.now }
         requires media { (set : List Ballot) × AreMedia M.disks self.election set disks.old }
-        ensures ends { LineEnds (store_model S.closes M.disks) (told_by self.telling) self.election index self.state line.now
+        ensures ends { LineEnds (store_model S.closes M.disks) (written_of self.writing) self.election index self.state line.now
             (state_left (λ session. session.state) result)
             (around (output K.taken K.faults out.old) disks.old report.old)
             (around (output K.taken K.faults out.new) disks.new report.new) }
         ensures election { IfOk result (λ session. session.election ≡ self.election) }
-        ensures telling { IfOk result (λ session. session.telling ≡ self.telling) }
+        ensures writing { IfOk result (λ session. session.writing ≡ self.writing) }
         ensures others { report.new.others ≡ report.old.others }
         ensures begun { report.new.begun ≡ report.old.begun }
         ensures leads { M.leads_to disks.old disks.new }
         ensures fails { IsErrOf result SessionFault.DiskFault → M.fails_to disks.old disks.new }
     {
         let Session {
-            gate,
-            telling,
+            inner,
+            writing,
             mut reply,
         } = self;
         reply.clear();
-        let Answer { gate, task } = gate.answer(alloc, line, index, play, telling, &mut reply)?;
-        prepare(task, &gate, disks, scratch, report)?;
-        report.held = gate.store.len() as u32;
-        tell_task(rt, alloc, task, &gate, &reply, out)?;
+        let Answer { inner, task } = inner.answer(
+            alloc, said, ballot, index, play, writing, &mut reply,
+        )?;
+        prepare(task, &inner, disks, scratch, report)?;
+        report.held = inner.store.len() as u32;
+        write_task(rt, alloc, task, &inner, &reply, out)?;
         Ok(Session {
-            gate,
-            telling,
+            inner,
+            writing,
             reply,
         })
     }
 
-    /// The script has ended: a phase that is still open is dropped. A summary does not tell it.
+    /// The script has ended: a phase that is still open is dropped. A summary does not say so.
     pub fn end<K: Sink>(self, out: &mut K) -> Result<(), SessionFault>
-        ensures { LastEnds (told_by self.telling) self.state.phase result
+        ensures { LastEnds (written_of self.writing) self.state.phase result
             (output K.taken K.faults out.old) (output K.taken K.faults out.new) }
     {
-        match self.telling {
-            Telling::All => Ok(tell(self.gate.work.last_reply(), out)?),
-            Telling::Summary => Ok(()),
+        match self.writing {
+            Writing::All => Ok(write_text(self.inner.last_reply(), out)?),
+            Writing::Summary => Ok(()),
         }
     }
 }
 
 impl Session<Closed> {
-    /// Handles a line of its script, of a closed store and its disk.
+    /// Handles a line of its script, which says this, of a closed store and its disk.
     pub fn line<R: Threads + Sync, D: Disk, K: Sink, T: Turns>(
         self,
         rt: &R,
         alloc: Global,
         line: &[u8],
+        said: Said,
+        ballot: &Record,
         index: u64,
         disk: &mut D,
         out: &mut K,
@@ -176,46 +186,48 @@ impl Session<Closed> {
         scratch: &mut Scratch,
         report: &mut Report,
     ) -> Result<Session, SessionFault>
+        requires said { IsSaid self.election line.now said ballot.now }
         requires medium { (set : List Ballot) × IsMediumNow
             (disk_model D.seen D.calls D.may_leave D.faults) self.election set disk.old }
         ensures ends { LineEnds (one_store (disk_model D.seen D.calls D.may_leave D.faults))
-            (told_by self.telling) self.election index self.state line.now
+            (written_of self.writing) self.election index self.state line.now
             (state_left (λ session. session.state) result)
             (around (output K.taken K.faults out.old) disk.old report.old)
             (around (output K.taken K.faults out.new) disk.new report.new) }
         ensures election { IfOk result (λ session. session.election ≡ self.election) }
-        ensures telling { IfOk result (λ session. session.telling ≡ self.telling) }
+        ensures writing { IfOk result (λ session. session.writing ≡ self.writing) }
         ensures others { report.new.others ≡ report.old.others }
         ensures begun { report.new.begun ≡ report.old.begun }
         ensures leads { D.leads_to disk.old disk.new }
         ensures fails { IsErrOf result SessionFault.DiskFault → D.fails_to disk.old disk.new }
     {
-        let play = |store: Closed, work: Work| -> Result<(Closed, Replies), Memory>
-            requires waiting { MayWait store.election (phase_of work) }
-            requires lists { AreOf store.election work }
-            requires open { ¬ (phase_of work ≡ phases.Closed) }
+        let play = |store: Closed, waiting: Waiting| -> Result<(Closed, Replies), Memory>
+            requires waiting { MayWait store.election (phase_of waiting) }
+            requires lists { AreListsOf store.election waiting }
             ensures election { IfOk result (λ played. played.0.election ≡ store.election) }
             ensures closes { IfOk result (λ played. ClosesBy (of_one_store store.election) store.ballots
-                (phase_of work) (closing (words_of played.1) played.0.ballots)) }
-        { play_phase(rt, alloc, store, work, turns) };
-        self.line_by(rt, alloc, line, index, disk, out, &play, scratch, report)
+                (phase_of waiting) (closing (words_of played.1) played.0.ballots)) }
+        { play_phase(rt, alloc, store, waiting, turns) };
+        self.line_by(
+            rt, alloc, line, said, ballot, index, disk, out, &play, scratch, report,
+        )
     }
 }
 
-/// Does what comes before the telling of a line.
+/// Does what comes before the writing of a line.
 fn prepare<S: Store, M: Disks<S>>(
     task: Task,
-    gate: &Gate<S>,
+    inner: &InnerSession<S>,
     disks: &mut M,
     scratch: &mut Scratch,
     report: &mut Report,
 ) -> Result<(), SessionFault>
-    requires media { (set : List Ballot) × AreMedia M.disks (election_of gate.now) set disks.old }
+    requires media { (set : List Ballot) × AreMedia M.disks (election_of inner.now) set disks.old }
     ensures acknowledged { OnOk result (Acknowledges M.disks
-        (election_of gate.now) (acknowledged_at task (ballots_of gate.now)) disks.old disks.new
+        (election_of inner.now) (acknowledged_at task (ballots_of inner.now)) disks.old disks.new
         report.old.marks.items report.new.marks.items) }
     ensures refused { IfErr result (λ fault. (task ≡ Task.Acknowledge) × NotAcknowledged M.disks
-        (election_of gate.now) (ballots_of gate.now) disks.old disks.new fault) }
+        (election_of inner.now) (ballots_of inner.now) disks.old disks.new fault) }
     ensures marks { OnErr result (report.new.marks.items ≡ report.old.marks.items) }
     ensures held { report.new.held ≡ report.old.held }
     ensures others { report.new.others ≡ report.old.others }
@@ -224,24 +236,24 @@ fn prepare<S: Store, M: Disks<S>>(
     ensures fails { IsErrOf result SessionFault.DiskFault → M.fails_to disks.old disks.new }
 {
     match task {
-        Task::Acknowledge => acknowledge(gate, disks, scratch, report),
+        Task::Acknowledge => acknowledge(inner, disks, scratch, report),
         _ => Ok(()),
     }
 }
 
 /// Makes the disks the media of the set, and marks how many calls were made by then. The room for the mark is taken first.
 fn acknowledge<S: Store, M: Disks<S>>(
-    gate: &Gate<S>,
+    inner: &InnerSession<S>,
     disks: &mut M,
     scratch: &mut Scratch,
     report: &mut Report,
 ) -> Result<(), SessionFault>
-    requires media { (set : List Ballot) × AreMedia M.disks (election_of gate.now) set disks.old }
+    requires media { (set : List Ballot) × AreMedia M.disks (election_of inner.now) set disks.old }
     ensures acknowledged { OnOk result (Acknowledges M.disks
-        (election_of gate.now) (ballots_of gate.now ∷ []) disks.old disks.new
+        (election_of inner.now) (ballots_of inner.now ∷ []) disks.old disks.new
         report.old.marks.items report.new.marks.items) }
     ensures refused { IfErr result (NotAcknowledged M.disks
-        (election_of gate.now) (ballots_of gate.now) disks.old disks.new) }
+        (election_of inner.now) (ballots_of inner.now) disks.old disks.new) }
     ensures marks { OnErr result (report.new.marks.items ≡ report.old.marks.items) }
     ensures held { report.new.held ≡ report.old.held }
     ensures others { report.new.others ≡ report.old.others }
@@ -252,7 +264,7 @@ fn acknowledge<S: Store, M: Disks<S>>(
     if report.marks.reserve(1).is_err() {
         return Err(SessionFault::Memory);
     }
-    if disks.acknowledge(&gate.store, scratch).is_err() {
+    if disks.acknowledge(&inner.store, scratch).is_err() {
         return Err(SessionFault::DiskFault);
     }
     report.marks.push_reserved(disks.made());

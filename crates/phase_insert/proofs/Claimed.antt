@@ -1,8 +1,7 @@
 -- What it says of a number that its seat claimed it.
 use Rattle.std.proofs.Common.{◌≡◌, ◌≢◌, ℕ, inl, inr, List, [], ◌∷◌, refl}
+use Rattle.store_spec.proofs.Common.{CastView, Claimed}
 use Rattle.phase_insert.specs.Gains.{IsNewTo}
-use Rattle.store_spec.specs.CastStep.{CastView}
-use Rattle.store_spec.specs.CastStep.CastNote.{Claimed}
 use Rattle.word_rule.specs.CastSeats.{IsToldAlike}
 
 no_more : {X : Type 0} (xs : List X) → ((xs ≢ []) → ⊥) → xs ≡ []

@@ -1,7 +1,7 @@
 -- A ballot beside those that are held.
 use Rattle.std.proofs.Common.{◌≡◌, ◌≢◌, ℕ, true, false, List, bytes_eq, get_or, Some, None, refl, sym, ap, ◌∙◌, subst}
-use Rattle.std.proofs.lemmas.Slice.Eq.{bytes_eq-Decides}
-use Rattle.std.specs.List.{Contains, slice_get}
+use Rattle.store_spec.proofs.Common.{Ballot, Contains, Election, HasNumber, IsCellOf, IsElection, IsValid, ballot_bytes, ballot_of, bytes_eq-Decides, numbers_of}
+use Rattle.std.specs.List.{slice_get}
 use Rattle.std.specs.Prelude.{◌↔◌}
 use Rattle.ballot_record.proofs.BallotLists.{number_at_place}
 use Rattle.ballot_record.proofs.BallotSets.{listing_from_set}
@@ -9,13 +9,9 @@ use Rattle.ballot_record.proofs.CellFormat.{same_ballot}
 use Rattle.ballot_record.proofs.Lookups.{found_in, found_once, missing_from}
 use Rattle.body_store.specs.Contents.{Contents, IsStored}
 use Rattle.phase_insert.specs.Gains.{IsMet}
-use Rattle.phase_insert.specs.Tray.{AnotherHas, Compares}
+use Rattle.phase_insert.specs.Tray.{AnotherHas, ComparesWithBase}
 use Rattle.phase_insert.specs.declared.reply.CastReply.{CastReply}
 use Rattle.phase_insert.specs.declared.reply.CastReply.TheVariants.{Accepted, Duplicate, Conflict, Taken, Full}
-use Rattle.store_spec.specs.Ballot.{Ballot, IsValid, ballot_of, numbers_of}
-use Rattle.store_spec.specs.BallotPhase.{HasNumber}
-use Rattle.store_spec.specs.Election.{Election, IsElection}
-use Rattle.store_spec.specs.Image.{IsCellOf, ballot_bytes}
 
 -- ---- the cell of a list and the cell of a store
 
@@ -75,7 +71,7 @@ pub holds_none : (base : List Ballot) (number : ℕ) → ballot_of base number �
 holds_none base number none h = missing_from base number none h.1 (h.0, h.2, h.3) h.4
 
 -- what the claim words answer, where no held ballot has the number
-pub compares_new : (base : List Ballot) (b : Ballot) (reply : CastReply) → IsMet reply → ballot_of base b.number ≡ None → Compares base b reply
+pub compares_new : (base : List Ballot) (b : Ballot) (reply : CastReply) → IsMet reply → ballot_of base b.number ≡ None → ComparesWithBase base b reply
 compares_new base b Accepted met none = holds_none base b.number none
 compares_new base b Duplicate met none = absurd met
 compares_new base b Conflict met none = absurd met
@@ -102,14 +98,14 @@ alone store h a b first second same =
 not_both : (store : Contents) → IsStored store → (b : Ballot) → Contains store.ballots b → AnotherHas store.ballots b → ⊥
 not_both store h b there another = (another.4).1 (alone store h another.1 b (another.0, another.2, another.3) there (another.4).0)
 
-pub duplicate_exactly : (store : Contents) → IsStored store → (b : Ballot) (reply : CastReply) → Compares store.ballots b reply → (reply ≡ Duplicate) ↔ Contains store.ballots b
+pub duplicate_exactly : (store : Contents) → IsStored store → (b : Ballot) (reply : CastReply) → ComparesWithBase store.ballots b reply → (reply ≡ Duplicate) ↔ Contains store.ballots b
 duplicate_exactly store h b Accepted none = (λ e. absurd cc, λ there. absurd (none (has_own_number store.ballots b there)))
 duplicate_exactly store h b Duplicate there = (λ e. there, λ c. refl)
 duplicate_exactly store h b Conflict another = (λ e. absurd cc, λ there. absurd (not_both store h b there another))
 duplicate_exactly store h b Taken none = (λ e. absurd cc, λ there. absurd (none (has_own_number store.ballots b there)))
 duplicate_exactly store h b Full none = (λ e. absurd cc, λ there. absurd (none (has_own_number store.ballots b there)))
 
-pub conflict_exactly : (store : Contents) → IsStored store → (b : Ballot) (reply : CastReply) → Compares store.ballots b reply → (reply ≡ Conflict) ↔ AnotherHas store.ballots b
+pub conflict_exactly : (store : Contents) → IsStored store → (b : Ballot) (reply : CastReply) → ComparesWithBase store.ballots b reply → (reply ≡ Conflict) ↔ AnotherHas store.ballots b
 conflict_exactly store h b Accepted none = (λ e. absurd cc, λ another. absurd (none (another_number store.ballots b another)))
 conflict_exactly store h b Duplicate there = (λ e. absurd cc, λ another. absurd (not_both store h b there another))
 conflict_exactly store h b Conflict another = (λ e. another, λ c. refl)

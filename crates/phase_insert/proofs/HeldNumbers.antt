@@ -1,15 +1,11 @@
 -- The numbers in the cells of a store are those of its ballots.
 use Rattle.std.proofs.Common.{◌≡◌, ℕ, ◌^◌, None, List, subst}
-use Rattle.std.specs.List.{Contains}
+use Rattle.store_spec.proofs.Common.{Contains, HasRoom, ballot_of, cell_count, home_in, numbers_in, numbers_of}
 use Rattle.ballot_record.proofs.BallotNumbers.{ballot_with}
 use Rattle.ballot_record.proofs.Lookups.{missing_from}
 use Rattle.body_store.proofs.BallotSets.{has_room, may_hold_set}
 use Rattle.body_store.specs.Contents.{Contents, IsStored}
 use Rattle.phase_insert.specs.CastPhase.{AreCastWordsOf}
-use Rattle.store_spec.specs.Ballot.{ballot_of, numbers_of}
-use Rattle.store_spec.specs.Election.{cell_count}
-use Rattle.store_spec.specs.Home.{home_in}
-use Rattle.store_spec.specs.Layout.{HasRoom, numbers_in}
 use Rattle.word_rule.proofs.Stores.{from_cells}
 use Rattle.word_rule.specs.Seats.{SharedWords}
 

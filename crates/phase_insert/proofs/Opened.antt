@@ -1,14 +1,12 @@
 -- What a phase begins with.
 use Rattle.std.proofs.Common.{◌≡◌, ℕ, ◌-◌, ◌^◌, ◌≤◌, List, length, sym, ap, ◌∙◌, subst, arith}
+use Rattle.store_spec.proofs.Common.{Election, IsOrdered, cells_of, most_cells, numbers_in}
 use Rattle.ballot_record.proofs.BallotNumbers.{length-numbers_of}
 use Rattle.body_store.proofs.BallotSets.{stored_layout}
 use Rattle.body_store.specs.Contents.{Contents, IsStored}
 use Rattle.phase_insert.proofs.HeldNumbers.{room}
 use Rattle.step_core.specs.Shape.{homes_of}
 use Rattle.step_core.specs.declared.shape.Shape.{Shape}
-use Rattle.store_spec.specs.Election.{Election, most_cells}
-use Rattle.store_spec.specs.Image.{cells_of}
-use Rattle.store_spec.specs.Layout.{IsOrdered, numbers_in}
 use Rattle.word_rule.proofs.Stores.{as_many, ordered_by}
 use Rattle.word_rule.specs.CastWords.{MayHold}
 use Rattle.word_rule.specs.Stores.{IsShapeOf}

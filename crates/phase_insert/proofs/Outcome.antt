@@ -1,11 +1,6 @@
 -- The trays of a phase with their final replies have the outcome of casting.
 use Rattle.std.proofs.Common.{◌≡◌, ◌≢◌, ℕ, suc, ◌+◌, ◌⊎◌, ⊎_elim, inl, inr, Bool, true, false, cond, Some, None, List, [], ◌∷◌, ◌++◌, length, map, filter, refl, sym, ap, ◌∙◌, subst, arith, length-append}
-use Rattle.std.proofs.lemmas.Bool.{cases_eq}
-use Rattle.std.proofs.lemmas.List.Elements.{All-contains, All-head, All-map, All-tail, All-weaker, Contains-append_cases, Contains-append_left, Contains-append_right}
-use Rattle.std.proofs.lemmas.List.Kept.{AllPairs-cons}
-use Rattle.std.proofs.lemmas.List.Sorted.{Contains-permutation, IsPermutation-sym, length_permutation}
-use Rattle.std.specs.List.{All, AllPairs, Contains, zip}
-use Rattle.std.specs.List.Sorted.{IsPermutation}
+use Rattle.store_spec.proofs.Common.{All, All-contains, All-head, All-map, All-tail, All-weaker, AllPairs, AllPairs-cons, Ballot, CastLine, CastView, Contains, Contains-append_cases, Contains-append_left, Contains-append_right, Contains-permutation, Election, HasNumber, IsBallotSet, IsPermutation, IsPermutation-sym, IsRightReply, IsWithinLimit, ballot_of, cases_eq, length_permutation, numbers_of, zip}
 use Rattle.ballot_record.proofs.BallotNumbers.{ballot_with, contains_number, length-numbers_of}
 use Rattle.ballot_record.proofs.Lookups.{found_in, missing_from, option_cases}
 use Rattle.body_store.specs.Contents.{Contents}
@@ -13,19 +8,15 @@ use Rattle.phase_insert.proofs.Rows.{from_zip}
 use Rattle.phase_insert.proofs.Trays.{listed}
 use Rattle.phase_insert.proofs.Whole.{numbers_accepted, told_by}
 use Rattle.phase_insert.specs.CastPhase.{AreCastWordsOf}
-use Rattle.phase_insert.specs.Closing.{ClosesAs, IsFinal, beside, line, reply_of}
+use Rattle.phase_insert.specs.Closing.{ClosesAs, IsFinal, reply_of, tray_line, trays_beside}
 use Rattle.phase_insert.specs.Ends.{AreAllFinals, Decides, IsAnswer, IsAnswered, TabulatorView, TellsOf, all_accepted}
 use Rattle.phase_kind.specs.Worker.{AreAll, seat_of}
-use Rattle.phase_insert.specs.Tray.{Cast, Compares, IsTold, MayPrecede, ballots_that, is_accepted, is_full, is_taken}
+use Rattle.phase_insert.specs.Tray.{Cast, ComparesWithBase, IsTrayOf, MayPrecede, ballots_that, is_accepted, is_full, is_taken}
 use Rattle.phase_insert.specs.declared.reply.CastReply.{CastReply}
 use Rattle.phase_insert.specs.declared.reply.CastReply.TheVariants as casts
 use Rattle.phase_insert.specs.declared.reply.Final.{Final}
 use Rattle.phase_insert.specs.declared.reply.Final.TheVariants as finals
-use Rattle.store_spec.specs.Ballot.{Ballot, IsBallotSet, IsWithinLimit, ballot_of, numbers_of}
 use Rattle.store_spec.specs.BallotPhase as reply
-use Rattle.store_spec.specs.BallotPhase.{BallotOutcome, CastLine, HasNumber, IsRightReply}
-use Rattle.store_spec.specs.CastStep.{CastView}
-use Rattle.store_spec.specs.Election.{Election}
 use Rattle.word_rule.proofs.Members.{all_members, contains-filter, contains-flat_map, contains-map, from_map}
 use Rattle.word_rule.specs.CastWords.{AgreeOn, accepted_by}
 use Rattle.word_rule.specs.Places.{Place}
@@ -74,46 +65,46 @@ IsFinalOf told = IsFinal told.0.reply told.1
 
 -- the lines accept the ballots that the tray accepts
 
-lines_accept : (tray : List Cast) (list : List Final) → length list ≡ length tray → All IsFinalOf (zip tray list) → map (λ l. l.ballot) (filter (λ l. reply.is_accepted l.reply) (map line (zip tray list))) ≡ ballots_that is_accepted tray
+lines_accept : (tray : List Cast) (list : List Final) → length list ≡ length tray → All IsFinalOf (zip tray list) → map (λ l. l.ballot) (filter (λ l. reply.is_accepted l.reply) (map tray_line (zip tray list))) ≡ ballots_that is_accepted tray
 lines_accept [] list same each = refl
 lines_accept (c ∷ tray) [] same each = absurd (omega arith)
 lines_accept (c ∷ tray) (f ∷ list) same each = step (is_accepted c.reply) (accepts_alike c.reply f (All-head IsFinalOf (c, f) (zip tray list) each)) (lines_accept tray list (omega arith) (All-tail IsFinalOf (c, f) (zip tray list) each))
   where
     lines : List CastLine
-    lines = filter (λ l. reply.is_accepted l.reply) (map line (zip tray list))
+    lines = filter (λ l. reply.is_accepted l.reply) (map tray_line (zip tray list))
 
     kept : List Cast
     kept = filter (λ x. is_accepted x.reply) tray
 
-    step : (b : Bool) → reply.is_accepted (reply_of f) ≡ b → map (λ l. l.ballot) lines ≡ map (λ x. x.item) kept → map (λ l. l.ballot) (cond (reply.is_accepted (reply_of f)) (line (c, f) ∷ lines) lines) ≡ map (λ x. x.item) (cond b (c ∷ kept) kept)
-    step true is rest = ap (λ (t : Bool). map (λ (l : CastLine). l.ballot) (cond t (line (c, f) ∷ lines) lines)) is ∙ ap (λ l. c.item ∷ l) rest
-    step false is rest = ap (λ (t : Bool). map (λ (l : CastLine). l.ballot) (cond t (line (c, f) ∷ lines) lines)) is ∙ rest
+    step : (b : Bool) → reply.is_accepted (reply_of f) ≡ b → map (λ l. l.ballot) lines ≡ map (λ x. x.item) kept → map (λ l. l.ballot) (cond (reply.is_accepted (reply_of f)) (tray_line (c, f) ∷ lines) lines) ≡ map (λ x. x.item) (cond b (c ∷ kept) kept)
+    step true is rest = ap (λ (t : Bool). map (λ (l : CastLine). l.ballot) (cond t (tray_line (c, f) ∷ lines) lines)) is ∙ ap (λ l. c.item ∷ l) rest
+    step false is rest = ap (λ (t : Bool). map (λ (l : CastLine). l.ballot) (cond t (tray_line (c, f) ∷ lines) lines)) is ∙ rest
 
-all_lines_accept : (trays : List (List Cast)) (lists : List (List Final)) → map length lists ≡ map length trays → All (All IsFinalOf) (beside trays lists) → reply.accepted_in (map (map line) (beside trays lists)) ≡ all_accepted trays
+all_lines_accept : (trays : List (List Cast)) (lists : List (List Final)) → map length lists ≡ map length trays → All (All IsFinalOf) (trays_beside trays lists) → reply.accepted_in (map (map tray_line) (trays_beside trays lists)) ≡ all_accepted trays
 all_lines_accept [] lists same each = refl
 all_lines_accept (tray ∷ trays) [] same each = absurd cc
 all_lines_accept (tray ∷ trays) (list ∷ lists) same each =
     let first : length list ≡ length tray = cc in
     let rest : map length lists ≡ map length trays = cc in
-    ap (λ l. l ++ reply.accepted_in (map (map line) (beside trays lists))) (lines_accept tray list first (All-head (All IsFinalOf) (zip tray list) (beside trays lists) each))
-    ∙ ap (λ l. ballots_that is_accepted tray ++ l) (all_lines_accept trays lists rest (All-tail (All IsFinalOf) (zip tray list) (beside trays lists) each))
+    ap (λ l. l ++ reply.accepted_in (map (map tray_line) (trays_beside trays lists))) (lines_accept tray list first (All-head (All IsFinalOf) (zip tray list) (trays_beside trays lists) each))
+    ∙ ap (λ l. ballots_that is_accepted tray ++ l) (all_lines_accept trays lists rest (All-tail (All IsFinalOf) (zip tray list) (trays_beside trays lists) each))
 
 -- the order of a tray is one of its lines
-precedes : (c later : Cast) (f g : Final) → IsFinal c.reply f → IsFinal later.reply g → MayPrecede c later → reply.MayBeCastBefore (line (c, f)) (line (later, g))
+precedes : (c later : Cast) (f g : Final) → IsFinal c.reply f → IsFinal later.reply g → MayPrecede c later → reply.MayBeCastBefore (tray_line (c, f)) (tray_line (later, g))
 precedes c later f g first second may accepts =
     let both = may (accepted_before later.reply g second accepts) in
     (both.0, λ full. both.1 (full_before c.reply f first full))
 
-lines_in_order : (tray : List Cast) (list : List Final) → All IsFinalOf (zip tray list) → AllPairs MayPrecede tray → AllPairs reply.MayBeCastBefore (map line (zip tray list))
+lines_in_order : (tray : List Cast) (list : List Final) → All IsFinalOf (zip tray list) → AllPairs MayPrecede tray → AllPairs reply.MayBeCastBefore (map tray_line (zip tray list))
 lines_in_order [] list each order = λ i j d less within. absurd (omega arith)
 lines_in_order (c ∷ tray) [] each order = λ i j d less within. absurd (omega arith)
 lines_in_order (c ∷ tray) (f ∷ list) each order =
     let rest = All-tail IsFinalOf (c, f) (zip tray list) each in
-    AllPairs-cons reply.MayBeCastBefore (line (c, f)) (map line (zip tray list))
-    (all_members (reply.MayBeCastBefore (line (c, f))) (map line (zip tray list)) (λ l there.
-    let told = from_map line (zip tray list) l there in
+    AllPairs-cons reply.MayBeCastBefore (tray_line (c, f)) (map tray_line (zip tray list))
+    (all_members (reply.MayBeCastBefore (tray_line (c, f))) (map tray_line (zip tray list)) (λ l there.
+    let told = from_map tray_line (zip tray list) l there in
     let later = from_zip tray list told.0 told.1 in
-    subst (reply.MayBeCastBefore (line (c, f))) told.2
+    subst (reply.MayBeCastBefore (tray_line (c, f))) told.2
     (precedes c (told.0).0 f (told.0).1 (All-head IsFinalOf (c, f) (zip tray list) each) (All-contains IsFinalOf (zip tray list) told.0 rest told.1) (first_before c tray order (told.0).0 later.0))))
     (lines_in_order tray list rest (λ i j d less within. order (suc i) (suc j) d (omega arith) (omega arith)))
   where
@@ -155,7 +146,7 @@ pub record IsRow (trays : List (List Cast)) (row : List (Cast × Final)) : Type 
   pub of : Contains trays tray
   pub is : row ≡ zip tray list
 
-pub from_row : (trays : List (List Cast)) (lists : List (List Final)) (row : List (Cast × Final)) → Contains (beside trays lists) row → IsRow trays row
+pub from_row : (trays : List (List Cast)) (lists : List (List Final)) (row : List (Cast × Final)) → Contains (trays_beside trays lists) row → IsRow trays row
 from_row trays lists row c =
     let pair = from_map (λ (both : List Cast × List Final). zip both.0 both.1) (zip trays lists) row c in
     record { tray = (pair.0).0; list = (pair.0).1; of = (from_zip trays lists pair.0 pair.1).0; is = sym pair.2 }
@@ -202,16 +193,16 @@ module _ (base : Contents) (words : SharedWords) (tabs : List TabulatorView) (al
     right : (tab : TabulatorView) → Contains tabs tab → (c : Cast) → Contains tab.tray c → (f : Final) → IsAnswered after (c, f) → IsRightReply base.election base.ballots after c.item (reply_of f)
     right tab of c there f is = by_reply c.reply refl compared is
       where
-        tells : IsTold (record { base = base; words = words }) tab.seat tab.tray
+        tells : IsTrayOf (record { base = base; words = words }) tab.seat tab.tray
         tells = told_by base words tabs all told tab of
 
-        compared : Compares base.ballots c.item c.reply
-        compared = All-contains (λ (x : Cast). Compares base.ballots x.item x.reply) tab.tray c tells.compared there
+        compared : ComparesWithBase base.ballots c.item c.reply
+        compared = All-contains (λ (x : Cast). ComparesWithBase base.ballots x.item x.reply) tab.tray c tells.compared there
 
         as_told : (r : reply.CastReply) → reply_of f ≡ r → IsRightReply base.election base.ballots after c.item r → IsRightReply base.election base.ballots after c.item (reply_of f)
         as_told r told h = subst (IsRightReply base.election base.ballots after c.item) (sym told) h
 
-        by_reply : (r : CastReply) → c.reply ≡ r → Compares base.ballots c.item r → IsAnswer after c.item r f → IsRightReply base.election base.ballots after c.item (reply_of f)
+        by_reply : (r : CastReply) → c.reply ≡ r → ComparesWithBase base.ballots c.item r → IsAnswer after c.item r f → IsRightReply base.election base.ballots after c.item (reply_of f)
         by_reply casts.Accepted same none is =
             as_told reply.CastReply.Accepted (ap reply_of is)
             (none, to_after c.item (Contains-append_right base.ballots accepted c.item (is_among tabs tab of c there (ap is_accepted same))))
@@ -235,7 +226,7 @@ module _ (base : Contents) (words : SharedWords) (tabs : List TabulatorView) (al
     pub closes_as : (lists : List (List Final)) → IsBallotSet base.election after → IsWithinLimit base.election after → AreAllFinals after (map (λ tab. tab.tray) tabs) lists → ClosesAs base (map (λ tab. tab.tray) tabs) lists after
     closes_as lists set few answered =
         let trays = map (λ (tab : TabulatorView). tab.tray) tabs in
-        let pairs = beside trays lists in
+        let pairs = trays_beside trays lists in
         let finals : All (All IsFinalOf) pairs =
         All-weaker (All (IsAnswered after)) (All IsFinalOf) (λ list each. All-weaker (IsAnswered after) IsFinalOf (λ told is. is_final after told.0.item told.0.reply told.1 is) list each) pairs answered.each in
         let Right : CastLine → Type 0 = λ l. IsRightReply base.election base.ballots after l.ballot l.reply in
@@ -246,17 +237,17 @@ module _ (base : Contents) (words : SharedWords) (tabs : List TabulatorView) (al
             gains = subst (λ (bs : List Ballot). IsPermutation (base.ballots ++ bs) after) (sym (all_lines_accept trays lists answered.as_many finals)) gains;
             set = set;
             within_limit = few;
-            replies = All-map (All Right) (map line) pairs (all_members (λ list. All Right (map line list)) pairs (λ list there.
+            replies = All-map (All Right) (map tray_line) pairs (all_members (λ list. All Right (map tray_line list)) pairs (λ list there.
                 let row = from_row trays lists list there in
                 let of_tab = from_map (λ (t : TabulatorView). t.tray) tabs row.tray row.of in
-                All-map Right line list (all_members (λ told. Right (line told)) list (λ told within.
+                All-map Right tray_line list (all_members (λ told. Right (tray_line told)) list (λ told within.
                 right of_tab.0 of_tab.1 told.0 (subst (λ (l : List Cast). Contains l told.0) (sym of_tab.2) (from_zip row.tray row.list told (subst (λ (l : List (Cast × Final)). Contains l told) row.is within)).0) told.1
                 (All-contains (IsAnswered after) list told (All-contains (All (IsAnswered after)) pairs list answered.each there) within)))));
-            in_order = All-map (AllPairs reply.MayBeCastBefore) (map line) pairs (all_members (λ list. AllPairs reply.MayBeCastBefore (map line list)) pairs (λ list there.
+            in_order = All-map (AllPairs reply.MayBeCastBefore) (map tray_line) pairs (all_members (λ list. AllPairs reply.MayBeCastBefore (map tray_line list)) pairs (λ list there.
                 let row = from_row trays lists list there in
                 let of_tab = from_map (λ (t : TabulatorView). t.tray) tabs row.tray row.of in
                 let each = All-contains (All IsFinalOf) pairs list finals there in
-                subst (λ (l : List (Cast × Final)). AllPairs reply.MayBeCastBefore (map line l)) (sym row.is)
+                subst (λ (l : List (Cast × Final)). AllPairs reply.MayBeCastBefore (map tray_line l)) (sym row.is)
                 (lines_in_order row.tray row.list (subst (All IsFinalOf) row.is each)
                 (subst (AllPairs MayPrecede) of_tab.2 (told_by base words tabs all told of_tab.0 of_tab.1).in_order))));
           };

@@ -1,14 +1,11 @@
 -- Lists side by side, row by row.
 use Rattle.std.proofs.Common.{◌≡◌, zero, suc, ◌+◌, List, [], ◌∷◌, ◌++◌, length, length-append, map, sym, ap, ◌∙◌, subst, arith}
-use Rattle.std.proofs.lemmas.List.{length-map, map_push}
-use Rattle.std.proofs.lemmas.List.Elements.{All-push}
-use Rattle.std.specs.List.{All, Contains, zip}
-use Rattle.phase_insert.specs.Closing.{beside}
+use Rattle.store_spec.proofs.Common.{All, All-push, Ballot, Contains, length-map, map_push, zip}
+use Rattle.phase_insert.specs.Closing.{trays_beside}
 use Rattle.phase_insert.specs.Ends.{AreAllFinals, AreFinals, IsAnswered}
 use Rattle.phase_insert.specs.Tray.{Cast}
 use Rattle.phase_insert.specs.declared.reply.Final.{Final}
 use Rattle.phase_kind.proofs.Trays.{zip_more}
-use Rattle.store_spec.specs.Ballot.{Ballot}
 use Rattle.word_rule.proofs.Members.{behind, first_in, not_in_none}
 
 -- a row has an element of each list
@@ -42,5 +39,5 @@ all_finals_more after trays trays_now finals finals_now tray list more more_fina
     (record {
       as_many = map_push length finals list ∙ ap (λ l. l ++ length list ∷ []) h.as_many ∙ ap (λ n. map length trays ++ n ∷ []) is.as_many ∙ sym (map_push length trays tray);
       each = subst (All (All (IsAnswered after))) (sym (ap (map pairs) (zip_more trays finals tray list as_many) ∙ map_push pairs (zip trays finals) (tray, list)))
-          (All-push (All (IsAnswered after)) (beside trays finals) (zip tray list) h.each is.each);
+          (All-push (All (IsAnswered after)) (trays_beside trays finals) (zip tray list) h.each is.each);
     }))

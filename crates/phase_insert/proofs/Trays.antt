@@ -1,21 +1,14 @@
 -- A tray with one ballot more, and the lists of its seat.
 use Rattle.std.proofs.Common.{◌≡◌, ◌≢◌, ℕ, ⊎_elim, Bool, true, List, [], ◌∷◌, ◌++◌, arith, get_or, length, map, refl, sym, ap, ◌∙◌, subst}
-use Rattle.std.proofs.lemmas.List.{append-nil, map-append}
-use Rattle.std.proofs.lemmas.List.Elements.{All-head, All-push, All-tail, Contains-get_or, filter-append}
-use Rattle.std.proofs.lemmas.List.Quantifiers.{all_pairs_push}
-use Rattle.std.specs.List.{All, Contains, filter}
+use Rattle.store_spec.proofs.Common.{All, All-head, All-push, All-tail, Ballot, CastView, Contains, Contains-get_or, HasNumber, IsValid, Rest, all_pairs_push, append-nil, filter, filter-append, map-append}
 use Rattle.phase_insert.proofs.Casts.{cast_of}
 use Rattle.phase_insert.proofs.Compared.{another_number, has_own_number}
-use Rattle.phase_kind.specs.Phase.{Phase}
-use Rattle.phase_kind.specs.Told.{told_in}
+use Rattle.phase_kind.specs.Phase.{OpenPhase}
+use Rattle.phase_kind.specs.AnsweredItem.{answered_items}
 use Rattle.phase_insert.specs.Gains.{Gains, IsNewTo}
-use Rattle.phase_insert.specs.Tray.{Cast, Compares, IsTold, MayPrecede, is_accepted, is_full, is_taken, ballots_that, numbers_that}
+use Rattle.phase_insert.specs.Tray.{Cast, ComparesWithBase, IsTrayOf, MayPrecede, is_accepted, is_full, is_taken, ballots_that, numbers_that}
 use Rattle.phase_insert.specs.declared.reply.CastReply.{CastReply}
 use Rattle.phase_insert.specs.declared.reply.CastReply.TheVariants.{Accepted, Duplicate, Conflict, Taken, Full}
-use Rattle.store_spec.specs.Ballot.{Ballot, IsValid}
-use Rattle.store_spec.specs.BallotPhase.{HasNumber}
-use Rattle.store_spec.specs.CastStep.{CastView}
-use Rattle.store_spec.specs.CastStep.CastState.{Rest}
 use Rattle.word_rule.proofs.Members.{contains-filter, contains-map, not_in_none}
 
 -- ---- the numbers of a tray
@@ -45,12 +38,12 @@ one_other cast other = by_reply cast.reply other
 
 -- where all were accepted, these are all ballots
 pub all_kept : (ballots : List Ballot) (replies : List CastReply) → length ballots ≡ length replies → All (λ reply. reply ≡ Accepted) replies
-    → ballots_that is_accepted (told_in ballots replies) ≡ ballots
+    → ballots_that is_accepted (answered_items ballots replies) ≡ ballots
 all_kept [] [] same all = refl
 all_kept [] (reply ∷ replies) same all = absurd (omega (arith, same))
 all_kept (b ∷ ballots) [] same all = absurd (omega (arith, same))
 all_kept (b ∷ ballots) (reply ∷ replies) same all =
-    ap (λ reply. ballots_that is_accepted (cast_of b reply ∷ told_in ballots replies)) (All-head (λ reply. reply ≡ Accepted) reply replies all)
+    ap (λ reply. ballots_that is_accepted (cast_of b reply ∷ answered_items ballots replies)) (All-head (λ reply. reply ≡ Accepted) reply replies all)
     ∙ ap (λ l. b ∷ l) (all_kept ballots replies (omega (arith, same)) (All-tail (λ reply. reply ≡ Accepted) reply replies all))
 
 -- a ballot adds its number, or nothing
@@ -121,21 +114,21 @@ not_held : (base : List Ballot) (a b : ℕ) → ¬ HasNumber base b → HasNumbe
 not_held base a b none there same = none (subst (HasNumber base) same there)
 
 -- what is accepted now was not answered before
-module _ (phase : Phase) (old : CastView) (tray : List Cast) (b : Ballot) (lists : AreLists phase.words.shape.claims old tray) (new : IsNewTo phase.words.shape.claims old b.number) (none : ¬ HasNumber phase.base.ballots b.number) where
+module _ (phase : OpenPhase) (old : CastView) (tray : List Cast) (b : Ballot) (lists : AreLists phase.words.shape.claims old tray) (new : IsNewTo phase.words.shape.claims old b.number) (none : ¬ HasNumber phase.base.ballots b.number) where
   other_than : (p : CastReply → Bool) (list : List ℕ) → numbers_that p tray ≡ list → ¬ Contains list b.number → (c : Cast) → Contains tray c → p c.reply ≡ true → c.item.number ≢ b.number
   other_than p list is without c there passes same = without (subst (λ (l : List ℕ). Contains l b.number) is (subst (Contains (numbers_that p tray)) same (listed p tray c there passes)))
 
-  precedes : (c : Cast) → Contains tray c → Compares phase.base.ballots c.item c.reply → (c.item.number ≢ b.number) × (c.reply ≢ Full)
+  precedes : (c : Cast) → Contains tray c → ComparesWithBase phase.base.ballots c.item c.reply → (c.item.number ≢ b.number) × (c.reply ≢ Full)
   precedes c there compares = by_reply c.reply refl
     where
       by_reply : (reply : CastReply) → c.reply ≡ reply → (c.item.number ≢ b.number) × (c.reply ≢ Full)
       by_reply Accepted is = (other_than is_accepted old.accepted lists.accepted new.not_accepted c there (ap is_accepted is), λ full. let e : Accepted ≡ Full = sym is ∙ full in cc)
       by_reply Duplicate is = (
-        not_held phase.base.ballots c.item.number b.number none (has_own_number phase.base.ballots c.item (subst (Compares phase.base.ballots c.item) is compares)),
+        not_held phase.base.ballots c.item.number b.number none (has_own_number phase.base.ballots c.item (subst (ComparesWithBase phase.base.ballots c.item) is compares)),
         λ full. let e : Duplicate ≡ Full = sym is ∙ full in cc,
       )
       by_reply Conflict is = (
-        not_held phase.base.ballots c.item.number b.number none (another_number phase.base.ballots c.item (subst (Compares phase.base.ballots c.item) is compares)),
+        not_held phase.base.ballots c.item.number b.number none (another_number phase.base.ballots c.item (subst (ComparesWithBase phase.base.ballots c.item) is compares)),
         λ full. let e : Conflict ≡ Full = sym is ∙ full in cc,
       )
       by_reply Taken is = (other_than is_taken old.taken lists.taken new.not_taken c there (ap is_taken is), λ full. let e : Taken ≡ Full = sym is ∙ full in cc)
@@ -143,14 +136,14 @@ module _ (phase : Phase) (old : CastView) (tray : List Cast) (b : Ballot) (lists
 
 -- ---- one ballot more
 
-pub told_more : (phase : Phase) (old now : CastView) (tray : List Cast) (b : Ballot) (reply : CastReply) → IsTold phase old tray → IsValid phase.base.election b → Compares phase.base.ballots b reply → Gains phase.words.shape.claims old b.number reply now
-    → (reply ≡ Accepted → IsNewTo phase.words.shape.claims old b.number) → IsTold phase now (tray ++ cast_of b reply ∷ [])
+pub told_more : (phase : OpenPhase) (old now : CastView) (tray : List Cast) (b : Ballot) (reply : CastReply) → IsTrayOf phase old tray → IsValid phase.base.election b → ComparesWithBase phase.base.ballots b reply → Gains phase.words.shape.claims old b.number reply now
+    → (reply ≡ Accepted → IsNewTo phase.words.shape.claims old b.number) → IsTrayOf phase now (tray ++ cast_of b reply ∷ [])
 told_more phase old now tray b reply told valid compares gains new =
     let claims = phase.words.shape.claims in
     let c = cast_of b reply in
     let before : AreLists claims old tray = record { accepted = told.accepted; taken = told.taken; full = told.full } in
     let lists = lists_more claims old now tray b reply before gains in
-    let Right : Cast → Type 0 = λ x. Compares phase.base.ballots x.item x.reply in
+    let Right : Cast → Type 0 = λ x. ComparesWithBase phase.base.ballots x.item x.reply in
     record {
       at_rest = rests_more claims b.number old now reply told.at_rest gains;
       accepted = lists.accepted;
@@ -159,6 +152,6 @@ told_more phase old now tray b reply told valid compares gains new =
       valid = All-push (λ (x : Cast). IsValid phase.base.election x.item) tray c told.valid valid;
       compared = All-push Right tray c told.compared compares;
       in_order = all_pairs_push MayPrecede tray c told.in_order (λ k d within accepts.
-          precedes phase old tray b before (new accepts) (subst (Compares phase.base.ballots b) accepts compares)
+          precedes phase old tray b before (new accepts) (subst (ComparesWithBase phase.base.ballots b) accepts compares)
           (get_or tray k d) (Contains-get_or tray k d within) (told.compared k d within));
     }

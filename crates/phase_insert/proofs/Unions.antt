@@ -1,17 +1,10 @@
 -- The set after a phase whose ballots go together.
 use Rattle.std.proofs.Common.{◌≡◌, ◌≢◌, ⊎_elim, List, ◌∷◌, ◌++◌, length, map, filter, sym, ◌∙◌, subst, arith}
-use Rattle.std.proofs.lemmas.List.Elements.{All-contains, Contains-append_cases, Contains-append_left, Contains-append_right}
-use Rattle.std.proofs.lemmas.List.Kept.{AllPairs-cons}
-use Rattle.std.proofs.lemmas.List.Sorted.{Contains-permutation, IsPermutation-sym}
-use Rattle.std.specs.List.{All, AllPairs, Contains, flat_map}
+use Rattle.store_spec.proofs.Common.{Accepted, All, All-contains, AllPairs, AllPairs-cons, Ballot, BallotOutcome, CastLine, CastReply, Conflict, Contains, Contains-append_cases, Contains-append_left, Contains-append_right, Contains-permutation, Duplicate, Election, Full, HasNumber, IsPermutation-sym, IsRightReply, accepted_in, flat_map, is_accepted, numbers_of}
 use Rattle.std.specs.Prelude.{◌↔◌}
 use Rattle.ballot_record.proofs.BallotNumbers.{ballot_with, contains_number, length-numbers_of, pairs_of_numbers}
 use Rattle.ballot_record.proofs.BallotSets.{listing_from_set, same_members}
 use Rattle.phase_insert.specs.Union.{GoTogether, all_ballots}
-use Rattle.store_spec.specs.Ballot.{Ballot, numbers_of}
-use Rattle.store_spec.specs.BallotPhase.{BallotOutcome, CastLine, CastReply, HasNumber, IsRightReply, accepted_in, is_accepted}
-use Rattle.store_spec.specs.BallotPhase.CastReply.{Accepted, Duplicate, Conflict, Full}
-use Rattle.store_spec.specs.Election.{Election}
 use Rattle.word_rule.proofs.Members.{all_members, contains-flat_map, first_or_later, from_filter, from_flat_map, from_map, contains-map}
 
 abbrev ballots_in : List (List CastLine) → List Ballot

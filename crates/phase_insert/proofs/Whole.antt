@@ -1,29 +1,16 @@
 -- All tabulators of a phase at its end: what they accepted, and that it may join the store.
 use Rattle.std.proofs.Common.{◌≡◌, ◌≢◌, ℕ, ⊎_elim, List, [], ◌∷◌, ◌++◌, length, map, filter, refl, sym, ap, ◌∙◌, subst, arith, length-append}
-use Rattle.std.proofs.lemmas.Bool.{cases_eq}
-use Rattle.std.proofs.lemmas.List.{length-map, map-append}
-use Rattle.std.proofs.lemmas.List.Elements.{All-append, All-contains, All-head, All-map, All-tail}
-use Rattle.std.proofs.lemmas.List.Sums.{sum_by-append}
-use Rattle.std.proofs.lemmas.Simd.{map-map}
-use Rattle.std.specs.List.{All, AllPairs, Contains}
+use Rattle.store_spec.proofs.Common.{All, All-append, All-contains, All-head, All-map, All-tail, AllPairs, Ballot, CastView, Contains, EachOnce, Election, IsListing, IsValid, IsWithinLimit, Rest, cases_eq, cell_count, cells_of, count_of, home_in, layout_of, length-map, map-append, map-map, numbers_in, numbers_of, sum_by-append}
 use Rattle.ballot_record.proofs.BallotNumbers.{length-numbers_of, pairs_of_ballots, pairs_of_numbers}
 use Rattle.ballot_record.proofs.BallotSets.{listing_from_set}
 use Rattle.body_store.specs.Contents.{Contents, IsStored}
 use Rattle.phase_insert.proofs.HeldNumbers.{room}
 use Rattle.phase_insert.specs.CastPhase.{AreCastWordsOf}
-use Rattle.phase_kind.specs.Phase.{Phase}
+use Rattle.phase_kind.specs.Phase.{OpenPhase}
 use Rattle.phase_insert.specs.Ends.{TabulatorView, TellsOf, all_accepted}
 use Rattle.phase_kind.specs.Worker.{AreAll, seat_of}
-use Rattle.phase_insert.specs.Tray.{Cast, IsTold, ballots_that, is_accepted, numbers_that}
+use Rattle.phase_insert.specs.Tray.{Cast, IsTrayOf, ballots_that, is_accepted, numbers_that}
 use Rattle.step_core.proofs.Sets.{distinct_once, is_one, none_counted, once_distinct, stands_counted}
-use Rattle.store_spec.specs.Ballot.{Ballot, IsListing, IsValid, IsWithinLimit, numbers_of}
-use Rattle.store_spec.specs.CastInvariant.{EachOnce, count_of}
-use Rattle.store_spec.specs.CastStep.{CastView}
-use Rattle.store_spec.specs.CastStep.CastState.{Rest}
-use Rattle.store_spec.specs.Election.{Election, cell_count}
-use Rattle.store_spec.specs.Home.{home_in}
-use Rattle.store_spec.specs.Image.{cells_of}
-use Rattle.store_spec.specs.Layout.{layout_of, numbers_in}
 use Rattle.word_rule.proofs.Members.{all_members, from_filter, from_flat_map, from_map}
 use Rattle.word_rule.proofs.Stores.{in_cells, laid_out_with}
 use Rattle.word_rule.specs.CastSeats.{IsAtRest}
@@ -85,20 +72,20 @@ pub record MayJoin (e : Election) (held more : List Ballot) (cells : List ℕ) :
 -- ---- the tabulators of a phase
 
 module _ (base : Contents) (words : SharedWords) (tabs : List TabulatorView) (all : AreAll (record { base = base; words = words }) tabs) where
-  abbrev phase : Phase
+  abbrev phase : OpenPhase
   phase = record { base = base; words = words }
 
   pub whole : All TellsOf tabs → AreWhole IsAtRest words (map seat_of tabs)
   whole told = record {
     count = length-map tabs seat_of ∙ all.all;
-    belong = All-map (λ (s : Place CastView). s.words ≡ words) seat_of tabs (λ k d within. ap (λ (p : Phase). p.words) (all.belong k d within));
+    belong = All-map (λ (s : Place CastView). s.words ≡ words) seat_of tabs (λ k d within. ap (λ (p : OpenPhase). p.words) (all.belong k d within));
     such = All-map (λ (s : Place CastView). s.view.state ≡ Rest) seat_of tabs (λ k d within. (told k d within).at_rest);
   }
 
   -- what a tray tells, in terms of the phase
-  pub told_by : All TellsOf tabs → (tab : TabulatorView) → Contains tabs tab → IsTold phase tab.seat tab.tray
+  pub told_by : All TellsOf tabs → (tab : TabulatorView) → Contains tabs tab → IsTrayOf phase tab.seat tab.tray
   told_by told tab there =
-      subst (λ (p : Phase). IsTold p tab.seat tab.tray) (All-contains (λ (t : TabulatorView). t.phase ≡ phase) tabs tab all.belong there)
+      subst (λ (p : OpenPhase). IsTrayOf p tab.seat tab.tray) (All-contains (λ (t : TabulatorView). t.phase ≡ phase) tabs tab all.belong there)
       (All-contains TellsOf tabs tab told there)
 
   -- ---- what joins the store

@@ -25,14 +25,14 @@ IsFinal casts.Taken final = (final ≡ finals.Duplicate) ⊎ (final ≡ finals.C
 IsFinal casts.Full final = final ≡ finals.Full
 
 -- trays beside the final replies to their ballots
-abbrev pub beside : List (List Cast) → List (List Final) → List (List (Cast × Final))
-beside trays finals = map (λ lists. zip lists.0 lists.1) (zip trays finals)
+abbrev pub trays_beside : List (List Cast) → List (List Final) → List (List (Cast × Final))
+trays_beside trays finals = map (λ lists. zip lists.0 lists.1) (zip trays finals)
 
-abbrev pub line : Cast × Final → CastLine
-line told = record { ballot = told.0.item; reply = reply_of told.1 }
+abbrev pub tray_line : Cast × Final → CastLine
+tray_line told = record { ballot = told.0.item; reply = reply_of told.1 }
 
 -- Each ballot of each tray has a final reply, and with these replies the ballots have the outcome of a casting phase.
 pub record ClosesAs (base : Contents) (trays : List (List Cast)) (finals : List (List Final)) (after : List Ballot) : Type 0 where
   pub as_many : map length finals ≡ map length trays
-  pub final : All (All (λ told. IsFinal told.0.reply told.1)) (beside trays finals)
-  pub outcome : BallotOutcome base.election base.ballots (map (map line) (beside trays finals)) after
+  pub final : All (All (λ told. IsFinal told.0.reply told.1)) (trays_beside trays finals)
+  pub outcome : BallotOutcome base.election base.ballots (map (map tray_line) (trays_beside trays finals)) after

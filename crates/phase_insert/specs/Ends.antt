@@ -1,7 +1,7 @@
 -- What the parts of a close hand on.
 use Rattle.std.specs.Prelude.{◌≡◌, ◌≢◌, List, length, map, flat_map, zip, All, Some}
-use Rattle.phase_insert.specs.Closing.{beside}
-use Rattle.phase_insert.specs.Tray.{Cast, IsTold, ballots_that, is_accepted}
+use Rattle.phase_insert.specs.Closing.{trays_beside}
+use Rattle.phase_insert.specs.Tray.{Cast, IsTrayOf, ballots_that, is_accepted}
 use Rattle.phase_insert.specs.declared.reply.CastReply.{CastReply}
 use Rattle.phase_insert.specs.declared.reply.CastReply.TheVariants as casts
 use Rattle.phase_insert.specs.declared.reply.Final.{Final}
@@ -16,7 +16,7 @@ TabulatorView = WorkerView CastView Ballot CastReply
 
 -- its tray tells the lists of its seat
 abbrev pub TellsOf : TabulatorView → Type 0
-TellsOf tab = IsTold tab.phase tab.seat tab.tray
+TellsOf tab = IsTrayOf tab.phase tab.seat tab.tray
 
 -- the ballots that trays accepted
 abbrev pub all_accepted : List (List Cast) → List Ballot
@@ -47,4 +47,4 @@ pub record AreFinals (after : List Ballot) (tray : List Cast) (finals : List Fin
 -- the same of all trays
 pub record AreAllFinals (after : List Ballot) (trays : List (List Cast)) (finals : List (List Final)) : Type 0 where
   pub as_many : map length finals ≡ map length trays
-  pub each : All (All (IsAnswered after)) (beside trays finals)
+  pub each : All (All (IsAnswered after)) (trays_beside trays finals)

@@ -3,8 +3,8 @@ use Rattle.std.specs.Prelude.{◌≡◌, ◌≢◌, ℕ, Bool, true, false, List
 use Rattle.ballot_record.specs.BallotList.{ListedBallots}
 use Rattle.phase_insert.specs.declared.reply.CastReply.{CastReply}
 use Rattle.phase_insert.specs.declared.reply.CastReply.TheVariants.{Accepted, Duplicate, Conflict, Taken, Full}
-use Rattle.phase_kind.specs.Phase.{Phase}
-use Rattle.phase_kind.specs.Told.{Told, told_in}
+use Rattle.phase_kind.specs.Phase.{OpenPhase}
+use Rattle.phase_kind.specs.AnsweredItem.{AnsweredItem, answered_items}
 use Rattle.phase_kind.specs.declared.tray.Tray.{Tray}
 use Rattle.store_spec.specs.Ballot.{Ballot, IsValid}
 use Rattle.store_spec.specs.BallotPhase.{HasNumber}
@@ -13,30 +13,30 @@ use Rattle.store_spec.specs.CastStep.CastState.{Rest}
 
 -- a ballot that was cast, and what it was answered
 abbrev pub Cast : Type 0
-Cast = Told Ballot CastReply
+Cast = AnsweredItem Ballot CastReply
 
 -- the tray of a tabulator as the program has it
 abbrev pub CastTray : Type 0
 CastTray = Tray ListedBallots CastReply
 
 abbrev pub casts_of : CastTray → List Cast
-casts_of tray = told_in tray.items.ballots tray.replies.items
+casts_of tray = answered_items tray.items.ballots tray.replies.items
 
 -- a ballot at each place where a reply is
-abbrev pub IsPaired : CastTray → Type 0
-IsPaired tray = length tray.items.ballots ≡ length tray.replies.items
+abbrev pub IsTrayPaired : CastTray → Type 0
+IsTrayPaired tray = length tray.items.ballots ≡ length tray.replies.items
 
 -- another ballot has its number
 abbrev pub AnotherHas : List Ballot → Ballot → Type 0
 AnotherHas ballots b = Any (λ other. (other.number ≡ b.number) × (other ≢ b)) ballots
 
 -- what a reply says of its ballot and of those held at the opening
-abbrev pub Compares : List Ballot → Ballot → CastReply → Type 0
-Compares base b Accepted = ¬ HasNumber base b.number
-Compares base b Duplicate = Contains base b
-Compares base b Conflict = AnotherHas base b
-Compares base b Taken = ¬ HasNumber base b.number
-Compares base b Full = ¬ HasNumber base b.number
+abbrev pub ComparesWithBase : List Ballot → Ballot → CastReply → Type 0
+ComparesWithBase base b Accepted = ¬ HasNumber base b.number
+ComparesWithBase base b Duplicate = Contains base b
+ComparesWithBase base b Conflict = AnotherHas base b
+ComparesWithBase base b Taken = ¬ HasNumber base b.number
+ComparesWithBase base b Full = ¬ HasNumber base b.number
 
 abbrev pub is_accepted : CastReply → Bool
 is_accepted Accepted = true
@@ -77,11 +77,11 @@ MayPrecede earlier later = later.reply ≡ Accepted → (earlier.item.number ≢
 
 -- The seat is at rest, its lists are what the tray tells, and each reply is right. Where there are no claim words, the seat
 -- meets none that are full.
-pub record IsTold (phase : Phase) (view : CastView) (tray : List Cast) : Type 0 where
+pub record IsTrayOf (phase : OpenPhase) (view : CastView) (tray : List Cast) : Type 0 where
   pub at_rest : view.state ≡ Rest
   pub accepted : numbers_that is_accepted tray ≡ view.accepted
   pub taken : numbers_that is_taken tray ≡ view.taken
   pub full : phase.words.shape.claims ≢ 0 → numbers_that is_full tray ≡ view.full
   pub valid : All (λ c. IsValid phase.base.election c.item) tray
-  pub compared : All (λ c. Compares phase.base.ballots c.item c.reply) tray
+  pub compared : All (λ c. ComparesWithBase phase.base.ballots c.item c.reply) tray
   pub in_order : AllPairs MayPrecede tray

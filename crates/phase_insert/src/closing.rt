@@ -2,7 +2,7 @@
 
 ghost use Rattle.body_store.specs.Contents.{IsStored};
 ghost use Rattle.phase_insert.specs.Ends.{AreAllFinals, AreFinals, Decides, IsAnswer, all_accepted};
-ghost use Rattle.phase_insert.specs.Tray.{Cast, IsAllAccepted, IsPaired, ballots_that, casts_of, is_accepted};
+ghost use Rattle.phase_insert.specs.Tray.{Cast, IsAllAccepted, IsTrayPaired, ballots_that, casts_of, is_accepted};
 ghost use Rattle.std.specs.Prelude.{◌≡◌, ◌^◌, ◌<◌, ◌≤◌, ◌++◌, [], ◌∷◌, false, true, All, IfOk, IsPermutation, OnErr, OnOk, Some, flat_map, length, map, slice_get, vec_capacity};
 ghost use Rattle.store_spec.specs.Ballot.{Ballot, IsListing, IsWithinLimit};
 ghost use Rattle.store_spec.specs.Image.{cells_of};
@@ -13,19 +13,21 @@ use ballot_record::{BallotList, Election, MAX_LIMIT};
 use body_store::Closed;
 use outside_io::Memory;
 use std::alloc::Global;
+use std::slice::from_ref;
 
 /// Adds to a store the ballots of trays that were accepted, and tells the final replies, for which there is room. Where all
-/// were accepted, one list takes in those of the trays, each of which is let go then; else what was accepted is copied.
-/// `cells` is the layout of all. After `Memory` the store is as it was.
-pub fn settle(
+/// were accepted, the store takes them from the lists of the trays; else what was accepted is copied. `cells` is the layout
+/// of all. After `Memory` the store is as it was.
+pub fn add_accepted(
     alloc: Global,
     closed: &mut Closed,
     trays: Vec<CastTray>,
     cells: Vec<u64>,
     finals: &mut [Vec<Final>],
 ) -> Result<(), Memory>
+    requires stored { IsStored closed.old }
     requires elections { All (λ tray. tray.items.election ≡ closed.old.election) trays.items }
-    requires paired { All IsPaired trays.items }
+    requires paired { All IsTrayPaired trays.items }
     requires listing { IsListing closed.old.election
         (closed.old.ballots ++ all_accepted (map casts_of trays.items)) }
     requires within_limit { IsWithinLimit closed.old.election
@@ -45,11 +47,11 @@ pub fn settle(
 {
     if are_all_accepted(&trays) {
         all_finals(closed, &trays, finals);
-        let joined = joined(alloc, closed.election(), trays)?;
-        return closed.merge(alloc, &joined, cells);
+        let lists = lists_of(alloc, trays)?;
+        return closed.merge(alloc, &lists, cells);
     }
     let accepted = accepted(alloc, closed.election(), &trays)?;
-    closed.merge(alloc, &accepted, cells)?;
+    closed.merge(alloc, from_ref(&accepted), cells)?;
     all_finals(closed, &trays, finals);
     Ok(())
 }
@@ -88,39 +90,21 @@ fn was_not_accepted(reply: CastReply) -> bool
     }
 }
 
-/// The ballots of trays, tray by tray, in the list of the first of them that has any.
-fn joined(alloc: Global, election: &Election, trays: Vec<CastTray>) -> Result<BallotList, Memory>
-    requires elections { All (λ tray. tray.items.election ≡ election.now) trays.items }
-    ensures election { IfOk result (λ joined. joined.election ≡ election.now) }
-    ensures joined { IfOk result
-        (λ joined. joined.ballots ≡ flat_map (λ tray. tray.items.ballots) trays.items) }
+/// The lists of trays.
+fn lists_of(alloc: Global, trays: Vec<CastTray>) -> Result<Vec<BallotList>, Memory>
+    ensures { IfOk result (λ lists. lists.items ≡ map (λ tray. tray.items) trays.items) }
 {
-    let mut joined = BallotList::new(alloc, election);
+    let mut lists = Vec::with_capacity(alloc, trays.len())?;
     for tray in trays {
-        joined = join(joined, tray.items)?;
+        lists.push(tray.items)?;
     }
-    Ok(joined)
-}
-
-/// The ballots of two lists, in the first of them that has any.
-fn join(mut first: BallotList, second: BallotList) -> Result<BallotList, Memory>
-    requires { second.election ≡ first.election }
-    ensures election { IfOk result (λ both. both.election ≡ first.election) }
-    ensures both { IfOk result (λ both. both.ballots ≡ first.ballots ++ second.ballots) }
-{
-    if first.len() == 0 {
-        return Ok(second);
-    }
-    for place in 0..second.len() {
-        first.push_from(&second, place)?;
-    }
-    Ok(first)
+    Ok(lists)
 }
 
 /// The ballots that were accepted, tray by tray.
 fn accepted(alloc: Global, election: &Election, trays: &[CastTray]) -> Result<BallotList, Memory>
     requires elections { All (λ tray. tray.items.election ≡ election.now) trays.now }
-    requires paired { All IsPaired trays.now }
+    requires paired { All IsTrayPaired trays.now }
     ensures election { IfOk result (λ accepted. accepted.election ≡ election.now) }
     ensures accepted { IfOk result
         (λ accepted. accepted.ballots ≡ all_accepted (map casts_of trays.now)) }
@@ -150,7 +134,7 @@ fn accepted_in(trays: &[CastTray]) -> usize
 /// Appends the ballots of a tray that were accepted.
 fn push_accepted(accepted: &mut BallotList, tray: &CastTray) -> Result<(), Memory>
     requires election { tray.now.items.election ≡ accepted.old.election }
-    requires paired { IsPaired tray.now }
+    requires paired { IsTrayPaired tray.now }
     ensures election { IfOk result (λ _. accepted.new.election ≡ accepted.old.election) }
     ensures pushed { IfOk result (λ _. accepted.new.ballots
         ≡ accepted.old.ballots ++ ballots_that is_accepted (casts_of tray.now)) }
@@ -164,7 +148,7 @@ fn push_accepted(accepted: &mut BallotList, tray: &CastTray) -> Result<(), Memor
 /// Appends the ballot at a place of a tray, if it was accepted.
 fn push_if_accepted(accepted: &mut BallotList, tray: &CastTray, place: usize) -> Result<(), Memory>
     requires election { tray.now.items.election ≡ accepted.old.election }
-    requires paired { IsPaired tray.now }
+    requires paired { IsTrayPaired tray.now }
     requires within { place < length tray.now.replies.items }
     ensures election { IfOk result (λ _. accepted.new.election ≡ accepted.old.election) }
     ensures pushed { IfOk result (λ _. (cast : Cast)
@@ -195,7 +179,7 @@ pub fn room_for_finals(alloc: Global, trays: &[CastTray]) -> Result<Vec<Vec<Fina
 /// Tells the final replies to the ballots of all trays, for which there is room.
 fn all_finals(after: &Closed, trays: &[CastTray], lists: &mut [Vec<Final>])
     requires elections { All (λ tray. tray.items.election ≡ after.now.election) trays.now }
-    requires paired { All IsPaired trays.now }
+    requires paired { All IsTrayPaired trays.now }
     requires empty { All (λ list. list.items ≡ []) lists.old }
     requires room { map (λ list. vec_capacity list) lists.old
         ≡ map (λ tray. length tray.replies.items) trays.now }
@@ -210,7 +194,7 @@ fn all_finals(after: &Closed, trays: &[CastTray], lists: &mut [Vec<Final>])
 /// Tells the final replies to the ballots of a tray.
 fn tray_finals(after: &Closed, tray: &CastTray, finals: &mut Vec<Final>)
     requires election { tray.now.items.election ≡ after.now.election }
-    requires paired { IsPaired tray.now }
+    requires paired { IsTrayPaired tray.now }
     requires empty { finals.old.items ≡ [] }
     requires room { length tray.now.replies.items ≤ vec_capacity finals.old }
     ensures { AreFinals after.now.ballots (casts_of tray.now) finals.new.items }

@@ -1,7 +1,15 @@
 //! Casting as a kind of phase: its workers are tabulators, which cast ballots.
 
+ghost use Rattle.phase_insert.specs.CastPhase.{claims_left};
+ghost use Rattle.std.specs.Prelude.{◌≡◌, ◌≤◌, IfOk};
+ghost use Rattle.store_spec.specs.CastStep.{fresh_cast_view};
+ghost use Rattle.store_spec.specs.Election.{most_cells};
+ghost use Rattle.store_spec.specs.Image.{cells_of};
+ghost use Rattle.word_rule.specs.Places.{AreAll, AreMadeOf};
+ghost use Rattle.word_rule.specs.Stores.{IsShapeOf};
+
 use crate::claiming::claim;
-use crate::closing::{room_for_finals, settle};
+use crate::closing::{add_accepted, room_for_finals};
 use crate::{CastReply, Final};
 use ballot_record::BallotList;
 use body_store::Closed;
@@ -44,8 +52,8 @@ impl Model for CastBallot {
 impl Kind for Casting {
     ghost use Rattle.std.specs.Prelude.{◌≡◌, All, IfOk, OnErr, OnOk, map};
     ghost use Rattle.body_store.specs.Contents.{IsStored};
-    ghost use Rattle.phase_insert.specs.Tray.{IsPaired, IsTold, casts_of};
-    ghost use Rattle.phase_kind.specs.Phase.{AreOf};
+    ghost use Rattle.phase_insert.specs.Tray.{IsTrayOf, IsTrayPaired, casts_of};
+    ghost use Rattle.phase_kind.specs.Phase.{AreWordsOfStore};
     ghost use Rattle.phase_kind.specs.Worker.{AreLeft};
     ghost use Rattle.store_spec.specs.CastStep.{fresh_cast_view};
     ghost use Rattle.word_rule.specs.CastSeats.{IsAtRest};
@@ -87,7 +95,7 @@ impl Kind for Casting {
 
     ghost answers = { IsReply };
 
-    ghost tells = { IsTold };
+    ghost tells = { IsTrayOf };
 
     ghost closes = { ClosesAs };
 
@@ -117,8 +125,7 @@ impl Kind for Casting {
         shape: Shape,
         seats: usize,
     ) -> Result<(CastWords, Vec<CastSeat>), Memory> {
-        let (words, seats) = CastWords::new(alloc, shape, closed.cells(), seats)?;
-        Ok((words, seats))
+        begin_words(alloc, closed, shape, seats)
     }
 
     fn peek(words: &CastWords, cell: usize) -> u64 {
@@ -150,11 +157,11 @@ impl Kind for Casting {
         trays: Vec<CastTray>,
     ) -> Result<Vec<Vec<Final>>, Memory>
         requires stored { IsStored closed.old }
-        requires own { AreOf claims_left closed.old words }
-        requires left { AreLeft IsTold (record { base = closed.old; words = words })
+        requires own { AreWordsOfStore claims_left closed.old words }
+        requires left { AreLeft IsTrayOf (record { base = closed.old; words = words })
             (map (λ seat. seat) seats.items) (map casts_of trays.items) }
         requires is_of { All (λ tray. tray.items.election ≡ closed.old.election) trays.items }
-        requires paired { All IsPaired trays.items }
+        requires paired { All IsTrayPaired trays.items }
         ensures election { OnOk result (closed.new.election ≡ closed.old.election) }
         ensures stored { OnOk result (IsStored closed.new) }
         ensures closes { IfOk result (λ finals. ClosesAs closed.old (map casts_of trays.items)
@@ -163,9 +170,31 @@ impl Kind for Casting {
     {
         let cells = words.close(alloc, seats)?;
         let mut finals = room_for_finals(alloc, &trays)?;
-        settle(alloc, closed, trays, cells, &mut finals)?;
+        add_accepted(alloc, closed, trays, cells, &mut finals)?;
         Ok(finals)
     }
 
     fn trays_tell() {}
+}
+
+/// The words of a phase over a store. Where it has zeros for all claim words behind its cells, these are not copied.
+fn begin_words(
+    alloc: Global,
+    closed: &Closed,
+    shape: Shape,
+    seats: usize,
+) -> Result<(CastWords, Vec<CastSeat>), Memory>
+    requires some_seat { 1 ≤ seats }
+    requires shape { IsShapeOf closed.now.election shape }
+    requires few_cells { shape.cells ≤ most_cells }
+    requires claims { claims_left closed.now shape.claims }
+    ensures words { IfOk result
+        (λ made. AreMadeOf shape (cells_of closed.now.election closed.now.ballots) seats made.0) }
+    ensures seats { IfOk result (λ made. AreAll fresh_cast_view made.0 made.1.items) }
+{
+    let words = closed.words();
+    if words.len() == shape.cells + shape.claims {
+        return CastWords::of_words(alloc, shape, words, seats);
+    }
+    CastWords::new(alloc, shape, closed.cells(), seats)
 }

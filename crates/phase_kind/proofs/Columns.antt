@@ -1,9 +1,7 @@
 -- A table that is turned round row by row.
 use Rattle.std.proofs.Common.{◌≡◌, ◌+◌, ◌<◌, ◌++◌, ◌∙◌, ℕ, zero, suc, All, List, [], ◌∷◌, Some, ap, ap₂, arith, get_or, length, map, refl, slice_get, slice_set, sym, take}
-use Rattle.std.proofs.lemmas.List.{get_or-map, length-map, length-take-le, map-set, map_push, take_more}
+use Rattle.store_spec.proofs.Common.{All-map, get_or-map, get_or_from_slice_get, length-map, length-take-le, map-set, map_push, none-some, same_Some, slice_get_within, take_more}
 use Rattle.std.proofs.lemmas.List.FromFn.{get_or-enumerate_from, length-enumerate_from}
-use Rattle.std.proofs.lemmas.Option.{get_or_from_slice_get, none-some, same_Some, slice_get_within}
-use Rattle.std.proofs.lemmas.List.Elements.{All-map}
 use Rattle.std.specs.List.{enumerate_from}
 use Rattle.phase_kind.specs.Table.{IsTurned, grown}
 

@@ -1,15 +1,11 @@
 -- The items of a list that go to a place, item by item.
 use Rattle.std.proofs.Common.{⊎_elim, ◌≡◌, ◌≢◌, ◌+◌, ◌≤◌, ◌<◌, ◌++◌, ◌∙◌, ℕ, zero, suc, Bool, true, false, List, [], ◌∷◌, Some, ap, append-nil, arith, cond, drop, get_or, length, length-append, map, refl, replicate, slice_get, slice_set, subst, sym, take, zip}
-use Rattle.std.proofs.lemmas.Bool.{cases_eq}
+use Rattle.store_spec.proofs.Common.{cases_eq, filter, filter-append, get_or-replicate, get_or-set_other, get_or-set_same, get_or_default, get_or_from_slice_get, length-replicate, length-set, length-take-le, map-append, same_Some, slice_get-get_or, slice_get-map, slice_get_within, take-append-drop, take_all, take_more}
 use Rattle.std.proofs.lemmas.Bool.Decides.{eqb_tells}
-use Rattle.std.proofs.lemmas.List.{get_or-replicate, get_or_default, get_or-set_other, get_or-set_same, length-replicate, length-set, length-take-le, map-append, take-append-drop, take_all, take_more}
-use Rattle.std.proofs.lemmas.List.Elements.{filter-append}
-use Rattle.std.proofs.lemmas.Option.{get_or_from_slice_get, same_Some, slice_get-get_or, slice_get-map, slice_get_within}
 use Rattle.std.specs.Option.{option_map}
-use Rattle.std.specs.List.{filter}
 use Rattle.std.specs.Prelude.{◌==◌}
 use Rattle.phase_kind.proofs.Trays.{take_next, zip_more}
-use Rattle.phase_kind.specs.Team.{AreByPlace, AreInOrder, AreShares, GoesWithin, replies_to, those_of}
+use Rattle.phase_kind.specs.Team.{AreByPlace, AreInListOrder, AreShares, GoesWithin, replies_to, those_of}
 
 pub same_test : (a b : ℕ) → a ≡ b → (a == b) ≡ true
 same_test a b same = ⊎_elim (λ h. h.0) (λ h. absurd (h.1 same)) (eqb_tells a b)
@@ -157,7 +153,7 @@ module _ {I : Type 0} (goes_to : I → ℕ) where
           (cases_eq (goes_to x) place);
     }
 
-    pub all_merged : (list : List I) (rows : List (List X)) (index : ℕ) (told : List X) → AreMerged list rows index told → AreByPlace goes_to list rows → index ≡ length list → AreInOrder goes_to list rows told
+    pub all_merged : (list : List I) (rows : List (List X)) (index : ℕ) (told : List X) → AreMerged list rows index told → AreByPlace goes_to list rows → index ≡ length list → AreInListOrder goes_to list rows told
     all_merged list rows index told merged by_place all =
         let whole : take index list ≡ list = take_all index list (omega (arith, all)) in
         record {

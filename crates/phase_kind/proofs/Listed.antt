@@ -1,12 +1,9 @@
 -- What workers have answered, item by item.
 use Rattle.std.proofs.Common.{◌≡◌, ◌<◌, ◌++◌, ◌∙◌, [], ◌∷◌, ℕ, ◌-◌, All, List, ap, append-nil, append_assoc, arith, drop, get_or, length, map, refl, subst, sym}
-use Rattle.std.proofs.lemmas.List.{get_or_default, map_push}
-use Rattle.std.proofs.lemmas.List.Elements.{All-head, All-tail}
-use Rattle.std.proofs.lemmas.Slice.Zip.{get_or-zip, length-zip}
-use Rattle.std.specs.List.{zip}
+use Rattle.store_spec.proofs.Common.{All-head, All-tail, get_or-zip, get_or_default, length-zip, map_push, zip}
 use Rattle.phase_kind.proofs.Trays.{none_told, told_of}
-use Rattle.phase_kind.specs.Phase.{Phase}
-use Rattle.phase_kind.specs.Told.{Told, told_in}
+use Rattle.phase_kind.specs.Phase.{OpenPhase}
+use Rattle.phase_kind.specs.AnsweredItem.{AnsweredItem, answered_items}
 use Rattle.phase_kind.specs.Worker.{HasFinished, WorkerView, worker_with}
 
 -- nothing is left
@@ -15,16 +12,16 @@ none_left [] none = refl
 none_left (x ∷ xs) none = absurd (omega arith)
 
 -- a new worker with its list
-pub begun_with : {V I R : Type 0} (fresh view : V) (phase given : Phase) (items list : List I) (replies : List R) (places : ℕ) → given ≡ phase → view ≡ fresh → items ≡ list → replies ≡ [] → places ≡ length list
-    → record { phase = given; seat = view; room = places - length items; tray = told_in items replies; waiting = drop (length replies) items } ≡ worker_with fresh phase list
+pub begun_with : {V I R : Type 0} (fresh view : V) (phase given : OpenPhase) (items list : List I) (replies : List R) (places : ℕ) → given ≡ phase → view ≡ fresh → items ≡ list → replies ≡ [] → places ≡ length list
+    → record { phase = given; seat = view; room = places - length items; tray = answered_items items replies; waiting = drop (length replies) items } ≡ worker_with fresh phase list
 begun_with {V} {I} {R} fresh view phase given items list replies places phase_is view_is items_are replies_are places_are =
-    let made : Phase → V → ℕ → List (Told I R) → List I → WorkerView V I R = λ p v n t w. record { phase = p; seat = v; room = n; tray = t; waiting = w } in
+    let made : OpenPhase → V → ℕ → List (AnsweredItem I R) → List I → WorkerView V I R = λ p v n t w. record { phase = p; seat = v; room = n; tray = t; waiting = w } in
     let room : places - length items ≡ 0 = omega (arith, places_are, ap length items_are) in
-    let tray : told_in items replies ≡ [] = ap (told_in items) replies_are ∙ none_told items in
+    let tray : answered_items items replies ≡ [] = ap (answered_items items) replies_are ∙ none_told items in
     let waiting : drop (length replies) items ≡ list = ap (λ (r : List R). drop (length r) items) replies_are ∙ items_are in
-    ap (λ p. made p view (places - length items) (told_in items replies) (drop (length replies) items)) phase_is
-    ∙ ap (λ v. made phase v (places - length items) (told_in items replies) (drop (length replies) items)) view_is
-    ∙ ap (λ n. made phase fresh n (told_in items replies) (drop (length replies) items)) room
+    ap (λ p. made p view (places - length items) (answered_items items replies) (drop (length replies) items)) phase_is
+    ∙ ap (λ v. made phase v (places - length items) (answered_items items replies) (drop (length replies) items)) view_is
+    ∙ ap (λ n. made phase fresh n (answered_items items replies) (drop (length replies) items)) room
     ∙ ap (λ t. made phase fresh 0 t (drop (length replies) items)) tray
     ∙ ap (made phase fresh 0 []) waiting
 
@@ -34,7 +31,7 @@ module _ {V I R : Type 0} (rests : V → Type 0) where
     pub phase : now.phase ≡ before.phase
     pub at_rest : rests now.seat
     pub room : now.room ≡ before.room
-    pub told : List (Told I R)
+    pub told : List (AnsweredItem I R)
     pub tray : now.tray ≡ before.tray ++ told
     pub items : before.waiting ≡ map (λ t. t.item) told ++ now.waiting
 
@@ -52,7 +49,7 @@ module _ {V I R : Type 0} (rests : V → Type 0) where
   pub gone_on : (before worker now : WorkerView V I R) (item : I) (reply : R) → IsUnderWay before worker → now.phase ≡ worker.phase → rests now.seat → now.room ≡ worker.room → worker.waiting ≡ item ∷ now.waiting → now.tray ≡ worker.tray ++ told_of item reply ∷ []
       → IsUnderWay before now
   gone_on before worker now item reply h phase at_rest room waits is =
-      let items = map (λ (t : Told I R). t.item) h.told in
+      let items = map (λ (t : AnsweredItem I R). t.item) h.told in
       record {
         phase = phase ∙ h.phase;
         at_rest = at_rest;
@@ -62,14 +59,14 @@ module _ {V I R : Type 0} (rests : V → Type 0) where
         items =
             h.items
             ∙ ap (λ l. items ++ l) waits
-            ∙ sym (ap (λ l. l ++ now.waiting) (map_push (λ (t : Told I R). t.item) h.told (told_of item reply)) ∙ append_assoc items (item ∷ []) now.waiting);
+            ∙ sym (ap (λ l. l ++ now.waiting) (map_push (λ (t : AnsweredItem I R). t.item) h.told (told_of item reply)) ∙ append_assoc items (item ∷ []) now.waiting);
       }
 
   -- none is left
   pub all_answered : (before now : WorkerView V I R) → IsUnderWay before now → length now.waiting ≡ 0 → HasFinished rests before now
   all_answered before now h none =
       let idle = none_left now.waiting none in
-      let items = map (λ (t : Told I R). t.item) h.told in
+      let items = map (λ (t : AnsweredItem I R). t.item) h.told in
       record {
         phase = h.phase;
         at_rest = h.at_rest;
@@ -81,7 +78,7 @@ module _ {V I R : Type 0} (rests : V → Type 0) where
       }
 
   -- the items of the trays are the lists with which the workers began
-  pub trays_are_lists : (fresh : V) (phase : Phase) (lists : List (List I)) (after : List (WorkerView V I R)) → length after ≡ length lists
+  pub trays_are_lists : (fresh : V) (phase : OpenPhase) (lists : List (List I)) (after : List (WorkerView V I R)) → length after ≡ length lists
       → All (λ at. HasFinished rests at.0 at.1) (zip (map (worker_with fresh phase) lists) after) → map (λ worker. map (λ t. t.item) worker.tray) after ≡ lists
   trays_are_lists fresh phase [] [] same each = refl
   trays_are_lists fresh phase [] (worker ∷ after) same each = absurd (omega arith)
@@ -90,7 +87,7 @@ module _ {V I R : Type 0} (rests : V → Type 0) where
       let Finished : WorkerView V I R × WorkerView V I R → Type 0 = λ at. HasFinished rests at.0 at.1 in
       let rest = zip (map (worker_with {V = V} {I = I} {R = R} fresh phase) lists) after in
       let first : HasFinished rests (worker_with fresh phase list) worker = All-head Finished (worker_with fresh phase list, worker) rest each in
-      ap (λ x. x ∷ map (λ (w : WorkerView V I R). map (λ (t : Told I R). t.item) w.tray) after) (ap (map (λ (t : Told I R). t.item)) first.tray ∙ first.items)
+      ap (λ x. x ∷ map (λ (w : WorkerView V I R). map (λ (t : AnsweredItem I R). t.item) w.tray) after) (ap (map (λ (t : AnsweredItem I R). t.item)) first.tray ∙ first.items)
       ∙ ap (λ l. list ∷ l) (trays_are_lists fresh phase lists after (omega (arith, same)) (All-tail Finished (worker_with fresh phase list, worker) rest each))
 
 -- what holds of each worker before and after holds of all such pairs

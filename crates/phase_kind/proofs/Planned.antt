@@ -1,10 +1,8 @@
 -- Teams of workers that began with the shares of their lists, and what is left of them for each phase.
 use Rattle.std.proofs.Common.{◌≡◌, ◌∙◌, ℕ, zero, suc, All, List, [], ◌∷◌, Option, Some, None, ap, ap₂, arith, get_or, length, map, refl, slice_get, subst, sym, zip}
-use Rattle.std.proofs.lemmas.List.{length-map}
-use Rattle.std.proofs.lemmas.Option.{get_or_from_slice_get, none-some, same_Some, slice_get-get_or, slice_get-map, slice_get_within}
-use Rattle.std.proofs.lemmas.Slice.Zip.{length-zip}
+use Rattle.store_spec.proofs.Common.{get_or_from_slice_get, length-map, length-zip, none-some, same_Some, slice_get-get_or, slice_get-map, slice_get_within}
 use Rattle.std.specs.Option.{option_map}
-use Rattle.phase_kind.specs.Phase.{Phase}
+use Rattle.phase_kind.specs.Phase.{OpenPhase}
 use Rattle.phase_kind.specs.Table.{IsTurned}
 use Rattle.phase_kind.specs.Team.{IsTeam}
 use Rattle.phase_kind.specs.Worker.{AreAll, WorkerView, worker_with}
@@ -68,25 +66,25 @@ column_at {X} places rows columns place row entries column x turned there at her
 
 module _ {V I R : Type 0} (fresh : V) where
   -- new workers of several phases, each with its list
-  abbrev pub new_rows : List Phase → List (List (List I)) → List (List (WorkerView V I R))
+  abbrev pub new_rows : List OpenPhase → List (List (List I)) → List (List (WorkerView V I R))
   new_rows phases lists = map (λ at. map (worker_with {V = V} {I = I} {R = R} fresh at.0) at.1) (zip phases lists)
 
-  new_at : (phases : List Phase) (lists : List (List (List I))) (place at : ℕ) (row : List (WorkerView V I R)) (worker : WorkerView V I R) → slice_get (new_rows phases lists) place ≡ Some row → slice_get row at ≡ Some worker
-      → (phase : Phase) × (list : List I) × (given : List (List I)) × (slice_get phases place ≡ Some phase) × (slice_get lists place ≡ Some given) × (slice_get given at ≡ Some list) × (worker ≡ worker_with fresh phase list)
+  new_at : (phases : List OpenPhase) (lists : List (List (List I))) (place at : ℕ) (row : List (WorkerView V I R)) (worker : WorkerView V I R) → slice_get (new_rows phases lists) place ≡ Some row → slice_get row at ≡ Some worker
+      → (phase : OpenPhase) × (list : List I) × (given : List (List I)) × (slice_get phases place ≡ Some phase) × (slice_get lists place ≡ Some given) × (slice_get given at ≡ Some list) × (worker ≡ worker_with fresh phase list)
   new_at phases lists place at row worker there here =
-      let of_row = mapped_at (λ (at : Phase × List (List I)). map (worker_with {V = V} {I = I} {R = R} fresh at.0) at.1) (zip phases lists) place row there in
+      let of_row = mapped_at (λ (at : OpenPhase × List (List I)). map (worker_with {V = V} {I = I} {R = R} fresh at.0) at.1) (zip phases lists) place row there in
       let both = of_row.0 in
       let parts = zipped_at phases lists place both of_row.1 in
       let in_row = mapped_at (worker_with {V = V} {I = I} {R = R} fresh both.0) both.1 at worker (sym (ap (λ (l : List (WorkerView V I R)). slice_get l at) of_row.2) ∙ here) in
       (both.0, in_row.0, both.1, parts.0, parts.1, in_row.1, in_row.2)
 
   -- turned round they are teams
-  pub new_teams : (phases : List Phase) (lists : List (List (List I))) (workers : ℕ) (teams : List (List (WorkerView V I R))) → length lists ≡ length phases → IsTurned workers (new_rows phases lists) teams → All (IsTeam phases) teams
+  pub new_teams : (phases : List OpenPhase) (lists : List (List (List I))) (workers : ℕ) (teams : List (List (WorkerView V I R))) → length lists ≡ length phases → IsTurned workers (new_rows phases lists) teams → All (IsTeam phases) teams
   new_teams phases lists workers teams same turned w d within =
       let team = get_or teams w d in
       let there = slice_get-get_or teams w d within in
       let many = length-column workers (new_rows phases lists) teams w team turned there in
-      let rows = length-map (zip phases lists) (λ (at : Phase × List (List I)). map (worker_with {V = V} {I = I} {R = R} fresh at.0) at.1) in
+      let rows = length-map (zip phases lists) (λ (at : OpenPhase × List (List I)). map (worker_with {V = V} {I = I} {R = R} fresh at.0) at.1) in
       same_at_each (map (λ (worker : WorkerView V I R). worker.phase) team) phases
       (omega (arith, length-map team (λ (worker : WorkerView V I R). worker.phase), many, rows, length-zip phases lists, same))
       (λ place phase other is other_is.
@@ -97,9 +95,9 @@ module _ {V I R : Type 0} (fresh : V) where
 
   -- Where the lists of the phases are those of the teams, turned round, a worker is new, with the list that its team has at
   -- its place.
-  pub new_in_team : (phases : List Phase) (lists shared : List (List (List I))) (workers places : ℕ) (teams : List (List (WorkerView V I R))) (w place : ℕ) (team : List (WorkerView V I R)) (worker : WorkerView V I R)
+  pub new_in_team : (phases : List OpenPhase) (lists shared : List (List (List I))) (workers places : ℕ) (teams : List (List (WorkerView V I R))) (w place : ℕ) (team : List (WorkerView V I R)) (worker : WorkerView V I R)
       → IsTurned workers (new_rows phases lists) teams → IsTurned places shared lists → slice_get teams w ≡ Some team → slice_get team place ≡ Some worker
-      → (phase : Phase) × (list : List I) × (given : List (List I)) × (slice_get shared w ≡ Some given) × (slice_get given place ≡ Some list) × (worker ≡ worker_with fresh phase list)
+      → (phase : OpenPhase) × (list : List I) × (given : List (List I)) × (slice_get shared w ≡ Some given) × (slice_get given place ≡ Some list) × (worker ≡ worker_with fresh phase list)
   new_in_team phases lists shared workers places teams w place team worker turned planned there at =
       let row = row_at workers (new_rows phases lists) teams w place team worker turned there at in
       let new = new_at phases lists place w row.0 worker row.1 row.2 in
@@ -108,7 +106,7 @@ module _ {V I R : Type 0} (fresh : V) where
 
 module _ {V I R : Type 0} where
   -- the workers of one phase, once teams are turned round
-  pub column_belongs : (phases : List Phase) (places : ℕ) (teams columns : List (List (WorkerView V I R))) (place : ℕ) (phase : Phase) (column : List (WorkerView V I R))
+  pub column_belongs : (phases : List OpenPhase) (places : ℕ) (teams columns : List (List (WorkerView V I R))) (place : ℕ) (phase : OpenPhase) (column : List (WorkerView V I R))
       → All (IsTeam phases) teams → All (All (λ worker. worker.waiting ≡ [])) teams → IsTurned places teams columns → slice_get phases place ≡ Some phase → slice_get columns place ≡ Some column → length teams ≡ phase.words.seats → AreAll phase column
   column_belongs phases places teams columns place phase column belong idle turned of there seats = record {
     all = length-column places teams columns place column turned there ∙ seats;

@@ -1,8 +1,6 @@
 -- Items that join those that wait, of one worker and of all.
 use Rattle.std.proofs.Common.{⊎_elim, ◌≡◌, ◌≢◌, ◌+◌, ◌≤◌, ◌<◌, ◌++◌, ◌∙◌, ℕ, [], ◌∷◌, All, List, Some, ap, append-nil, append_assoc, arith, get_or, length, length-append, refl, slice_get, slice_set, subst, sym, take, zip}
-use Rattle.std.proofs.lemmas.Bool.{cases_eq}
-use Rattle.std.proofs.lemmas.List.{get_or-set_other, get_or-set_same, get_or_default, length-set}
-use Rattle.std.proofs.lemmas.Slice.Zip.{get_or-zip, length-zip}
+use Rattle.store_spec.proofs.Common.{cases_eq, get_or-set_other, get_or-set_same, get_or-zip, get_or_default, length-set, length-zip}
 use Rattle.phase_kind.proofs.Trays.{take_next}
 use Rattle.phase_kind.specs.Worker.{HasAnswered, HasFinished, HasQueued, WorkerView}
 use Rattle.word_rule.proofs.AtPlaces.{at_one_place}

@@ -1,17 +1,13 @@
 -- A list that is shared out by an order, item by item.
 use Rattle.std.proofs.Common.{⊎_elim, ◌≡◌, ◌≢◌, ◌+◌, ◌≤◌, ◌<◌, ◌++◌, ◌∙◌, ℕ, zero, suc, Bool, true, false, All, List, [], ◌∷◌, Some, ap, append-nil, arith, cond, get_or, length, length-append, map, refl, slice_get, slice_set, subst, sym, take, zip}
-use Rattle.std.proofs.lemmas.Bool.{cases_eq}
-use Rattle.std.proofs.lemmas.List.{length-map, length-set, length-take-le, map-append}
-use Rattle.std.proofs.lemmas.List.Elements.{All-map, filter-append}
-use Rattle.std.proofs.lemmas.Option.{none-some, same_Some, slice_get-get_or, slice_get_within}
-use Rattle.std.specs.List.{filter}
+use Rattle.store_spec.proofs.Common.{All-map, cases_eq, filter, filter-append, length-map, length-set, length-take-le, map-append, none-some, same_Some, slice_get-get_or, slice_get_within}
 use Rattle.std.specs.Prelude.{◌==◌}
 use Rattle.phase_kind.proofs.Counts.{fewer_there, other_test, same_test}
 use Rattle.phase_kind.proofs.Planned.{holds_at, mapped_at, zipped_at, zipped_there}
 use Rattle.phase_kind.proofs.Taken.{seam}
 use Rattle.phase_kind.proofs.Teams.{elsewhere, set_there}
 use Rattle.phase_kind.proofs.Trays.{take_next, zip_none, zip_onto}
-use Rattle.phase_kind.specs.Team.{AreFilled, AreNew, AreSharedOut, GoesWithin, replies_to, those_of}
+use Rattle.phase_kind.specs.Team.{AreEmptyLists, AreFilled, AreSharedOut, GoesWithin, replies_to, those_of}
 
 module _ {I : Type 0} where
   abbrev sent : ℕ → List ℕ → List I → List I
@@ -67,8 +63,8 @@ in_front (z ∷ xs) x y zero other there = there
 in_front (z ∷ xs) x y (suc place) other there = in_front xs x y place (λ e. other (ap (λ n. suc n) e)) there
 
 -- one new list more
-pub one_new : {C I L : Type 0} (is_of : C → L → Type 0) (items : L → List I) (room : L → ℕ) (stores : List C) (shares : List ℕ) (lists : List L) (list : L) (store : C) (share : ℕ) → AreNew is_of items room stores shares lists → slice_get stores (length lists) ≡ Some store → slice_get shares (length lists) ≡ Some share
-    → is_of store list → items list ≡ [] → room list ≡ share → AreNew is_of items room stores shares (lists ++ list ∷ [])
+pub one_new : {C I L : Type 0} (is_of : C → L → Type 0) (items : L → List I) (room : L → ℕ) (stores : List C) (shares : List ℕ) (lists : List L) (list : L) (store : C) (share : ℕ) → AreEmptyLists is_of items room stores shares lists → slice_get stores (length lists) ≡ Some store → slice_get shares (length lists) ≡ Some share
+    → is_of store list → items list ≡ [] → room list ≡ share → AreEmptyLists is_of items room stores shares (lists ++ list ∷ [])
 one_new {C} {I} {L} is_of items room stores shares lists list store share new its_store its_share of empty has_room place s n l at_s at_n at_l =
     ⊎_elim
     (λ (same : place ≡ length lists).

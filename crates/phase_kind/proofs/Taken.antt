@@ -1,6 +1,6 @@
 -- Loops that take from two lists at once.
 use Rattle.std.proofs.Common.{◌≡◌, ◌++◌, ◌∙◌, List, [], ◌∷◌, Some, ap, append-nil, append_assoc, arith, length, length-append, refl, slice_get, sym, zip}
-use Rattle.std.proofs.lemmas.List.{nil_from_length}
+use Rattle.store_spec.proofs.Common.{nil_from_length}
 use Rattle.phase_kind.proofs.Planned.{zipped_there}
 
 -- a loop over two lists at once: what it has taken of each, and what is left

@@ -1,13 +1,10 @@
 -- What a team has done, entry by entry of its order.
 use Rattle.std.proofs.Common.{⊎_elim, ◌≡◌, ◌≢◌, ◌+◌, ◌≤◌, ◌<◌, ◌++◌, ◌∙◌, ℕ, zero, suc, All, List, [], ◌∷◌, Some, ap, arith, get_or, length, length-append, refl, slice_get, slice_set, subst, sym, take}
-use Rattle.std.proofs.Math.Seq.{map-set_same}
-use Rattle.std.proofs.lemmas.Bool.{cases_eq}
-use Rattle.std.proofs.lemmas.List.{get_or-map, get_or-set_other, get_or-set_same, length-map, length-set, take_all}
-use Rattle.std.proofs.lemmas.Option.{get_or_from_slice_get, none-some, same_Some, slice_get-get_or, slice_get_within}
+use Rattle.store_spec.proofs.Common.{cases_eq, get_or-map, get_or-set_other, get_or-set_same, get_or_from_slice_get, length-map, length-set, map-set_same, none-some, same_Some, slice_get-get_or, slice_get_within, take_all}
 use Rattle.phase_kind.proofs.Counts.{fewer_there, next_elsewhere, next_there, something_there}
 use Rattle.phase_kind.proofs.Listed.{IsUnderWay, all_answered, gone_on, not_begun}
 use Rattle.phase_kind.proofs.Trays.{told_of}
-use Rattle.phase_kind.specs.Phase.{Phase}
+use Rattle.phase_kind.specs.Phase.{OpenPhase}
 use Rattle.phase_kind.specs.Team.{AreNamed, HaveFinished, IsTeam, those_of}
 use Rattle.phase_kind.specs.Worker.{HasFinished, WorkerView}
 
@@ -25,16 +22,16 @@ set_there xs at place x y same within there =
 
 module _ {V I R : Type 0} where
   -- a worker belongs to the phase at its place
-  pub belongs_at : (phases : List Phase) (team : List (WorkerView V I R)) (place : ℕ) (worker : WorkerView V I R) (phase : Phase) → IsTeam phases team → place < length team → (get_or team place worker).phase ≡ get_or phases place phase
+  pub belongs_at : (phases : List OpenPhase) (team : List (WorkerView V I R)) (place : ℕ) (worker : WorkerView V I R) (phase : OpenPhase) → IsTeam phases team → place < length team → (get_or team place worker).phase ≡ get_or phases place phase
   belongs_at phases team place worker phase is within =
       sym (get_or-map (λ (w : WorkerView V I R). w.phase) team place worker phase within) ∙ ap (λ l. get_or l place phase) is
 
   -- there are as many phases
-  pub as_many_phases : (phases : List Phase) (team : List (WorkerView V I R)) → IsTeam phases team → length phases ≡ length team
+  pub as_many_phases : (phases : List OpenPhase) (team : List (WorkerView V I R)) → IsTeam phases team → length phases ≡ length team
   as_many_phases phases team is = sym (ap length is) ∙ length-map team (λ (w : WorkerView V I R). w.phase)
 
   -- a team stays one
-  pub still_team : (phases : List Phase) (team : List (WorkerView V I R)) (place : ℕ) (worker now : WorkerView V I R) → IsTeam phases team → now.phase ≡ (get_or team place worker).phase → IsTeam phases (slice_set team place now)
+  pub still_team : (phases : List OpenPhase) (team : List (WorkerView V I R)) (place : ℕ) (worker now : WorkerView V I R) → IsTeam phases team → now.phase ≡ (get_or team place worker).phase → IsTeam phases (slice_set team place now)
   still_team phases team place worker now is same = map-set_same (λ (w : WorkerView V I R). w.phase) team place now worker same ∙ is
 
 module _ {V I R : Type 0} (rests : V → Type 0) where

@@ -1,12 +1,10 @@
 -- Items beside their replies.
 use Rattle.std.proofs.Common.{◌≡◌, zero, suc, ◌+◌, ◌<◌, ◌≤◌, List, [], ◌∷◌, ◌++◌, Some, append-nil, drop, get_or, length, map, take, refl, sym, ap, ap₂, ◌∙◌, subst, arith, ℕ}
-use Rattle.std.proofs.lemmas.List.{drop_all, length-drop, length-map, map_push, take_more}
-use Rattle.std.proofs.lemmas.List.Elements.{All-cons, All-head, All-nil, All-tail}
-use Rattle.std.proofs.lemmas.Option.{get_or_from_slice_get, none-some, same_Some, slice_get-map, slice_get_within}
-use Rattle.std.specs.List.{All, slice_get, zip}
+use Rattle.store_spec.proofs.Common.{All, All-cons, All-head, All-nil, All-tail, drop_all, get_or_from_slice_get, length-drop, length-map, map_push, none-some, same_Some, slice_get-map, slice_get_within, take_more, zip}
+use Rattle.std.specs.List.{slice_get}
 use Rattle.std.specs.Option.{option_map}
-use Rattle.phase_kind.specs.Phase.{Phase}
-use Rattle.phase_kind.specs.Told.{Told, told_in}
+use Rattle.phase_kind.specs.Phase.{OpenPhase}
+use Rattle.phase_kind.specs.AnsweredItem.{AnsweredItem, answered_items}
 
 -- ---- two lists side by side
 
@@ -53,24 +51,24 @@ take_next xs place x there = take_more xs place x (slice_get_within xs place x t
 -- ---- trays
 
 module _ {I R : Type 0} where
-  abbrev pub told_of : I → R → Told I R
+  abbrev pub told_of : I → R → AnsweredItem I R
   told_of item reply = record { item = item; reply = reply }
 
-  abbrev paired : I × R → Told I R
+  abbrev paired : I × R → AnsweredItem I R
   paired row = told_of row.0 row.1
 
   -- nothing is told where there is no reply
-  pub none_told : (items : List I) → told_in {R = R} items [] ≡ []
+  pub none_told : (items : List I) → answered_items {R = R} items [] ≡ []
   none_told items = ap (map paired) (zip_none items)
 
   -- the items that have replies, and those behind them
-  pub items_told : (items : List I) (replies : List R) → length replies ≤ length items → items ≡ map (λ t. t.item) (told_in items replies) ++ drop (length replies) items
+  pub items_told : (items : List I) (replies : List R) → length replies ≤ length items → items ≡ map (λ t. t.item) (answered_items items replies) ++ drop (length replies) items
   items_told [] [] few = refl
   items_told [] (r ∷ replies) few = absurd (omega arith)
   items_told (x ∷ items) [] few = refl
   items_told (x ∷ items) (r ∷ replies) few = ap (λ l. x ∷ l) (items_told items replies (omega arith))
 
-  pub replies_told : (items : List I) (replies : List R) → length replies ≤ length items → map (λ t. t.reply) (told_in items replies) ≡ replies
+  pub replies_told : (items : List I) (replies : List R) → length replies ≤ length items → map (λ t. t.reply) (answered_items items replies) ≡ replies
   replies_told [] [] few = refl
   replies_told [] (r ∷ replies) few = absurd (omega arith)
   replies_told (x ∷ items) [] few = refl
@@ -81,7 +79,7 @@ module _ {I R : Type 0} where
   none_waits items replies few none = omega (arith, few, ap length none, length-drop (length replies) items)
 
   -- what tells of a tray does so whatever waits
-  pub still_told : (items more : List I) (replies : List R) → length replies ≤ length items → told_in (items ++ more) replies ≡ told_in items replies
+  pub still_told : (items more : List I) (replies : List R) → length replies ≤ length items → answered_items (items ++ more) replies ≡ answered_items items replies
   still_told [] more [] few = none_told more
   still_told [] more (r ∷ replies) few = absurd (omega arith)
   still_told (x ∷ items) more [] few = refl
@@ -95,7 +93,7 @@ module _ {I R : Type 0} where
   first_there (x ∷ items) (r ∷ replies) some = first_there items replies some
 
   -- it is answered
-  pub first_told : (items : List I) (replies : List R) (item : I) (reply : R) → slice_get items (length replies) ≡ Some item → told_in items (replies ++ reply ∷ []) ≡ told_in items replies ++ told_of item reply ∷ []
+  pub first_told : (items : List I) (replies : List R) (item : I) (reply : R) → slice_get items (length replies) ≡ Some item → answered_items items (replies ++ reply ∷ []) ≡ answered_items items replies ++ told_of item reply ∷ []
   first_told items replies item reply there = ap (map paired) (zip_onto items replies item reply there) ∙ map_push paired (zip items replies) (item, reply)
 
   pub first_waits : (items : List I) (replies : List R) (item : I) (reply : R) → slice_get items (length replies) ≡ Some item → drop (length replies) items ≡ item ∷ drop (length (replies ++ reply ∷ [])) items
@@ -103,43 +101,43 @@ module _ {I R : Type 0} where
   first_waits (x ∷ items) [] item reply there = ap (λ y. y ∷ items) (same_Some x item there)
   first_waits (x ∷ items) (r ∷ replies) item reply there = first_waits items replies item reply there
 
-  pub length-told : (items : List I) (replies : List R) → length items ≡ length replies → length (told_in items replies) ≡ length replies
-  length-told items replies same = sym (length-map (told_in items replies) (λ (t : Told I R). t.reply)) ∙ ap length (replies_told items replies (omega arith))
+  pub length-told : (items : List I) (replies : List R) → length items ≡ length replies → length (answered_items items replies) ≡ length replies
+  length-told items replies same = sym (length-map (answered_items items replies) (λ (t : AnsweredItem I R). t.reply)) ∙ ap length (replies_told items replies (omega arith))
 
   -- an item and its reply stand at one place
-  pub told_parts : (items : List I) (replies : List R) (place : ℕ) (told : Told I R) → length items ≡ length replies → slice_get (told_in items replies) place ≡ Some told → (slice_get items place ≡ Some told.item) × (slice_get replies place ≡ Some told.reply)
+  pub told_parts : (items : List I) (replies : List R) (place : ℕ) (told : AnsweredItem I R) → length items ≡ length replies → slice_get (answered_items items replies) place ≡ Some told → (slice_get items place ≡ Some told.item) × (slice_get replies place ≡ Some told.reply)
   told_parts items replies place told same there =
-      let rows = told_in items replies in
-      let whole : map (λ (t : Told I R). t.item) rows ≡ items =
-      sym (items_told items replies (omega arith) ∙ ap (λ l. map (λ (t : Told I R). t.item) rows ++ l) (drop_all (length replies) items (omega arith)) ∙ append-nil (map (λ (t : Told I R). t.item) rows)) in (
-        ap (λ l. slice_get l place) (sym whole) ∙ slice_get-map (λ (t : Told I R). t.item) rows place ∙ ap (option_map (λ (t : Told I R). t.item)) there,
-        ap (λ l. slice_get l place) (sym (replies_told items replies (omega arith))) ∙ slice_get-map (λ (t : Told I R). t.reply) rows place ∙ ap (option_map (λ (t : Told I R). t.reply)) there,
+      let rows = answered_items items replies in
+      let whole : map (λ (t : AnsweredItem I R). t.item) rows ≡ items =
+      sym (items_told items replies (omega arith) ∙ ap (λ l. map (λ (t : AnsweredItem I R). t.item) rows ++ l) (drop_all (length replies) items (omega arith)) ∙ append-nil (map (λ (t : AnsweredItem I R). t.item) rows)) in (
+        ap (λ l. slice_get l place) (sym whole) ∙ slice_get-map (λ (t : AnsweredItem I R). t.item) rows place ∙ ap (option_map (λ (t : AnsweredItem I R). t.item)) there,
+        ap (λ l. slice_get l place) (sym (replies_told items replies (omega arith))) ∙ slice_get-map (λ (t : AnsweredItem I R). t.reply) rows place ∙ ap (option_map (λ (t : AnsweredItem I R). t.reply)) there,
       )
 
   -- what stands at a place
-  told_there : (items : List I) (replies : List R) (place : ℕ) (item : I) (none : R) (d : Told I R) → length items ≡ length replies → slice_get items place ≡ Some item → get_or (told_in items replies) place d ≡ told_of item (get_or replies place none)
+  told_there : (items : List I) (replies : List R) (place : ℕ) (item : I) (none : R) (d : AnsweredItem I R) → length items ≡ length replies → slice_get items place ≡ Some item → get_or (answered_items items replies) place d ≡ told_of item (get_or replies place none)
   told_there [] replies place item none d same there = absurd (let within = slice_get_within {A = I} [] place item there in omega (arith, within))
   told_there (x ∷ items) [] place item none d same there = absurd (omega arith)
   told_there (x ∷ items) (r ∷ replies) zero item none d same there = let is : x ≡ item = cc in ap (λ x. told_of x r) is
   told_there (x ∷ items) (r ∷ replies) (suc place) item none d same there = told_there items replies place item none d (omega arith) there
 
   -- one place more
-  pub next_told : (items : List I) (replies : List R) (place : ℕ) (item : I) (none : R) → length items ≡ length replies → slice_get items place ≡ Some item → take (place + 1) (told_in items replies) ≡ take place (told_in items replies) ++ told_of item (get_or replies place none) ∷ []
+  pub next_told : (items : List I) (replies : List R) (place : ℕ) (item : I) (none : R) → length items ≡ length replies → slice_get items place ≡ Some item → take (place + 1) (answered_items items replies) ≡ take place (answered_items items replies) ++ told_of item (get_or replies place none) ∷ []
   next_told items replies place item none same there =
-      let rows = told_in items replies in
+      let rows = answered_items items replies in
       let d = told_of item none in
       take_more rows place d (omega (arith, length-told items replies same, slice_get_within items place item there, same))
       ∙ ap (λ t. take place rows ++ t ∷ []) (told_there items replies place item none d same there)
 
   -- the tray tells of the seat after it as before
-  pub still_tells : {V : Type 0} (tells : Phase → V → List (Told I R) → Type 0) (phase before after : Phase) (old now : V) (items : List I) (replies replies_now : List R) (item : I) (reply : R)
+  pub still_tells : {V : Type 0} (tells : OpenPhase → V → List (AnsweredItem I R) → Type 0) (phase before after : OpenPhase) (old now : V) (items : List I) (replies replies_now : List R) (item : I) (reply : R)
       → before ≡ phase → after ≡ phase → slice_get items (length replies) ≡ Some item → replies_now ≡ replies ++ reply ∷ []
-      → (tells phase old (told_in items replies) → tells phase now (told_in items replies ++ told_of item reply ∷ []))
-      → tells before old (told_in items replies) → tells after now (told_in items replies_now)
+      → (tells phase old (answered_items items replies) → tells phase now (answered_items items replies ++ told_of item reply ∷ []))
+      → tells before old (answered_items items replies) → tells after now (answered_items items replies_now)
   still_tells tells phase before after old now items replies replies_now item reply was is there more on told =
-      subst (λ (p : Phase). tells p now (told_in items replies_now)) (sym is)
-      (subst (tells phase now) (sym (ap (told_in items) more ∙ first_told items replies item reply there))
-      (on (subst (λ (p : Phase). tells p old (told_in items replies)) was told)))
+      subst (λ (p : OpenPhase). tells p now (answered_items items replies_now)) (sym is)
+      (subst (tells phase now) (sym (ap (answered_items items) more ∙ first_told items replies item reply there))
+      (on (subst (λ (p : OpenPhase). tells p old (answered_items items replies)) was told)))
 
 -- what joins an empty list is its first element
 pub only_first : {X : Type 0} (before now rest : List X) (x y : X) → before ≡ [] → now ≡ before ++ x ∷ [] → now ≡ y ∷ rest → (y ≡ x) × (rest ≡ [])
@@ -167,10 +165,10 @@ front_and_last P (y ∷ xs) x all =
     (All-cons P y xs (All-head P y (xs ++ x ∷ []) all) rest.0, rest.1)
 
 -- the replies of trays, as they tell them
-pub replies_of_trays : {T I R : Type 0} (items : T → List I) (replies : T → List R) (trays : List T) → All (λ tray. length (items tray) ≡ length (replies tray)) trays → map replies trays ≡ map (map (λ t. t.reply)) (map (λ tray. told_in (items tray) (replies tray)) trays)
+pub replies_of_trays : {T I R : Type 0} (items : T → List I) (replies : T → List R) (trays : List T) → All (λ tray. length (items tray) ≡ length (replies tray)) trays → map replies trays ≡ map (map (λ t. t.reply)) (map (λ tray. answered_items (items tray) (replies tray)) trays)
 replies_of_trays items replies [] paired = refl
 replies_of_trays {T} {I} {R} items replies (tray ∷ trays) paired =
     let Paired : T → Type 0 = λ tray. length (items tray) ≡ length (replies tray) in
     let same : length (items tray) ≡ length (replies tray) = All-head Paired tray trays paired in
     ap (λ l. l ∷ map replies trays) (sym (replies_told (items tray) (replies tray) (omega (arith, same))))
-    ∙ ap (λ l. map (λ (t : Told I R). t.reply) (told_in (items tray) (replies tray)) ∷ l) (replies_of_trays items replies trays (All-tail Paired tray trays paired))
+    ∙ ap (λ l. map (λ (t : AnsweredItem I R). t.reply) (answered_items (items tray) (replies tray)) ∷ l) (replies_of_trays items replies trays (All-tail Paired tray trays paired))

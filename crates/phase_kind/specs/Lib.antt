@@ -1,5 +1,5 @@
+pub mod AnsweredItem
 pub mod Phase
 pub mod Table
 pub mod Team
-pub mod Told
 pub mod Worker

@@ -1,6 +1,6 @@
 -- A team has a worker of each of several phases, among whom its list was shared out by where each item goes.
 use Rattle.std.specs.Prelude.{◌≡◌, ◌==◌, ◌+◌, ◌<◌, ℕ, List, [], length, map, zip, filter, All, Some, slice_get}
-use Rattle.phase_kind.specs.Phase.{Phase}
+use Rattle.phase_kind.specs.Phase.{OpenPhase}
 use Rattle.phase_kind.specs.Worker.{HasFinished, WorkerView}
 
 -- the items of a list that go to a place, in their order
@@ -26,8 +26,8 @@ pub record AreShares {I : Type 0} (goes_to : I → ℕ) (places : ℕ) (list : L
   pub each : (place share : ℕ) → slice_get shares place ≡ Some share → share ≡ length (those_of goes_to place list)
 
 -- an empty list of each store, with room for its share
-abbrev pub AreNew : {C I L : Type 0} → (C → L → Type 0) → (L → List I) → (L → ℕ) → List C → List ℕ → List L → Type 0
-AreNew {C} {I} {L} is_of items room stores shares lists =
+abbrev pub AreEmptyLists : {C I L : Type 0} → (C → L → Type 0) → (L → List I) → (L → ℕ) → List C → List ℕ → List L → Type 0
+AreEmptyLists {C} {I} {L} is_of items room stores shares lists =
     (place : ℕ) (store : C) (share : ℕ) (list : L) → slice_get stores place ≡ Some store → slice_get shares place ≡ Some share → slice_get lists place ≡ Some list → is_of store list × (items list ≡ []) × (room list ≡ share)
 
 -- Lists, one for each of so many places. Each has got those of the first items of a list that went there by an order, and
@@ -38,7 +38,7 @@ pub record AreFilled {I L : Type 0} (items : L → List I) (room : L → ℕ) (p
       → (items list ≡ replies_to (λ place. place) place order got) × (room list + length (items list) ≡ length (those_of (λ place. place) place order))
 
 -- a worker of each phase, in the order of the phases
-abbrev pub IsTeam : {V I R : Type 0} → List Phase → List (WorkerView V I R) → Type 0
+abbrev pub IsTeam : {V I R : Type 0} → List OpenPhase → List (WorkerView V I R) → Type 0
 IsTeam phases team = map (λ worker. worker.phase) team ≡ phases
 
 -- The entries of an order are places of a team, and name each worker as often as items wait there.
@@ -56,6 +56,6 @@ abbrev pub AreByPlace : {I R : Type 0} → (I → ℕ) → List I → List (List
 AreByPlace {I} {R} goes_to list rows = (place : ℕ) (row : List R) → slice_get rows place ≡ Some row → length row ≡ length (those_of goes_to place list)
 
 -- the same replies in the order of the list
-pub record AreInOrder {I R : Type 0} (goes_to : I → ℕ) (list : List I) (rows : List (List R)) (replies : List R) : Type 0 where
+pub record AreInListOrder {I R : Type 0} (goes_to : I → ℕ) (list : List I) (rows : List (List R)) (replies : List R) : Type 0 where
   pub as_many : length replies ≡ length list
   pub each : (place : ℕ) (row : List R) → slice_get rows place ≡ Some row → replies_to goes_to place list replies ≡ row

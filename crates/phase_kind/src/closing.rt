@@ -1,7 +1,7 @@
 //! The two ends of a phase: its workers at their seats, and what is left of them.
 
-ghost use Rattle.phase_kind.specs.Told.{told_in};
-ghost use Rattle.phase_kind.specs.Worker.{AreParts, new_worker, seat_of, worker_with};
+ghost use Rattle.phase_kind.specs.AnsweredItem.{answered_items};
+ghost use Rattle.phase_kind.specs.Worker.{AreSeatsAndTrays, new_worker, seat_of, worker_with};
 ghost use Rattle.std.specs.Prelude.{◌≡◌, ◌<◌, ◌≤◌, ◌++◌, [], ◌∷◌, All, IfOk, length, map, slice_index_or};
 ghost use Rattle.word_rule.specs.Places.{AreAll as AreSeats};
 ghost use Rattle.word_rule.specs.Seats.{SharedWords};
@@ -165,8 +165,8 @@ pub fn taken_apart<K: Kind>(
     workers: Vec<Worker<K>>,
 ) -> Result<(Vec<K::Seat>, Vec<Tray<K::List, K::Reply>>), Memory>
     requires { All (λ worker. worker.waiting ≡ []) workers.items }
-    ensures { IfOk result (λ parts. AreParts K.standing
-        (λ tray. told_in (K.items tray.items) tray.replies.items) (λ base tray. K.is_of base tray.items)
+    ensures { IfOk result (λ parts. AreSeatsAndTrays K.standing
+        (λ tray. answered_items (K.items tray.items) tray.replies.items) (λ base tray. K.is_of base tray.items)
         (λ tray. length (K.items tray.items) ≡ length tray.replies.items) K.tells
         workers.items parts.0.items parts.1.items) }
 {
@@ -188,8 +188,8 @@ fn take_apart<K: Kind>(
     requires paired { All (λ tray. length (K.items tray.items) ≡ length tray.replies.items) trays.old.items }
     ensures seats { IfOk result (λ _. map K.standing seats.new.items
         ≡ map K.standing seats.old.items ++ seat_of worker ∷ []) }
-    ensures trays { IfOk result (λ _. map (λ tray. told_in (K.items tray.items) tray.replies.items) trays.new.items
-        ≡ map (λ tray. told_in (K.items tray.items) tray.replies.items) trays.old.items ++ worker.tray ∷ []) }
+    ensures trays { IfOk result (λ _. map (λ tray. answered_items (K.items tray.items) tray.replies.items) trays.new.items
+        ≡ map (λ tray. answered_items (K.items tray.items) tray.replies.items) trays.old.items ++ worker.tray ∷ []) }
     ensures is_of { IfOk result (λ _. All (λ tray. K.is_of worker.phase.base tray.items) trays.old.items
         → All (λ tray. K.is_of worker.phase.base tray.items) trays.new.items) }
     ensures paired { IfOk result

@@ -2,8 +2,8 @@
 
 ghost use Rattle.std.specs.Prelude.{◌≡◌, ◌+◌, ◌^◌, ◌<◌, ◌≤◌, ◌++◌, [], ◌∷◌, All, IfOk, List, OnErr, OnOk, Some, length, map, slice_get};
 ghost use Rattle.body_store.specs.Contents.{Contents, IsStored};
-ghost use Rattle.phase_kind.specs.Phase.{AreOf, IsPhase, Phase};
-ghost use Rattle.phase_kind.specs.Told.{Told, told_in};
+ghost use Rattle.phase_kind.specs.Phase.{AreWordsOfStore, IsPhase, OpenPhase};
+ghost use Rattle.phase_kind.specs.AnsweredItem.{AnsweredItem, answered_items};
 ghost use Rattle.phase_kind.specs.Worker.{AreLeft};
 ghost use Rattle.store_spec.specs.Election.{most_cells};
 ghost use Rattle.store_spec.specs.Image.{cells_of};
@@ -21,8 +21,8 @@ use step_core::Shape;
 pub trait Kind: Drop + Sync {
     ghost use Rattle.std.specs.Prelude.{ℕ, List};
     ghost use Rattle.body_store.specs.Contents.{Contents};
-    ghost use Rattle.phase_kind.specs.Phase.{Phase};
-    ghost use Rattle.phase_kind.specs.Told.{Told};
+    ghost use Rattle.phase_kind.specs.Phase.{OpenPhase};
+    ghost use Rattle.phase_kind.specs.AnsweredItem.{AnsweredItem};
     ghost use Rattle.store_spec.specs.Ballot.{Ballot};
     ghost use Rattle.word_rule.specs.Places.{Place};
     ghost use Rattle.word_rule.specs.Seats.{SharedWords};
@@ -76,13 +76,13 @@ pub trait Kind: Drop + Sync {
     ghost may_claim: { Contents → ℕ → Type 0 };
 
     /// In a phase, at a seat that knew this, an item is answered so, and the seat knows this from then on.
-    ghost answers: { Phase → Self.Sight → Self.Item → Self.Reply → Self.Sight → Type 0 };
+    ghost answers: { OpenPhase → Self.Sight → Self.Item → Self.Reply → Self.Sight → Type 0 };
 
     /// In a phase, a tray tells so of what its seat knows.
-    ghost tells: { Phase → Self.Sight → List (Told Self.Item Self.Reply) → Type 0 };
+    ghost tells: { OpenPhase → Self.Sight → List (AnsweredItem Self.Item Self.Reply) → Type 0 };
 
     /// What the close of a phase of this store tells of its trays: the final replies, and the ballots after it.
-    ghost closes: { Contents → List (List (Told Self.Item Self.Reply)) → List (List Self.Final)
+    ghost closes: { Contents → List (List (AnsweredItem Self.Item Self.Reply)) → List (List Self.Final)
         → List Ballot → Type 0 };
 
     /// An empty list, and memory for so many items.
@@ -164,28 +164,28 @@ pub trait Kind: Drop + Sync {
         trays: Vec<Tray<Self::List, Self::Reply>>,
     ) -> Result<Vec<Vec<Self::Final>>, Memory>
         requires stored { IsStored closed.old }
-        requires own { AreOf may_claim closed.old (seen words) }
+        requires own { AreWordsOfStore may_claim closed.old (seen words) }
         requires left { AreLeft tells (record { base = closed.old; words = seen words })
             (map standing seats.items)
-            (map (λ tray. told_in (items tray.items) tray.replies.items) trays.items) }
+            (map (λ tray. answered_items (items tray.items) tray.replies.items) trays.items) }
         requires is_of { All (λ tray. is_of closed.old tray.items) trays.items }
         requires paired { All (λ tray. length (items tray.items) ≡ length tray.replies.items)
             trays.items }
         ensures election { OnOk result (closed.new.election ≡ closed.old.election) }
         ensures stored { OnOk result (IsStored closed.new) }
         ensures closes { IfOk result (λ finals. closes closed.old
-            (map (λ tray. told_in (items tray.items) tray.replies.items) trays.items)
+            (map (λ tray. answered_items (items tray.items) tray.replies.items) trays.items)
             (map (λ list. list.items) finals.items) closed.new.ballots) }
         ensures unchanged { OnErr result (closed.new ≡ closed.old) };
 
     /// An empty tray tells of a new seat. Where an item was answered, a tray with it and its reply tells of the seat.
     /// Each seat of which a tray tells is at rest.
     fn trays_tell()
-        ensures none { (phase : Phase) → tells phase fresh [] }
-        ensures more { (phase : Phase) (old now : Self.Sight)
-            (tray : List (Told Self.Item Self.Reply)) (x : Self.Item) (reply : Self.Reply)
+        ensures none { (phase : OpenPhase) → tells phase fresh [] }
+        ensures more { (phase : OpenPhase) (old now : Self.Sight)
+            (tray : List (AnsweredItem Self.Item Self.Reply)) (x : Self.Item) (reply : Self.Reply)
             → tells phase old tray → answers phase old x reply now
             → tells phase now (tray ++ record { item = x; reply = reply } ∷ []) }
-        ensures at_rest { (phase : Phase) (view : Self.Sight)
-            (tray : List (Told Self.Item Self.Reply)) → tells phase view tray → rests view };
+        ensures at_rest { (phase : OpenPhase) (view : Self.Sight)
+            (tray : List (AnsweredItem Self.Item Self.Reply)) → tells phase view tray → rests view };
 }

@@ -1,7 +1,7 @@
 //! A phase of either kind: how it begins and how it closes.
 
 ghost use Rattle.body_store.specs.Contents.{IsStored};
-ghost use Rattle.phase_kind.specs.Phase.{AreOf};
+ghost use Rattle.phase_kind.specs.Phase.{AreWordsOfStore};
 ghost use Rattle.phase_kind.specs.Worker.{AreAll, new_worker, worker_with};
 ghost use Rattle.std.specs.Prelude.{◌≡◌, ◌<◌, ◌≤◌, All, IfErr, IfOk, Some, length, map, slice_get};
 
@@ -23,9 +23,9 @@ pub struct PhaseOf<K: Kind> {
 }
 
 impl<K: Kind> Model for PhaseOf<K> {
-    ghost use Rattle.phase_kind.specs.Phase.{IsPhase, Phase};
+    ghost use Rattle.phase_kind.specs.Phase.{IsPhase, OpenPhase};
 
-    ghost Value = { Phase };
+    ghost Value = { OpenPhase };
 
     ghost view = { λ p. record { base = p.closed; words = K.seen p.words } };
 
@@ -43,7 +43,7 @@ impl<K: Kind> PhaseOf<K> {
         requires some_worker { 1 ≤ length plan.now }
         requires few_workers { length plan.now ≤ 64 }
         ensures base { IfOk result (λ begun. begun.0.base ≡ closed) }
-        ensures words { IfOk result (λ begun. AreOf K.may_claim closed begun.0.words) }
+        ensures words { IfOk result (λ begun. AreWordsOfStore K.may_claim closed begun.0.words) }
         ensures seats { IfOk result (λ begun. begun.0.words.seats ≡ length plan.now) }
         ensures workers { IfOk result
             (λ begun. begun.1.items ≡ map (new_worker K.fresh begun.0) plan.now) }
@@ -73,7 +73,7 @@ impl<K: Kind> PhaseOf<K> {
         requires few_workers { length work.items ≤ 64 }
         requires is_of { All (λ list. K.is_of closed list) work.items }
         ensures base { IfOk result (λ begun. begun.0.base ≡ closed) }
-        ensures words { IfOk result (λ begun. AreOf K.may_claim closed begun.0.words) }
+        ensures words { IfOk result (λ begun. AreWordsOfStore K.may_claim closed begun.0.words) }
         ensures seats { IfOk result (λ begun. begun.0.words.seats ≡ length work.items) }
         ensures workers { IfOk result
             (λ begun. begun.1.items ≡ map (worker_with K.fresh begun.0) (map K.items work.items)) }

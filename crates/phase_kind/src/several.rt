@@ -1,7 +1,7 @@
 //! Several phases of one kind, whose workers work in teams: a list is shared out to the workers of a team, so that
 //! each item goes into the phase that its number names, and the team handles it in its order.
 
-ghost use Rattle.phase_kind.specs.Team.{AreByPlace, AreFilled, AreInOrder, AreNamed, AreNew, AreShares, AreSharedOut, GoesWithin, HaveFinished, IsTeam};
+ghost use Rattle.phase_kind.specs.Team.{AreByPlace, AreFilled, AreInListOrder, AreNamed, AreEmptyLists, AreShares, AreSharedOut, GoesWithin, HaveFinished, IsTeam};
 ghost use Rattle.std.specs.Prelude.{◌≡◌, ◌^◌, ◌<◌, [], All, IfOk, Some, length, map, slice_get, slice_index_or, zip};
 
 use crate::running::answer_next;
@@ -113,7 +113,7 @@ fn new_lists<K: Kind>(
     requires as_many { length shares.now ≡ length stores.now }
     requires few { All (λ share. share < 2 ^ 33) shares.now }
     ensures as_many { IfOk result (λ lists. length lists.items ≡ length stores.now) }
-    ensures new { IfOk result (λ lists. AreNew K.is_of K.items K.room stores.now shares.now lists.items) }
+    ensures new { IfOk result (λ lists. AreEmptyLists K.is_of K.items K.room stores.now shares.now lists.items) }
 {
     let mut lists = Vec::with_capacity(alloc, stores.len())?;
     for place in 0..stores.len() {
@@ -214,7 +214,7 @@ pub fn in_order<X: Copy + Drop>(
 ) -> Result<Vec<X>, Memory>
     requires within { GoesWithin (λ place. place) (length replies.now) order.now }
     requires by_place { AreByPlace (λ place. place) order.now (map (λ row. row.items) replies.now) }
-    ensures { IfOk result (λ told. AreInOrder (λ place. place) order.now (map (λ row. row.items) replies.now)
+    ensures { IfOk result (λ told. AreInListOrder (λ place. place) order.now (map (λ row. row.items) replies.now)
         told.items) }
 {
     let mut next = vec![in alloc; 0; replies.len()]?;

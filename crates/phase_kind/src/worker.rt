@@ -1,6 +1,6 @@
 //! A worker of a phase: the tabulator or the withdrawer of one list.
 
-ghost use Rattle.phase_kind.specs.Told.{Told, told_in};
+ghost use Rattle.phase_kind.specs.AnsweredItem.{AnsweredItem, answered_items};
 ghost use Rattle.phase_kind.specs.Worker.{HasQueued, new_worker, seat_of, worker_with};
 ghost use Rattle.std.specs.Prelude.{◌≡◌, ◌+◌, ◌<◌, ◌≤◌, ◌++◌, [], ◌∷◌, IfOk, Some, length, map, slice_get};
 
@@ -26,8 +26,8 @@ pub struct Worker<K: Kind> {
 
 impl<K: Kind> Model for Worker<K> {
     ghost use Rattle.std.specs.Prelude.{◌-◌, drop, length, vec_capacity};
-    ghost use Rattle.phase_kind.specs.Phase.{Phase};
-    ghost use Rattle.phase_kind.specs.Told.{told_in};
+    ghost use Rattle.phase_kind.specs.Phase.{OpenPhase};
+    ghost use Rattle.phase_kind.specs.AnsweredItem.{answered_items};
     ghost use Rattle.phase_kind.specs.Worker.{IsKept, WorkerView};
 
     ghost Value = { WorkerView K.Sight K.Item K.Reply };
@@ -36,13 +36,13 @@ impl<K: Kind> Model for Worker<K> {
       phase = record { base = w.base.value; words = (K.standing w.seat).words };
       seat = (K.standing w.seat).view;
       room = w.places - length (K.items w.tray.items);
-      tray = told_in (K.items w.tray.items) w.tray.replies.items;
+      tray = answered_items (K.items w.tray.items) w.tray.replies.items;
       waiting = drop (length w.tray.replies.items) (K.items w.tray.items);
     } };
 
     ghost invariant = { λ w. IsKept
         (K.tells (record { base = w.base.value; words = (K.standing w.seat).words })
-        (K.standing w.seat).view (told_in (K.items w.tray.items) w.tray.replies.items))
+        (K.standing w.seat).view (answered_items (K.items w.tray.items) w.tray.replies.items))
         (K.is_of w.base.value w.tray.items) (length (K.items w.tray.items)) (K.room w.tray.items)
         (length w.tray.replies.items) (vec_capacity w.tray.replies) w.places };
 }
@@ -96,7 +96,7 @@ impl<K: Kind> Worker<K> {
     pub(crate) fn into_parts(self) -> (K::Seat, Tray<K::List, K::Reply>)
         requires idle { self.waiting ≡ [] }
         ensures seat { K.standing result.0 ≡ seat_of self }
-        ensures tray { told_in (K.items result.1.items) result.1.replies.items ≡ self.tray }
+        ensures tray { answered_items (K.items result.1.items) result.1.replies.items ≡ self.tray }
         ensures is_of { K.is_of self.phase.base result.1.items }
         ensures paired { length (K.items result.1.items) ≡ length result.1.replies.items }
         ensures told { K.tells self.phase self.seat self.tray }

@@ -1,12 +1,9 @@
 -- The close of a phase, by what the phase leads to.
 use Rattle.std.proofs.Common.{◌≡◌, ℕ, Bool, List, map, sym, ap, ◌∙◌}
+use Rattle.store_spec.proofs.Common.{Ballot, CastLine, CastReply, ClosesCasting, ClosesFinding, ClosesWithdrawing, Effect, Election, WithdrawReply, Withdrawal, cast_text, closing, find_text, withdraw_text}
 use Rattle.phase_play.proofs.Rows.{map_twice}
 use Rattle.phase_play.specs.Plays.{PlaysCasting, PlaysFinding, PlaysWithdrawing}
-use Rattle.store_spec.specs.Ballot.{Ballot}
-use Rattle.store_spec.specs.BallotPhase.{CastLine, CastReply}
-use Rattle.store_spec.specs.Election.{Election}
-use Rattle.store_spec.specs.Session.{ClosesCasting, ClosesFinding, ClosesWithdrawing, Effect, cast_text, closing, find_text, withdraw_text}
-use Rattle.store_spec.specs.WithdrawPhase.{Finding, Withdrawal, WithdrawReply}
+use Rattle.store_spec.specs.WithdrawPhase.{Finding}
 
 -- the words of the replies are those of the lines
 words : {L R : Type 0} (text : R → List ℕ) (reply : L → R) (lines : List (List L)) (replies : List (List R)) (after : List Ballot) (effect : Effect) → map (map reply) lines ≡ replies → effect ≡ closing (map (map text) replies) after → effect ≡ closing (map (map (λ l. text (reply l))) lines) after

@@ -1,34 +1,27 @@
 -- What a phase that was played leads to.
-use Rattle.std.proofs.Common.{◌≡◌, ℕ, ◌≤◌, ⊎_elim, None, Bool, false, List, [], ◌∷◌, length, map, refl, sym, ap, ◌∙◌, subst, arith}
-use Rattle.std.proofs.lemmas.List.{length-map, map-id}
-use Rattle.std.proofs.lemmas.List.Elements.{All-cons, All-head, All-map, All-nil, All-tail}
-use Rattle.std.proofs.lemmas.Simd.{map-map}
-use Rattle.std.specs.List.{All, Contains, zip}
-use Rattle.std.specs.Prelude.{IsTrue, is_some, ◌↔◌}
+use Rattle.std.proofs.Common.{◌≡◌, ℕ, ⊎_elim, None, Bool, false, List, [], ◌∷◌, length, map, refl, sym, ap, ◌∙◌, subst, arith}
+use Rattle.store_spec.proofs.Common.{All, All-map, Ballot, BallotOutcome, CastLine, Contains, Election, IsTrue, Withdrawal, ballot_of, ballots_without, is_some, length-map, map-id, map-map, numbers_of, zip}
+use Rattle.std.specs.Prelude.{◌↔◌}
 use Rattle.ballot_record.proofs.BallotNumbers.{ballot_with, contains_number}
 use Rattle.ballot_record.proofs.Lookups.{found_in, missing_from, option_cases}
 use Rattle.body_store.specs.Contents.{Contents}
 use Rattle.phase_delete.proofs.Whole.{listed_is}
 use Rattle.phase_delete.specs.Closing as withdrawn
 use Rattle.phase_delete.specs.Tray as tray
-use Rattle.phase_delete.specs.Tray.{Withdrawal as Withdrawn}
+use Rattle.phase_delete.specs.Tray.{TrayWithdrawal as Withdrawn}
 use Rattle.phase_find.specs.Present.{is_present}
-use Rattle.phase_insert.specs.Closing.{ClosesAs, beside, line, reply_of}
+use Rattle.phase_insert.specs.Closing.{ClosesAs, reply_of, tray_line, trays_beside}
 use Rattle.phase_insert.specs.Tray.{Cast}
 use Rattle.phase_insert.specs.declared.reply.Final.{Final}
 use Rattle.phase_kind.proofs.Listed.{trays_are_lists}
-use Rattle.phase_kind.specs.Phase.{Phase}
-use Rattle.phase_kind.specs.Told.{Told}
+use Rattle.phase_kind.specs.Phase.{OpenPhase}
+use Rattle.phase_kind.specs.AnsweredItem.{AnsweredItem}
 use Rattle.phase_kind.specs.Worker.{AreAll, HasFinished, WorkerView, worker_with}
 use Rattle.phase_play.proofs.Rows.{map_twice}
 use Rattle.phase_play.specs.Plays.{PlaysCasting, PlaysFinding, PlaysWithdrawing}
 use Rattle.step_core.specs.WithdrawCore as core
 use Rattle.step_core.specs.declared.withdrawer.WithdrawReply.{WithdrawReply}
-use Rattle.store_spec.specs.Ballot.{Ballot, ballot_of, numbers_of}
-use Rattle.store_spec.specs.BallotPhase.{BallotOutcome, CastLine}
-use Rattle.store_spec.specs.Election.{Election}
-use Rattle.store_spec.specs.Session.{ballots_without}
-use Rattle.store_spec.specs.WithdrawPhase.{Finding, Withdrawal}
+use Rattle.store_spec.specs.WithdrawPhase.{Finding}
 
 -- ---- casting
 
@@ -45,41 +38,41 @@ right_of (x ∷ xs) [] same = absurd (omega arith)
 right_of (x ∷ xs) (y ∷ ys) same = ap (λ l. y ∷ l) (right_of xs ys (omega arith))
 
 -- trays beside final replies, one of them
-trays_of : (trays : List (List Cast)) (finals : List (List Final)) → map length finals ≡ map length trays → map (map (λ told. told.0)) (beside trays finals) ≡ trays
+trays_of : (trays : List (List Cast)) (finals : List (List Final)) → map length finals ≡ map length trays → map (map (λ told. told.0)) (trays_beside trays finals) ≡ trays
 trays_of [] finals same = refl
 trays_of (tray ∷ trays) [] same = absurd cc
 trays_of (tray ∷ trays) (list ∷ finals) same =
     let first : length list ≡ length tray = cc in
     let rest : map length finals ≡ map length trays = cc in
-    ap (λ l. l ∷ map (map (λ (told : Cast × Final). told.0)) (beside trays finals)) (left_of tray list first)
+    ap (λ l. l ∷ map (map (λ (told : Cast × Final). told.0)) (trays_beside trays finals)) (left_of tray list first)
     ∙ ap (λ l. tray ∷ l) (trays_of trays finals rest)
 
-finals_of : (trays : List (List Cast)) (finals : List (List Final)) → map length finals ≡ map length trays → map (map (λ told. told.1)) (beside trays finals) ≡ finals
+finals_of : (trays : List (List Cast)) (finals : List (List Final)) → map length finals ≡ map length trays → map (map (λ told. told.1)) (trays_beside trays finals) ≡ finals
 finals_of [] [] same = refl
 finals_of [] (list ∷ finals) same = absurd cc
 finals_of (tray ∷ trays) [] same = absurd cc
 finals_of (tray ∷ trays) (list ∷ finals) same =
     let first : length list ≡ length tray = cc in
     let rest : map length finals ≡ map length trays = cc in
-    ap (λ l. l ∷ map (map (λ (told : Cast × Final). told.1)) (beside trays finals)) (right_of tray list first)
+    ap (λ l. l ∷ map (map (λ (told : Cast × Final). told.1)) (trays_beside trays finals)) (right_of tray list first)
     ∙ ap (λ l. list ∷ l) (finals_of trays finals rest)
 
 -- the ballots of trays, and the final replies beside them
 pub plays_casting : (e : Election) (base : Contents) (trays : List (List Cast)) (finals : List (List Final)) (work : List (List Ballot)) (after : List Ballot) → base.election ≡ e → ClosesAs base trays finals after → map (map (λ c. c.item)) trays ≡ work → PlaysCasting e base.ballots work (map (map reply_of) finals) after
 plays_casting e base trays finals work after own closes are =
-    let rows = beside trays finals in
+    let rows = trays_beside trays finals in
     record {
-      lines = map (map line) rows;
+      lines = map (map tray_line) rows;
       of_work =
-          map_twice (λ (l : CastLine). l.ballot) line rows
+          map_twice (λ (l : CastLine). l.ballot) tray_line rows
           ∙ sym (map_twice (λ (c : Cast). c.item) (λ (told : Cast × Final). told.0) rows)
           ∙ ap (map (map (λ (c : Cast). c.item))) (trays_of trays finals closes.as_many)
           ∙ are;
       of_replies =
-          map_twice (λ (l : CastLine). l.reply) line rows
+          map_twice (λ (l : CastLine). l.reply) tray_line rows
           ∙ sym (map_twice reply_of (λ (told : Cast × Final). told.1) rows)
           ∙ ap (map (map reply_of)) (finals_of trays finals closes.as_many);
-      outcome = subst (λ (f : Election). BallotOutcome f base.ballots (map (map line) rows) after) own closes.outcome;
+      outcome = subst (λ (f : Election). BallotOutcome f base.ballots (map (map tray_line) rows) after) own closes.outcome;
     }
 
 -- ---- withdrawing
@@ -87,10 +80,10 @@ plays_casting e base trays finals work after own closes are =
 -- the numbers of trays, and their replies
 pub plays_withdrawing : (base : Contents) (trays : List (List Withdrawn)) (replies : List (List WithdrawReply)) (work : List (List ℕ)) (after : List Ballot) → withdrawn.ClosesAs base trays replies after → map (map (λ w. w.item)) trays ≡ work → PlaysWithdrawing base.ballots work (map (map core.reply_of) replies) after
 plays_withdrawing base trays replies work after closes are = record {
-  lines = withdrawn.lines_of trays;
-  of_work = map_twice (λ (a : Withdrawal). a.number) tray.line trays ∙ are;
+  lines = withdrawn.tray_lines trays;
+  of_work = map_twice (λ (a : Withdrawal). a.number) tray.tray_line trays ∙ are;
   of_replies =
-      map_twice (λ (a : Withdrawal). a.reply) tray.line trays
+      map_twice (λ (a : Withdrawal). a.reply) tray.tray_line trays
       ∙ sym (map_twice core.reply_of (λ (w : Withdrawn). w.reply) trays)
       ∙ ap (map (map core.reply_of)) (sym closes.of_trays);
   rest = closes.rest ∙ ap (ballots_without base.ballots) (sym (listed_is trays));
@@ -100,7 +93,7 @@ plays_withdrawing base trays replies work after closes are = record {
 -- ---- workers
 
 -- workers that began with lists, and have answered them
-module _ {V I R : Type 0} (rests : V → Type 0) (fresh : V) (phase : Phase) (lists : List (List I)) (before : List (WorkerView V I R)) (are : before ≡ map (worker_with fresh phase) lists) where
+module _ {V I R : Type 0} (rests : V → Type 0) (fresh : V) (phase : OpenPhase) (lists : List (List I)) (before : List (WorkerView V I R)) (are : before ≡ map (worker_with fresh phase) lists) where
   as_many : length before ≡ length lists
   as_many = ap length are ∙ length-map lists (worker_with {V = V} {I = I} {R = R} fresh phase)
 
@@ -114,8 +107,8 @@ module _ {V I R : Type 0} (rests : V → Type 0) (fresh : V) (phase : Phase) (li
   pub all_trays : (after whole : List (WorkerView V I R)) → length after ≡ length before → whole ≡ after → All (λ at. HasFinished rests at.0 at.1) (zip before after) → map (map (λ t. t.item)) (map (λ worker. worker.tray) whole) ≡ lists
   all_trays after whole same is each =
       let finished = subst (λ (workers : List (WorkerView V I R)). All (λ at. HasFinished rests at.0 at.1) (zip workers after)) are each in
-      ap (λ (workers : List (WorkerView V I R)). map (map (λ (t : Told I R). t.item)) (map (λ (worker : WorkerView V I R). worker.tray) workers)) is
-      ∙ map-map (map (λ (t : Told I R). t.item)) (λ (worker : WorkerView V I R). worker.tray) after
+      ap (λ (workers : List (WorkerView V I R)). map (map (λ (t : AnsweredItem I R). t.item)) (map (λ (worker : WorkerView V I R). worker.tray) workers)) is
+      ∙ map-map (map (λ (t : AnsweredItem I R). t.item)) (λ (worker : WorkerView V I R). worker.tray) after
       ∙ trays_are_lists rests fresh phase lists after (same ∙ as_many) finished
 
 -- ---- finding

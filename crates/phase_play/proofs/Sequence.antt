@@ -1,24 +1,12 @@
 -- Lists that are answered one ballot after another: a casting phase has an outcome.
 use Rattle.std.proofs.Common.{◌≡◌, ◌≢◌, ℕ, ◌<◌, ◌≤◌, ◌⊎◌, inl, inr, ⊎_elim, true, false, cond, None, List, [], ◌∷◌, ◌++◌, length, get_or, map, refl, sym, ap, ◌∙◌, subst, arith}
-use Rattle.std.proofs.lemmas.Bool.{cases_Bool, cases_eq, cases_lt}
-use Rattle.std.proofs.lemmas.List.{append-nil, append_assoc, length-append, map-append, map_push}
-use Rattle.std.proofs.lemmas.List.Elements.{All-cons, All-nil, All-push, All-head, All-tail, All-weaker, Contains-append_left, Contains-get_or, Contains-push, filter-append}
-use Rattle.std.proofs.lemmas.List.Quantifiers.{all_pairs_push}
-use Rattle.std.proofs.lemmas.List.Sorted.{Contains-permutation, IsPermutation-sym, IsPermutation-trans, length_permutation}
-use Rattle.std.proofs.lemmas.Slice.Eq.{bytes_eq-Decides}
-use Rattle.std.specs.List.{All, AllPairs, Contains, filter}
-use Rattle.std.specs.Str.{bytes_eq}
-use Rattle.std.specs.List.Sorted.{IsPermutation}
+use Rattle.store_spec.proofs.Common.{Accepted, All, All-cons, All-head, All-nil, All-push, All-tail, All-weaker, AllPairs, Ballot, BallotOutcome, CastLine, CastReply, Conflict, Contains, Contains-append_left, Contains-get_or, Contains-permutation, Contains-push, Duplicate, Election, Full, HasNumber, IsBallotSet, IsPermutation, IsPermutation-sym, IsPermutation-trans, IsRightReply, IsValid, IsWithinLimit, MayBeCastBefore, accepted_in, all_pairs_push, append-nil, append_assoc, ballot_of, bytes_eq, bytes_eq-Decides, cases_Bool, cases_eq, cases_lt, filter, filter-append, is_accepted, length-append, length_permutation, map-append, map_push, numbers_of}
 use Rattle.ballot_record.proofs.BallotNumbers.{ballot_with, contains_number}
 use Rattle.ballot_record.proofs.BallotSets.{in_order, in_order-IsPermutation, same_in_order, set_of_listing}
 use Rattle.ballot_record.proofs.Lookups.{found_in, missing_from, option_cases}
 use Rattle.body_store.proofs.BallotSets.{MayHold, limit-IsPermutation, may_hold_set}
 use Rattle.phase_insert.proofs.Outcome.{number_there}
 use Rattle.phase_play.specs.Plays.{PlaysCasting}
-use Rattle.store_spec.specs.Ballot.{Ballot, IsBallotSet, IsValid, IsWithinLimit, ballot_of, numbers_of}
-use Rattle.store_spec.specs.BallotPhase.{BallotOutcome, CastLine, CastReply, HasNumber, IsRightReply, MayBeCastBefore, accepted_in, is_accepted}
-use Rattle.store_spec.specs.BallotPhase.CastReply.{Accepted, Duplicate, Conflict, Full}
-use Rattle.store_spec.specs.Election.{Election}
 
 -- ---- sets that grow
 

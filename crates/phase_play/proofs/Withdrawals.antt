@@ -1,19 +1,10 @@
 -- Lists that are answered one number after another: a withdrawing phase has an outcome.
 use Rattle.std.proofs.Common.{◌≡◌, ◌≢◌, ℕ, ◌⊎◌, inl, inr, ⊎_elim, true, false, cond, List, [], ◌∷◌, ◌++◌, get_or, map, refl, sym, ap, ◌∙◌, subst, arith}
-use Rattle.std.proofs.lemmas.Bool.{cases_eq}
-use Rattle.std.proofs.lemmas.List.{append-nil, append_assoc, map-append, map_push}
-use Rattle.std.proofs.lemmas.List.Elements.{All-cons, All-contains, All-map, All-nil, All-push, All-weaker, Contains-append_left, Contains-get_or, Contains-push, filter-append}
-use Rattle.std.proofs.lemmas.List.Quantifiers.{all_pairs_push}
-use Rattle.std.specs.List.{All, AllPairs, Contains, filter}
+use Rattle.store_spec.proofs.Common.{Absent, All, All-cons, All-contains, All-map, All-nil, All-push, All-weaker, AllPairs, Ballot, Contains, Contains-append_left, Contains-get_or, Contains-push, Election, IsBallotSet, IsRightWithdrawal, IsValid, MayBeWithdrawnBefore, WithdrawReply, Withdrawal, all_pairs_push, append-nil, append_assoc, ballots_without, cases_eq, count_of, filter, filter-append, is_withdrawn, listed, map-append, map_push, numbers_of, withdrawn_in}
 use Rattle.phase_delete.proofs.Left.{numbers_left}
 use Rattle.phase_play.specs.Plays.{PlaysWithdrawing}
 use Rattle.step_core.proofs.Sets.{All-flat_map, counted, once_distinct, stands_counted}
-use Rattle.store_spec.specs.Ballot.{Ballot, IsBallotSet, IsValid, numbers_of}
-use Rattle.store_spec.specs.CastInvariant.{count_of}
-use Rattle.store_spec.specs.Election.{Election}
-use Rattle.store_spec.specs.Session.{ballots_without}
-use Rattle.store_spec.specs.WithdrawPhase.{IsRightWithdrawal, MayBeWithdrawnBefore, Withdrawal, WithdrawReply, is_withdrawn, listed, withdrawn_in}
-use Rattle.store_spec.specs.WithdrawPhase.WithdrawReply.{Withdrawn, Gone, Absent}
+use Rattle.store_spec.specs.WithdrawPhase.WithdrawReply.{Withdrawn, Gone}
 
 -- numbers of valid ballots are not 0
 valid_some : (e : Election) (ballots : List Ballot) → All (IsValid e) ballots → All (λ v. v ≢ 0) (numbers_of ballots)

@@ -1,8 +1,7 @@
 -- The claim words of a number come round the array from its first on.
 use Rattle.std.proofs.Common.{◌≡◌, ℕ, ◌+◌, ◌-◌, ◌%◌, ◌<◌, ◌≤◌, ⊎_elim, arith, mod-lt, ap, ◌∙◌}
-use Rattle.std.proofs.lemmas.Bool.{cases_lt}
+use Rattle.store_spec.proofs.Common.{cases_lt, claim_place}
 use Rattle.std.proofs.Math.Nat.{mod-eq_of_lt, add-mod_right}
-use Rattle.store_spec.specs.CastStep.{claim_place}
 
 -- those up to the end of the array
 pub up_to_end : (number tries length : ℕ) → number % length + tries < length → claim_place number tries length ≡ number % length + tries

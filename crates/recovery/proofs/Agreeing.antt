@@ -1,15 +1,10 @@
 -- The other bank is made to agree with the one that is read.
 use Rattle.std.proofs.Common.{◌≡◌, ℕ, List, Option, Some, get_or, sym, ◌∙◌, subst, ⊎_elim}
-use Rattle.std.proofs.lemmas.Bool.{cases_eq}
+use Rattle.store_spec.proofs.Common.{A, B, Ballot, Bank, Election, Holds, HoldsSet, HoldsTheSame, IsElection, IsImageOf, IsMediumOf, IsOpen, bank_of, cases_eq, gate_place, image_of, open_gate, other_bank}
 use Rattle.checkpoint.specs.Renewal.{IsRenewed, IsHalfRenewed}
 use Rattle.image_builder.proofs.Held.{medium_parts, one_held, parts_medium}
 use Rattle.image_builder.proofs.MediumParts.{AreBoth}
 use Rattle.recovery.specs.Canonical.{IsReadAs, IsReadFrom}
-use Rattle.store_spec.specs.Ballot.{Ballot}
-use Rattle.store_spec.specs.Election.{Election, IsElection}
-use Rattle.store_spec.specs.Image.{IsImageOf, image_of}
-use Rattle.store_spec.specs.Medium.{Bank, Holds, HoldsSet, HoldsTheSame, IsMediumOf, IsOpen, bank_of, gate_place, open_gate, other_bank}
-use Rattle.store_spec.specs.Medium.Bank.{A, B}
 
 module _ (e : Election) (set : List Ballot) where
   -- the bank that is read holds the set

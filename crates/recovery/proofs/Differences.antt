@@ -1,9 +1,7 @@
 -- Where two lists of bytes differ first.
 use Rattle.std.proofs.Common.{◌≡◌, ℕ, ◌+◌, ◌<◌, ◌≤◌, List, ◌++◌, take, drop, Option, Some, None, refl, sym, ◌∙◌, ap, arith, ⊎_elim}
+use Rattle.store_spec.proofs.Common.{cases_lt, get_or-drop, get_or-take, get_or_past, length-take, take-add, take-take}
 use Rattle.std.specs.Prelude.{◌≢◌}
-use Rattle.std.proofs.Math.Seq.{take-add}
-use Rattle.std.proofs.lemmas.Bool.{cases_lt}
-use Rattle.std.proofs.lemmas.List.{get_or-drop, get_or-take, get_or_past, length-take, take-take}
 use Rattle.recovery.specs.Differing.{DiffersFirstAt}
 
 -- behind a front that is the same

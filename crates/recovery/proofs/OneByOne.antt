@@ -1,9 +1,8 @@
 -- Calls on a list of disks, one after another.
 use Rattle.std.proofs.Common.{◌≡◌, ℕ, zero, suc, ◌+◌, ◌<◌, List, [], ◌∷◌, ◌++◌, length, get_or, take, drop, set, Some, Result, Ok, Err, refl, sym, ap, subst, ◌∙◌, arith}
-use Rattle.std.proofs.lemmas.List.{drop-drop, drop-set-lt, get_or-drop, get_or-set_same, length-set, take_more}
-use Rattle.std.proofs.lemmas.Option.{get_or_from_slice_get, slice_get-get_or, slice_get_read, slice_get_within}
-use Rattle.std.specs.List.{AllZip, slice_get}
-use Rattle.std.specs.Prelude.{IfErr, IsErrAnd}
+use Rattle.store_spec.proofs.Common.{AllZip, IfErr, IsErrAnd, drop-drop, drop-set-lt, get_or-drop, get_or-set_same, get_or_from_slice_get, length-set, slice_get-get_or, slice_get_within, take_more}
+use Rattle.std.proofs.lemmas.Option.{slice_get_read}
+use Rattle.std.specs.List.{slice_get}
 
 -- what holds of a fault that is handed on
 pub handed_on : {T E : Type 0} (r : Result T E) (P : E → Type 0) (fault : E) → IsErrAnd r (λ f. f ≡ fault) → P fault → IfErr r P

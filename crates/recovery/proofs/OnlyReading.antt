@@ -1,8 +1,8 @@
 -- Calls that write nothing, one after another.
 use Rattle.std.proofs.Common.{◌≡◌, ℕ, List, Option, Some, refl, sym, ◌∙◌}
+use Rattle.store_spec.proofs.Common.{IsSettled, KeepsCrashImages, leaves_now}
 use Rattle.crash_disk.proofs.Moments.{goes_on_same, joined, started, weaker}
 use Rattle.recovery.specs.ReadsOnly.{ReadsOnly, WritesNothing}
-use Rattle.store_spec.specs.Disk.{leaves_now, IsSettled, KeepsCrashImages}
 
 module _ {D : Type 0} (seen : D → Option (List ℕ)) (calls : D → ℕ) (may_leave : D → ℕ → List ℕ → Type 0) where
   -- no call

@@ -1,8 +1,6 @@
 -- A bank that is read page after page.
 use Rattle.std.proofs.Common.{◌≡◌, ℕ, ◌+◌, ◌-◌, ◌≤◌, List, ◌++◌, length, take, drop, Option, Some, None, refl, sym, ◌∙◌, ap, subst, arith}
-use Rattle.std.proofs.Math.Seq.{take-add}
-use Rattle.std.proofs.lemmas.List.{length-append, length-drop, length-take, take-append-drop, take_all}
-use Rattle.std.specs.Prelude.{slice_range, IfSome}
+use Rattle.store_spec.proofs.Common.{A, B, Ballot, Bank, Election, IfSome, IsBallotSet, IsElection, IsImageOf, IsWithinLimit, bank_of, bank_size, image_of, length-append, length-drop, length-take, medium_size, slice_range, take-add, take-append-drop, take_all}
 use Rattle.body_store.specs.Contents.{Contents, IsStored}
 use Rattle.image_builder.specs.Feeding.{Feeding, IsRefusedPiece}
 use Rattle.image_builder.specs.Reading.{IsRefusedBank}
@@ -13,11 +11,6 @@ use Rattle.recovery.specs.Canonical.{IsReadAs, IsReadFrom}
 use Rattle.recovery.specs.Differing.{DiffersFirstAt, IsFirstDifference}
 use Rattle.recovery.specs.Faults.{recover_fault}
 use Rattle.recovery.specs.Refused.{IsRefusedMedium}
-use Rattle.store_spec.specs.Ballot.{Ballot, IsBallotSet, IsWithinLimit}
-use Rattle.store_spec.specs.Election.{Election, IsElection, bank_size, medium_size}
-use Rattle.store_spec.specs.Image.{IsImageOf, image_of}
-use Rattle.store_spec.specs.Medium.{Bank, bank_of}
-use Rattle.store_spec.specs.Medium.Bank.{A, B}
 
 -- one page more of a bank
 pub pages_more : (bank fed page : List ℕ) (at k : ℕ) → fed ≡ take at bank → page ≡ slice_range bank at (at + k) → fed ++ page ≡ take (at + k) bank

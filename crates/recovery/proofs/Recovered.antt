@@ -1,11 +1,8 @@
 -- A medium was recovered, and then a checkpoint follows.
 use Rattle.std.proofs.Common.{◌≡◌, ℕ, List, Option, sym, ◌∙◌, subst}
-use Rattle.std.specs.Option.{ForSome}
+use Rattle.store_spec.proofs.Common.{Ballot, Election, ForSome, IsMediumOf}
 use Rattle.checkpoint.proofs.Pages.{told_back}
 use Rattle.outside_io.specs.Told.{IfTold}
-use Rattle.store_spec.specs.Ballot.{Ballot}
-use Rattle.store_spec.specs.Election.{Election}
-use Rattle.store_spec.specs.Medium.{IsMediumOf}
 
 -- a disk that is the medium of a set now
 pub medium_now : (e own : Election) (set : List Ballot) (old mid : Option (List ℕ)) → own ≡ e → IfTold old mid (λ _ y. IsMediumOf e y set)

@@ -1,5 +1,6 @@
 -- Bytes are refused for one reason, and then they hold nothing.
 use Rattle.std.proofs.Common.{◌≡◌, ℕ, List, length, refl, sym, ◌∙◌, ap, subst, ⊎_elim}
+use Rattle.store_spec.proofs.Common.{A, B, Ballot, Bank, Election, HoldsSet, IsChosen, IsElection, IsImageOf, IsOpen, bank_of, medium_size}
 use Rattle.std.specs.Prelude.{◌≢◌}
 use Rattle.image_builder.proofs.Judged.{only_memory}
 use Rattle.image_builder.proofs.FourTests.{one_wrong}
@@ -10,11 +11,6 @@ use Rattle.image_builder.specs.declared.read.ImageFault.TheVariants as images
 use Rattle.recovery.specs.Refused.{IsRefusedInBank, IsRefusedMedium}
 use Rattle.recovery.specs.declared.fault.RecoverFault.{RecoverFault}
 use Rattle.recovery.specs.declared.fault.RecoverFault.TheVariants.{NoStore, OtherElection, Damaged, DiskFault, Memory}
-use Rattle.store_spec.specs.Ballot.{Ballot}
-use Rattle.store_spec.specs.Election.{Election, IsElection, medium_size}
-use Rattle.store_spec.specs.Image.{IsImageOf}
-use Rattle.store_spec.specs.Medium.{Bank, HoldsSet, IsChosen, IsOpen, bank_of}
-use Rattle.store_spec.specs.Medium.Bank.{A, B}
 
 module _ (e : Election) (bytes : List ℕ) where
   -- both refusals are of one bank

@@ -1,7 +1,6 @@
 -- The runs of calls that make a medium canonical, and what they leave at each moment.
 use Rattle.std.proofs.Common.{◌≡◌, ℕ, List, Option, Some, None, true, refl, sym, ◌∙◌, ap, subst}
-use Rattle.std.proofs.lemmas.Bool.{false≢true}
-use Rattle.std.specs.Prelude.{Result, Ok, Err, OnOk, IfSome, is_some}
+use Rattle.store_spec.proofs.Common.{AddsNoCrashImage, Ballot, Bank, Election, Err, HoldsSet, HoldsTheSame, IfSome, IsElection, IsMediumOf, IsSettled, KeepsCrashImages, LeavesOnly, Ok, OnOk, Result, false≢true, image_of, is_some, leaves_now, other_bank}
 use Rattle.checkpoint.specs.Renewal.{IsRenewed, IsHalfRenewed}
 use Rattle.crash_disk.proofs.Moments.{joined, one_call, weaker}
 use Rattle.outside_io.specs.Told.{IfTold}
@@ -13,11 +12,6 @@ use Rattle.recovery.specs.ReadsOnly.{ReadsOnly, WritesNothing}
 use Rattle.recovery.specs.Refused.{IsUnchangedAt}
 use Rattle.recovery.specs.declared.fault.RecoverFault.{RecoverFault}
 use Rattle.recovery.specs.declared.fault.RecoverFault.TheVariants.{NoStore, OtherElection, Damaged, DiskFault, Memory}
-use Rattle.store_spec.specs.Ballot.{Ballot}
-use Rattle.store_spec.specs.Disk.{leaves_now, AddsNoCrashImage, IsSettled, KeepsCrashImages, LeavesOnly}
-use Rattle.store_spec.specs.Election.{Election, IsElection}
-use Rattle.store_spec.specs.Image.{image_of}
-use Rattle.store_spec.specs.Medium.{Bank, HoldsSet, HoldsTheSame, IsMediumOf, other_bank}
 
 -- no call that only reads changes the bytes, whatever it is answered with
 pub unchanged : (fault : RecoverFault) (old new : Option (List ℕ)) → new ≡ old → IsUnchangedAt fault old new

@@ -1,6 +1,6 @@
 -- A recovery that gives no store leaves the medium unharmed.
 use Rattle.std.proofs.Common.{◌≡◌, ℕ, List, Some, Result, Ok, Err, inl, inr, ◌∙◌, ◌⊎◌, ⊎_elim}
-use Rattle.std.specs.Prelude.{IfErr, IfSome}
+use Rattle.store_spec.proofs.Common.{AddsNoCrashImage, Ballot, Bank, DiskModel, Election, HoldsSet, IfErr, IfSome, LeavesOnly, leaves_now}
 use Rattle.crash_disk.proofs.Moments.{joined, one_call, weaker}
 use Rattle.outside_io.proofs.Told.{told_holds}
 use Rattle.recovery.proofs.Agreeing.{read_holds}
@@ -10,10 +10,6 @@ use Rattle.recovery.specs.ReadsOnly.{WritesNothing}
 use Rattle.recovery.specs.Refused.{HoldsSetOf, IsUnharmedAt}
 use Rattle.recovery.specs.declared.fault.RecoverFault.{RecoverFault}
 use Rattle.recovery.specs.declared.fault.RecoverFault.TheVariants.{NoStore, OtherElection, Damaged, DiskFault, Memory}
-use Rattle.store_spec.specs.Ballot.{Ballot}
-use Rattle.store_spec.specs.Disk.{AddsNoCrashImage, DiskModel, LeavesOnly, leaves_now}
-use Rattle.store_spec.specs.Election.{Election}
-use Rattle.store_spec.specs.Medium.{Bank, HoldsSet}
 
 -- what holds of every fault holds of the one that is answered
 pub each_fault : {T : Type 0} (r : Result T RecoverFault) (P : RecoverFault → Type 0) → ((fault : RecoverFault) → P fault)

@@ -10,6 +10,7 @@ ghost use Rattle.recovery.specs.Canonical.{IsChoice, IsReadAs, IsReadFrom};
 ghost use Rattle.recovery.specs.Differing.{IsFirstDifference};
 ghost use Rattle.recovery.specs.ReadsOnly.{WritesNothing};
 ghost use Rattle.recovery.specs.Refused.{IsRefusedMedium};
+ghost use Rattle.crash_disk.specs.MadeCalls.{MakesCalls};
 ghost use Rattle.store_spec.specs.Disk.{KeepsCrashImages};
 ghost use Rattle.store_spec.specs.Election.{IsElection, bank_size};
 ghost use Rattle.store_spec.specs.Fault.{CountsFault, CountsFaultIf};
@@ -38,10 +39,8 @@ pub fn look<D: Disk>(
     ensures refused { IfErr result
         (λ fault. IfSome (D.seen disk.old) (λ bytes. IsRefusedMedium election.now bytes fault)) }
     ensures reads { WritesNothing D.seen D.calls D.may_leave disk.old disk.new }
-    ensures later { D.calls disk.old ≤ D.calls disk.new }
-    ensures fault { CountsFaultIf (IsErrOf result RecoverFault.DiskFault)
-        (D.faults disk.old) (D.faults disk.new) }
-    ensures leads { D.leads_to disk.old disk.new }
+    ensures calls { MakesCalls D.seen D.calls D.faults D.leads_to (CountsFaultIf (IsErrOf result RecoverFault.DiskFault))
+        disk.old disk.new }
 {
     let (bank, _) = choose(disk, election)?;
     read_bank(alloc, disk, election, bank)
@@ -54,9 +53,8 @@ pub fn choose<D: Disk>(disk: &mut D, election: &Election) -> Result<(Bank, bool)
     ensures refused { IfErr result
         (λ fault. IfSome (D.seen disk.old) (λ bytes. IsRefusedMedium election.now bytes fault)) }
     ensures reads { WritesNothing D.seen D.calls D.may_leave disk.old disk.new }
-    ensures fault { CountsFaultIf (IsErrOf result RecoverFault.DiskFault)
-        (D.faults disk.old) (D.faults disk.new) }
-    ensures leads { D.leads_to disk.old disk.new }
+    ensures calls { MakesCalls D.seen D.calls D.faults D.leads_to (CountsFaultIf (IsErrOf result RecoverFault.DiskFault))
+        disk.old disk.new }
 {
     if disk.size()? != election.medium_bytes() {
         return Err(RecoverFault::NoStore);
@@ -85,9 +83,8 @@ pub fn read_bank<D: Disk>(
     ensures refused { IfErr result
         (λ fault. IfSome (D.seen disk.old) (λ bytes. IsRefusedMedium election.now bytes fault)) }
     ensures reads { WritesNothing D.seen D.calls D.may_leave disk.old disk.new }
-    ensures fault { CountsFaultIf (IsErrOf result RecoverFault.DiskFault)
-        (D.faults disk.old) (D.faults disk.new) }
-    ensures leads { D.leads_to disk.old disk.new }
+    ensures calls { MakesCalls D.seen D.calls D.faults D.leads_to (CountsFaultIf (IsErrOf result RecoverFault.DiskFault))
+        disk.old disk.new }
 {
     let mut cells = CellsRead::new(alloc, election)?;
     let mut made = zeros(alloc, election)?;
@@ -114,9 +111,8 @@ fn read_pages<D: Disk>(
     ensures refused { IfErr result
         (λ fault. IfSome (D.seen disk.old) (λ bytes. IsRefusedMedium election.now bytes fault)) }
     ensures reads { WritesNothing D.seen D.calls D.may_leave disk.old disk.new }
-    ensures fault { CountsFaultIf (IsErrOf result RecoverFault.DiskFault)
-        (D.faults disk.old) (D.faults disk.new) }
-    ensures leads { D.leads_to disk.old disk.new }
+    ensures calls { MakesCalls D.seen D.calls D.faults D.leads_to (CountsFaultIf (IsErrOf result RecoverFault.DiskFault))
+        disk.old disk.new }
 {
     let end = made.len();
     let mut at = 0;
@@ -154,8 +150,7 @@ pub fn first_difference<D: Disk>(
         (λ bytes. IsFirstDifference (bytes_of election.now bank bytes) made.now first)) }
     ensures within { IfOk result (λ first. IfSome first (λ at. at < bank_size election.now)) }
     ensures reads { WritesNothing D.seen D.calls D.may_leave disk.old disk.new }
-    ensures fault { CountsFault result (D.faults disk.old) (D.faults disk.new) }
-    ensures leads { D.leads_to disk.old disk.new }
+    ensures calls { MakesCalls D.seen D.calls D.faults D.leads_to (CountsFault result) disk.old disk.new }
 {
     let end = made.len();
     let mut at = 0;
@@ -185,8 +180,7 @@ pub(crate) fn has_bytes<D: Disk>(
     ensures bytes { IfOk result (λ same. IfSome (D.seen disk.old)
         (λ bytes. IsTrue same ↔ (bytes_of election.now bank bytes ≡ made.now))) }
     ensures reads { WritesNothing D.seen D.calls D.may_leave disk.old disk.new }
-    ensures fault { CountsFault result (D.faults disk.old) (D.faults disk.new) }
-    ensures leads { D.leads_to disk.old disk.new }
+    ensures calls { MakesCalls D.seen D.calls D.faults D.leads_to (CountsFault result) disk.old disk.new }
 {
     Ok(first_difference(disk, election, bank, made, found)?.is_none())
 }
@@ -208,8 +202,7 @@ fn page_difference<D: Disk>(
     ensures within { IfOk result (λ first. IfSome first (λ place. place < length page.now)) }
     ensures same_bytes { D.seen disk.new ≡ D.seen disk.old }
     ensures crash_images { KeepsCrashImages D.calls D.may_leave disk.old disk.new }
-    ensures fault { CountsFault result (D.faults disk.old) (D.faults disk.new) }
-    ensures leads { D.leads_to disk.old disk.new }
+    ensures calls { MakesCalls D.seen D.calls D.faults D.leads_to (CountsFault result) disk.old disk.new }
 {
     read_page(disk, election, bank, at, found)?;
     Ok(first_differing(found, page))

@@ -9,6 +9,7 @@ ghost use Rattle.image_builder.specs.Page.{page_size};
 ghost use Rattle.recovery.specs.Canonical.{IsReadFrom};
 ghost use Rattle.recovery.specs.ReadsOnly.{ReadsOnly};
 ghost use Rattle.recovery.specs.Refused.{IsRefusedMedium, IsUnchangedAt, IsUnharmedAt};
+ghost use Rattle.crash_disk.specs.MadeCalls.{MakesCalls};
 ghost use Rattle.store_spec.specs.Ballot.{Ballot};
 ghost use Rattle.store_spec.specs.Disk.{disk_model, IsSettled, LeavesOnly, LeavesOnlyOnceSynced, SyncsFirst};
 ghost use Rattle.store_spec.specs.Election.{IsElection, bank_size};
@@ -50,7 +51,6 @@ pub fn recover<D: Disk>(
     ensures unharmed { IfErr result (λ fault. (bytes : List ℕ) → D.seen disk.old ≡ Some bytes
         → IsUnharmedAt (disk_model D.seen D.calls D.may_leave D.faults) election.now bytes fault
         disk.old disk.new) }
-    ensures told { is_some (D.seen disk.new) ≡ is_some (D.seen disk.old) }
     ensures any_moment { (bytes : List ℕ) → D.seen disk.old ≡ Some bytes
         → SyncsFirst D.calls D.may_leave disk.old disk.new (HoldsTheSame election.now bytes) }
     ensures once_synced { OnOk result ((bytes : List ℕ) → D.seen disk.old ≡ Some bytes
@@ -62,11 +62,9 @@ pub fn recover<D: Disk>(
         → IsSettled D.seen D.calls D.may_leave disk.old → D.seen disk.old ≡ Some bytes
         → IsMediumOf election.now bytes set
         → ReadsOnly D.seen D.calls D.may_leave disk.old disk.new }
-    ensures later { D.calls disk.old ≤ D.calls disk.new }
     ensures called { D.calls disk.new < last_count → D.calls disk.old < D.calls disk.new }
-    ensures fault { CountsFaultIf (IsErrOf result RecoverFault.DiskFault)
-        (D.faults disk.old) (D.faults disk.new) }
-    ensures leads { D.leads_to disk.old disk.new }
+    ensures calls { MakesCalls D.seen D.calls D.faults D.leads_to (CountsFaultIf (IsErrOf result RecoverFault.DiskFault))
+        disk.old disk.new }
 {
     settle(disk)?;
     restore(alloc, disk, election, scratch)
@@ -87,7 +85,6 @@ fn restore<D: Disk>(
     ensures stored { IfOk result IsStored }
     ensures medium { IfOk result (λ store. AsTold D.seen disk.old disk.new
         (λ _ bytes. IsMediumOf election.now bytes store.ballots)) }
-    ensures told { is_some (D.seen disk.new) ≡ is_some (D.seen disk.old) }
     ensures refused { IfErr result
         (λ fault. IfSome (D.seen disk.old) (λ bytes. IsRefusedMedium election.now bytes fault)) }
     ensures unchanged { IfErr result
@@ -100,10 +97,8 @@ fn restore<D: Disk>(
     ensures canonical { (bytes : List ℕ) (set : List Ballot) → D.seen disk.old ≡ Some bytes
         → IsMediumOf election.now bytes set
         → ReadsOnly D.seen D.calls D.may_leave disk.old disk.new }
-    ensures later { D.calls disk.old ≤ D.calls disk.new }
-    ensures fault { CountsFaultIf (IsErrOf result RecoverFault.DiskFault)
-        (D.faults disk.old) (D.faults disk.new) }
-    ensures leads { D.leads_to disk.old disk.new }
+    ensures calls { MakesCalls D.seen D.calls D.faults D.leads_to (CountsFaultIf (IsErrOf result RecoverFault.DiskFault))
+        disk.old disk.new }
 {
     let (bank, open_too) = choose(disk, election)?;
     let closed = read_bank(alloc, disk, election, bank)?;
@@ -142,16 +137,13 @@ pub fn make_canonical<D: Disk>(
         → OnOk result (AsTold D.seen disk.old disk.new
         (λ _ bytes. IsMediumOf election.now bytes set)) }
     ensures settled { OnOk result (IsSettled D.seen D.calls D.may_leave disk.new) }
-    ensures told { is_some (D.seen disk.new) ≡ is_some (D.seen disk.old) }
     ensures any_moment { (bytes : List ℕ) (set : List Ballot) → D.seen disk.old ≡ Some bytes
         → IsImageOf election.now made.now set
         → LeavesOnly D.calls D.may_leave disk.old disk.new (λ c. HoldsSet election.now c set) }
     ensures canonical { (bytes : List ℕ) (set : List Ballot) → D.seen disk.old ≡ Some bytes
         → IsMediumOf election.now bytes set
         → ReadsOnly D.seen D.calls D.may_leave disk.old disk.new }
-    ensures later { D.calls disk.old ≤ D.calls disk.new }
-    ensures fault { CountsFault result (D.faults disk.old) (D.faults disk.new) }
-    ensures leads { D.leads_to disk.old disk.new }
+    ensures calls { MakesCalls D.seen D.calls D.faults D.leads_to (CountsFault result) disk.old disk.new }
 {
     let other = other_of(bank);
     if !open_too {

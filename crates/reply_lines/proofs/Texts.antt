@@ -1,15 +1,11 @@
 -- Lines that are written one after another.
 use Rattle.std.proofs.Common.{◌≡◌, ℕ, zero, suc, ◌+◌, ◌^◌, ◌<◌, ◌≤◌, Some, List, [], ◌∷◌, ◌++◌, length, get_or, drop, take, length-append, refl, sym, ap, ◌∙◌, add-one, arith}
-use Rattle.std.proofs.Math.Seq.{drop-cons, drop-length}
-use Rattle.std.proofs.lemmas.List.{append-nil, append_assoc, length-take-le, take_at}
-use Rattle.std.proofs.lemmas.Option.{slice_get-get_or}
+use Rattle.store_spec.proofs.Common.{all_reply_lines, append-nil, append_assoc, decimal, length-take-le, reply_line, reply_lines, slice_get, slice_get-get_or, take_at}
+use Rattle.std.proofs.Math.Seq.{drop-cons}
 use Rattle.std.proofs.lemmas.Fmt.{IsAscii-decimal}
 use Rattle.std.proofs.lemmas.Str.{IsUtf8-append, IsUtf8-from_ascii}
 use borrow.Rule.Slice.PartMut.{post_of, put_mid}
-use Rattle.std.specs.Fmt.{decimal}
-use Rattle.std.specs.Prelude.{slice_get}
 use Rattle.std.specs.Str.{IsAscii, IsUtf8}
-use Rattle.store_spec.specs.Session.{all_reply_lines, reply_line, reply_lines}
 
 -- one more piece of what is to be written
 pub one_written : (before piece now rest behind whole : List ℕ) → before ++ rest ≡ whole → rest ≡ piece ++ behind → now ≡ before ++ piece → now ++ behind ≡ whole

@@ -1,13 +1,9 @@
 -- The words of further media.
 use Rattle.std.proofs.Common.{◌≡◌, ◌≢◌, ℕ, zero, suc, ◌+◌, ◌<◌, ◌≤◌, List, [], ◌∷◌, ◌++◌, length, get_or, map, take, Bool, true, false, not, Global, refl, sym, ap, subst, ◌∙◌, arith}
+use Rattle.store_spec.proofs.Common.{All-push, Any-from_list_any, Contains, all_pairs_push, bytes_eq-Decides, get_or-map, get_or-take, get_or_default, length-map, length-take, list_any, list_any_at, string_bytes, take_all, take_more}
 use Rattle.clap.proofs.WalkLemmas.{list_any-map}
-use Rattle.std.proofs.lemmas.List.{get_or-map, get_or-take, get_or_default, length-map, length-take, take-map, take_all, take_more}
-use Rattle.std.proofs.lemmas.List.Elements.{All-push}
-use Rattle.std.proofs.lemmas.List.Folds.{Any-from_list_any, list_any_at}
-use Rattle.std.proofs.lemmas.List.Quantifiers.{all_pairs_push}
-use Rattle.std.proofs.lemmas.Slice.Eq.{bytes_eq-Decides}
-use Rattle.std.specs.List.{Contains, list_any}
-use Rattle.std.specs.Prelude.{String, bytes_eq, string_bytes}
+use Rattle.std.proofs.lemmas.List.{take-map}
+use Rattle.std.specs.Prelude.{String, bytes_eq}
 use Rattle.run_command.specs.Command.{MayFollow}
 use Rattle.run_outcome.specs.Row.{AreMediaIf, IsPlain}
 

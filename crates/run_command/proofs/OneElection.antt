@@ -1,5 +1,6 @@
 -- The text of an election decides how a run ends that it ends, but for faults and want of memory.
 use Rattle.std.proofs.Common.{◌≡◌, ℕ, ◌<◌, ◌≤◌, List, length, Some, refl, arith}
+use Rattle.store_spec.proofs.Common.{Election}
 use Rattle.run_command.specs.ElectionText.{GivesElection, RefusesElection, election_limit}
 use Rattle.run_outcome.proofs.Laws.{not_risen}
 use Rattle.run_outcome.specs.Status.{IsDecided}
@@ -10,7 +11,6 @@ use Rattle.run_outcome.specs.declared.status.Which.TheVariants as which
 use Rattle.election_def.specs.Text.{Describes, IsElectionText}
 use Rattle.outside_io.proofs.Told.{told_at}
 use Rattle.outside_io.specs.Outside.{Input}
-use Rattle.store_spec.specs.Election.{Election}
 
 -- the status that the text of an election decides
 abbrev pub DecidesElection : List ℕ → Status → Type 0

@@ -13,7 +13,7 @@ use Rattle.merge_commands.proofs.MergeLaws.{merge_laws}
 use Rattle.merge_commands.specs.Merge.{AreFew, merge_row}
 use Rattle.migrate_commands.proofs.MigrateLaws.{migrate_laws}
 use Rattle.part_commands.proofs.PartLaws.{part_laws}
-use Rattle.part_commands.specs.Part.{AreParts, part_row}
+use Rattle.part_commands.specs.Part.{ArePartWords, part_row}
 use Rattle.partition_store.specs.Parted.{AreFurther}
 use Rattle.run_outcome.proofs.Laws.{Laws}
 use Rattle.run_outcome.specs.Row.{AreMediaIf, IsNamed, IsOne}
@@ -88,7 +88,7 @@ no_media few = absurd (omega (arith, few.some))
 none_further : IsOne [] → ⊥
 none_further one = absurd (omega (arith, one))
 
-no_parts : AreParts [] → ⊥
+no_parts : ArePartWords [] → ⊥
 no_parts parts = ⊎_elim
     (λ (one : 0 ≡ 1). absurd (omega (arith, one)))
     (λ more. ⊎_elim

@@ -1,5 +1,6 @@
 -- The laws of all commands, from those of their rows.
 use Rattle.std.proofs.Common.{◌≡◌, ℕ, List, ◌∷◌, Some, ◌⊎◌, inl, inr, ⊎_elim, sym, subst, ◌∙◌}
+use Rattle.store_spec.proofs.Common.{DiskModel, Election, IsElection}
 use Rattle.std.specs.Prelude.{◌≢◌, IsSome}
 use Rattle.run_command.proofs.OneElection.{election_decides_one, election_or_memory, none_refused, refusal_decides}
 use Rattle.run_command.proofs.Rows.{further_of, laws, one_row}
@@ -15,8 +16,6 @@ use Rattle.run_outcome.specs.Status.{IsDecided}
 use Rattle.run_outcome.specs.World.{IsSteady, Reported, World}
 use Rattle.run_outcome.specs.declared.status.Status.{Status}
 use Rattle.run_outcome.specs.declared.status.Status.TheVariants as status
-use Rattle.store_spec.specs.Disk.{DiskModel}
-use Rattle.store_spec.specs.Election.{Election, IsElection}
 
 -- ---- the words
 

@@ -1,14 +1,12 @@
 -- How far the text of an election has been read.
 use Rattle.std.proofs.Common.{◌≡◌, ℕ, ◌+◌, ◌-◌, ◌<◌, ◌≤◌, List, [], ◌++◌, length, take, Option, refl, ap, sym, subst, ◌∙◌, arith, append_assoc, Result, Ok, Err}
-use Rattle.std.proofs.lemmas.List.{append-nil, length-append, length-take}
-use Rattle.std.specs.Prelude.{IfErr, IfSome, IsErrAnd, slice_range}
+use Rattle.store_spec.proofs.Common.{Election, IfErr, IfSome, IsErrAnd, append-nil, length-append, length-take, slice_range}
 use Rattle.run_command.specs.ElectionText.{election_limit, IsElectionRead, IsNoElectionRead, IsWhole}
 use Rattle.run_outcome.specs.declared.status.Status.{Status}
 use Rattle.election_def.specs.Text.{Describes, IsElectionText}
 use Rattle.outside_io.proofs.Told.{told_as, told_given, told_holds, told_on, told_still}
 use Rattle.outside_io.specs.Stream.{Gives, GivesAtMost, GivesExactly}
 use Rattle.outside_io.specs.Told.{IfTold}
-use Rattle.store_spec.specs.Election.{Election}
 
 -- this text of the source was read, and the rest is left
 abbrev pub HasTaken : List ℕ → List ℕ → List ℕ → Type 0

@@ -5,7 +5,7 @@ ghost use Rattle.std.specs.Prelude.{◌≡◌, ◌↔◌, [], IsTrue, ◌≤◌,
 ghost use Rattle.run_command.specs.Command.{Forms, FormNone, MayFollow, row};
 ghost use Rattle.large_options.specs.Options.{AreOptions};
 ghost use Rattle.merge_commands.specs.Merge.{merge_row};
-ghost use Rattle.part_commands.specs.Part.{AreParts, part_row};
+ghost use Rattle.part_commands.specs.Part.{ArePartWords, part_row};
 ghost use Rattle.run_outcome.specs.Row.{AreMediaIf, IsNamed, IsOne, IsPlain};
 ghost use Rattle.sample_commands.specs.Asked.{IsAsked};
 ghost use Rattle.sample_commands.specs.declared.asked.Asked.{Asked};
@@ -165,7 +165,7 @@ fn if_one_medium(medium: &str, words: &[String], command: Command) -> Option<Com
 
 /// Whether there is a word for each medium of a store in parts but the first.
 fn are_as_parts(words: &[String]) -> bool
-    ensures { IsTrue result ↔ AreParts (map string_bytes words.now) }
+    ensures { IsTrue result ↔ ArePartWords (map string_bytes words.now) }
 {
     matches!(words.len(), 1 | 3 | 7)
 }

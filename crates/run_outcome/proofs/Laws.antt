@@ -1,15 +1,12 @@
 -- The laws of a row, and what their proofs share.
 use Rattle.std.proofs.Common.{◌≡◌, ◌<◌, ◌⊎◌, ℕ, List, Option, Some, Result, Ok as Fine, Err, arith, sym, subst}
+use Rattle.store_spec.proofs.Common.{CountsFault, DiskModel, Election, IfErr, IsElection, IsErrAnd, OnErr, OnOk, Rose, last_count}
 use Rattle.std.specs.Option.{IfSome}
-use Rattle.std.specs.Prelude.{IfErr, IsErrAnd, OnErr, OnOk}
 use Rattle.run_outcome.specs.Row.{Content, NothingFailed, Row, Tells}
 use Rattle.run_outcome.specs.Status.{IsDecided, ended}
 use Rattle.run_outcome.specs.World.{IsSteady, Reported, World}
 use Rattle.run_outcome.specs.declared.status.Status.{Status}
 use Rattle.run_outcome.specs.declared.status.Status.TheVariants.{Ok, Memory, Usage, WriteFault}
-use Rattle.store_spec.specs.Disk.{DiskModel}
-use Rattle.store_spec.specs.Election.{Election, IsElection}
-use Rattle.store_spec.specs.Fault.{CountsFault, Rose, last_count}
 
 -- What is proved of each row. What a command reads is the cause of its status, but for faults and want of memory, and
 -- is the cause of one status alone; a fault comes only where a count rose; where nothing stands against a command the

@@ -1,3 +1,4 @@
 pub mod Row
 pub mod Status
+pub mod StatusText
 pub mod World

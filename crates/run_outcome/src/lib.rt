@@ -2,7 +2,7 @@
 #![tactic(auto)]
 
 mod status;
-mod telling;
+mod writing;
 
 pub use status::{Status, Which};
-pub use telling::tell;
+pub use writing::write_out;

@@ -67,7 +67,7 @@ pub enum Status {
 }
 
 impl Status {
-    ghost use Rattle.run_outcome.specs.Status.{exit_status};
+    ghost use Rattle.run_outcome.specs.StatusText.{exit_status};
 
     /// The exit status of the program.
     pub fn number(&self) -> u8
@@ -114,7 +114,7 @@ impl From<Memory> for Status {
 
 impl fmt::Display for Status {
     ghost use Rattle.std.specs.Prelude.{Some};
-    ghost use Rattle.run_outcome.specs.Status.{status_text};
+    ghost use Rattle.run_outcome.specs.StatusText.{status_text};
 
     ghost output = { λ status. Some (status_text status) };
 

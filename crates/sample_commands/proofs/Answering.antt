@@ -1,45 +1,38 @@
 -- One more line is answered.
 use Rattle.std.proofs.Common.{◌≡◌, ◌≢◌, ℕ, zero, suc, ◌<◌, ◌⊎◌, inl, inr, ⊎_elim, List, [], ◌∷◌, ◌++◌, Bool, true, false, length, take, Some, None, refl, sym, ap, subst, ◌∙◌, arith, not, take_at, ◌==◌, ◌||◌}
-use Rattle.std.proofs.lemmas.Bool.{cases_eq, cases_lt, eq-eqb, ne_eqb}
-use Rattle.std.proofs.lemmas.List.{get_or_append_left, length-append, take-append-le}
-use Rattle.std.proofs.lemmas.List.Elements.{Contains-push_cases}
-use Rattle.std.proofs.lemmas.List.Kept.{AllPairs-filter}
+use Rattle.store_spec.proofs.Common.{AllPairs, AllPairs-filter, Ballot, Contains, Contains-push_cases, Election, Spells, ballots_without, cases_eq, cases_lt, eq-eqb, get_or_append_left, length-append, list_any, ne_eqb, take-append-le}
 use Rattle.std.proofs.lemmas.List.Quantifiers.{Any-push}
-use Rattle.std.specs.List.{AllPairs, Contains, list_any, slice_get}
+use Rattle.std.specs.List.{slice_get}
 use Rattle.ballot_record.proofs.BallotNumbers.{ballot_with, contains_number}
 use Rattle.ballot_record.proofs.LineLaws.{one_ballot}
-use Rattle.store_spec.specs.Ballot.{Ballot}
-use Rattle.store_spec.specs.BallotLine.{Spells}
-use Rattle.store_spec.specs.Election.{Election}
-use Rattle.store_spec.specs.Session.{ballots_without}
 use Rattle.ticket_sample.proofs.Samples.{among_passing, passing_among}
-use Rattle.ticket_sample.specs.Compared.{Answered, AreAnswered, AreMissing, IsComparison, IsOfNumber, IsReply, IsReplyTo, WasCompared}
-use Rattle.ticket_sample.specs.Comparing.{IsDone, Takes}
+use Rattle.ticket_sample.specs.Compared.{AnsweredLine, AreAnswered, AreMissing, IsCompareReply, IsComparison, IsOfNumber, IsReplyTo, WasCompared}
+use Rattle.ticket_sample.specs.Comparing.{IsNoneOfRest, Takes}
 use Rattle.ticket_sample.specs.declared.compare.CompareReply.{CompareReply}
 use Rattle.ticket_sample.specs.declared.compare.CompareReply.TheVariants.{Malformed, Invalid, Outside, Repeated, Match, Differs}
 
 -- ---- the numbers that were compared
 
 -- the lines so far, one of them with this number and the outcome of a comparison
-compared_more : (e : Election) (answers : List Answered) (one : Answered) (number : ℕ) → WasCompared e answers number → WasCompared e (answers ++ one ∷ []) number
+compared_more : (e : Election) (answers : List AnsweredLine) (one : AnsweredLine) (number : ℕ) → WasCompared e answers number → WasCompared e (answers ++ one ∷ []) number
 compared_more e answers one number was =
     (was.0, was.1, omega (arith, was.2, length-append answers (one ∷ [])), get_or_append_left answers (one ∷ []) was.1 was.0 was.2 ∙ was.3, was.4)
 
-compared_now : (e : Election) (answers : List Answered) (one : Answered) (number : ℕ) → IsOfNumber e one.line number → IsComparison one.reply → WasCompared e (answers ++ one ∷ []) number
+compared_now : (e : Election) (answers : List AnsweredLine) (one : AnsweredLine) (number : ℕ) → IsOfNumber e one.line number → IsComparison one.reply → WasCompared e (answers ++ one ∷ []) number
 compared_now e answers one number of is = Any-push (λ one. IsOfNumber e one.line number × IsComparison one.reply) answers one (of, is)
 
-compared_cases : (e : Election) (answers : List Answered) (one : Answered) (number : ℕ) → WasCompared e (answers ++ one ∷ []) number → WasCompared e answers number ⊎ (IsOfNumber e one.line number × IsComparison one.reply)
+compared_cases : (e : Election) (answers : List AnsweredLine) (one : AnsweredLine) (number : ℕ) → WasCompared e (answers ++ one ∷ []) number → WasCompared e answers number ⊎ (IsOfNumber e one.line number × IsComparison one.reply)
 compared_cases e answers one number was =
     elim (Contains-push_cases answers one was.1 (was.0, was.2, was.3)) [
       | inl before ↦ inl (before.0, was.1, before.1, before.2, was.4)
-      | inr now ↦ inr (subst (λ (x : Answered). IsOfNumber e x.line number × IsComparison x.reply) (sym now) was.4)
+      | inr now ↦ inr (subst (λ (x : AnsweredLine). IsOfNumber e x.line number × IsComparison x.reply) (sym now) was.4)
     ]
 
 -- ---- the rest of the sample
 
 -- After these answers these ballots of the sample are left: each ballot is one of them, or a line of its number was
 -- compared.
-pub record Leaves (e : Election) (sample : List Ballot) (answers : List Answered) (rest : List Ballot) : Type 0 where
+pub record Leaves (e : Election) (sample : List Ballot) (answers : List AnsweredLine) (rest : List Ballot) : Type 0 where
   pub ascending : AllPairs (λ a b. a.number < b.number) rest
   pub split : (b : Ballot) → Contains sample b → Contains rest b ⊎ WasCompared e answers b.number
   pub left : (b : Ballot) → Contains rest b → Contains sample b × ¬ WasCompared e answers b.number
@@ -51,7 +44,7 @@ none_answered e sample rest up same = subst (Leaves e sample []) (sym same) (rec
   left = λ b c. (c, λ was. omega (arith, was.2));
 })
 
-pub are_missing : (e : Election) (sample : List Ballot) (answers : List Answered) (rest : List Ballot) (missing : ℕ) → Leaves e sample answers rest → missing ≡ length rest → AreMissing e sample answers missing
+pub are_missing : (e : Election) (sample : List Ballot) (answers : List AnsweredLine) (rest : List Ballot) (missing : ℕ) → Leaves e sample answers rest → missing ≡ length rest → AreMissing e sample answers missing
 are_missing e sample answers rest missing leaves counted = record {
   rest = rest;
   ascending = leaves.ascending;
@@ -60,7 +53,7 @@ are_missing e sample answers rest missing leaves counted = record {
 }
 
 -- the line was not compared: the rest stays
-stays : (e : Election) (sample : List Ballot) (answers : List Answered) (one : Answered) (rest : List Ballot) → Leaves e sample answers rest → ¬ IsComparison one.reply → Leaves e sample (answers ++ one ∷ []) rest
+stays : (e : Election) (sample : List Ballot) (answers : List AnsweredLine) (one : AnsweredLine) (rest : List Ballot) → Leaves e sample answers rest → ¬ IsComparison one.reply → Leaves e sample (answers ++ one ∷ []) rest
 stays e sample answers one rest leaves not_compared = record {
   ascending = leaves.ascending;
   split = λ b c. ⊎_elim inl (λ was. inr (compared_more e answers one b.number was)) (leaves.split b c);
@@ -77,7 +70,7 @@ not_other : (number : ℕ) (b : Ballot) → other_than number b ≡ true → num
 not_other number b is same = let clash : false ≡ true = sym (ap (λ one. not (one || false)) (eq-eqb number b.number same)) ∙ is in cc
 
 -- a line of this ballot was compared: its number is taken away
-taken : (e : Election) (sample : List Ballot) (answers : List Answered) (bytes : List ℕ) (reply : CompareReply) (b : Ballot) (rest : List Ballot) → Leaves e sample answers rest → Spells e bytes b → IsComparison reply
+taken : (e : Election) (sample : List Ballot) (answers : List AnsweredLine) (bytes : List ℕ) (reply : CompareReply) (b : Ballot) (rest : List Ballot) → Leaves e sample answers rest → Spells e bytes b → IsComparison reply
     → Leaves e sample (answers ++ record { line = Some bytes; reply = reply } ∷ []) (ballots_without rest (b.number ∷ []))
 taken e sample answers bytes reply b rest leaves spells is = record {
   ascending = AllPairs-filter (λ a b. a.number < b.number) (other_than b.number) rest leaves.ascending;
@@ -97,11 +90,11 @@ taken e sample answers bytes reply b rest leaves spells is = record {
             (compared_cases e answers one x.number was),
       );
 } where
-  one : Answered
+  one : AnsweredLine
   one = record { line = Some bytes; reply = reply }
 
 -- a line was answered, whatever the reply
-pub leaves_more : (e : Election) (sample : List Ballot) (answers : List Answered) (bytes : List ℕ) (reply : CompareReply) (old new : List Ballot) → Leaves e sample answers old → Takes e bytes reply old new
+pub leaves_more : (e : Election) (sample : List Ballot) (answers : List AnsweredLine) (bytes : List ℕ) (reply : CompareReply) (old new : List Ballot) → Leaves e sample answers old → Takes e bytes reply old new
     → Leaves e sample (answers ++ record { line = Some bytes; reply = reply } ∷ []) new
 leaves_more e sample answers bytes Match old new leaves takes =
     subst (Leaves e sample (answers ++ record { line = Some bytes; reply = Match } ∷ [])) (sym takes.2) (taken e sample answers bytes Match takes.0 old leaves takes.1 tt)
@@ -112,13 +105,13 @@ leaves_more e sample answers bytes Invalid old new leaves takes = subst (Leaves 
 leaves_more e sample answers bytes Outside old new leaves takes = subst (Leaves e sample (answers ++ record { line = Some bytes; reply = Outside } ∷ [])) (sym takes) (stays e sample answers (record { line = Some bytes; reply = Outside }) old leaves (λ is. is))
 leaves_more e sample answers bytes Repeated old new leaves takes = subst (Leaves e sample (answers ++ record { line = Some bytes; reply = Repeated } ∷ [])) (sym takes) (stays e sample answers (record { line = Some bytes; reply = Repeated }) old leaves (λ is. is))
 
-pub leaves_wide : (e : Election) (sample : List Ballot) (answers : List Answered) (rest : List Ballot) → Leaves e sample answers rest → Leaves e sample (answers ++ record { line = None; reply = Malformed } ∷ []) rest
+pub leaves_wide : (e : Election) (sample : List Ballot) (answers : List AnsweredLine) (rest : List Ballot) → Leaves e sample answers rest → Leaves e sample (answers ++ record { line = None; reply = Malformed } ∷ []) rest
 leaves_wide e sample answers rest leaves = stays e sample answers (record { line = None; reply = Malformed }) rest leaves (λ is. is)
 
 -- ---- the reply to a line
 
 -- which numbers were compared is told by the rest, for those of the sample
-pub reply_right : (e : Election) (sample : List Ballot) (answers : List Answered) (rest : List Ballot) (bytes : List ℕ) (reply : CompareReply) → Leaves e sample answers rest → IsReplyTo e sample (IsDone rest) bytes reply → IsReplyTo e sample (WasCompared e answers) bytes reply
+pub reply_right : (e : Election) (sample : List Ballot) (answers : List AnsweredLine) (rest : List Ballot) (bytes : List ℕ) (reply : CompareReply) → Leaves e sample answers rest → IsReplyTo e sample (IsNoneOfRest rest) bytes reply → IsReplyTo e sample (WasCompared e answers) bytes reply
 reply_right e sample answers rest bytes Malformed leaves is = is
 reply_right e sample answers rest bytes Invalid leaves is = is
 reply_right e sample answers rest bytes Outside leaves is = is
@@ -154,17 +147,17 @@ get_last (x ∷ xs) y = get_last xs y
 pub answered_none : (e : Election) (sample : List Ballot) → AreAnswered e sample []
 answered_none e sample place one is = absurd (let short = no_place [] one place is in omega (arith, short))
 
-pub answered_more : (e : Election) (sample : List Ballot) (answers : List Answered) (one : Answered) → AreAnswered e sample answers → IsReply e sample answers one → AreAnswered e sample (answers ++ one ∷ [])
+pub answered_more : (e : Election) (sample : List Ballot) (answers : List AnsweredLine) (one : AnsweredLine) → AreAnswered e sample answers → IsCompareReply e sample answers one → AreAnswered e sample (answers ++ one ∷ [])
 answered_more e sample answers one right reply place found is =
     let within = no_place (answers ++ one ∷ []) found place is in
     elim (cases_lt place (length answers)) [
       | inl before ↦
-          subst (λ (front : List Answered). IsReply e sample front found) (sym (take-append-le place answers (one ∷ []) (omega arith)))
+          subst (λ (front : List AnsweredLine). IsCompareReply e sample front found) (sym (take-append-le place answers (one ∷ []) (omega arith)))
           (right place found (sym (get_before answers one place before) ∙ is))
       | inr behind ↦
           let last : place ≡ length answers = omega (arith, within, length-append answers (one ∷ []), behind) in
           let same : Some one ≡ Some found = sym (get_last answers one) ∙ ap (slice_get (answers ++ one ∷ [])) (sym last) ∙ is in
           let found_is : one ≡ found = cc in
-          subst (λ (x : Answered). IsReply e sample (take place (answers ++ one ∷ [])) x) found_is
-          (subst (λ (front : List Answered). IsReply e sample front one) (sym (ap (λ n. take n (answers ++ one ∷ [])) last ∙ take_at answers (one ∷ []) (length answers) refl)) reply)
+          subst (λ (x : AnsweredLine). IsCompareReply e sample (take place (answers ++ one ∷ [])) x) found_is
+          (subst (λ (front : List AnsweredLine). IsCompareReply e sample front one) (sym (ap (λ n. take n (answers ++ one ∷ [])) last ∙ take_at answers (one ∷ []) (length answers) refl)) reply)
     ]

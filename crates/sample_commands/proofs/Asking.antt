@@ -1,7 +1,6 @@
 -- Words ask for one sample at most.
-use Rattle.std.proofs.Common.{◌≡◌, ℕ, ◌-◌, ◌≤◌, List, [], ◌∷◌, ◌++◌, length, replicate, refl, sym, ap, ◌∙◌, arith}
-use Rattle.std.proofs.lemmas.Fmt.{decimal_injective}
-use Rattle.std.specs.Fmt.{decimal}
+use Rattle.std.proofs.Common.{◌≡◌, ℕ, ◌-◌, List, [], ◌∷◌, ◌++◌, length, replicate, sym, ap, ◌∙◌, arith}
+use Rattle.store_spec.proofs.Common.{decimal_injective}
 use Rattle.sample_commands.specs.Asked.{IsAsked, most_dice}
 use Rattle.sample_commands.specs.declared.asked.Asked.{Asked}
 

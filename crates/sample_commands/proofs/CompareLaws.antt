@@ -1,5 +1,6 @@
 -- The laws of `compare`: a script and the bytes of a disk decide how it ends, but for faults and want of memory.
 use Rattle.std.proofs.Common.{◌≡◌, ◌⊎◌, ℕ, ◌<◌, ◌≤◌, List, length, Some, inl, inr, ⊎_elim, refl, arith, sym, ◌∙◌}
+use Rattle.store_spec.proofs.Common.{Ballot, DiskModel, Election, HoldsSet, HoldsSome, IsElection, script_limit}
 use Rattle.medium_commands.proofs.Refusing.{Refuses, not_both, one_refused}
 use Rattle.outside_io.proofs.Told.{told_at}
 use Rattle.outside_io.specs.Outside.{Outside}
@@ -11,13 +12,8 @@ use Rattle.run_outcome.specs.declared.status.Status.{Status}
 use Rattle.run_outcome.specs.declared.status.Status.TheVariants as status
 use Rattle.run_outcome.specs.declared.status.Which.TheVariants as which
 use Rattle.sample_commands.proofs.Deciding.{none_decides}
-use Rattle.sample_commands.specs.Compare.{Compares, ComparesNone, LinesEnd, compare_row}
+use Rattle.sample_commands.specs.Compare.{ComparesLines, ComparesNone, LinesEnd, compare_row}
 use Rattle.sample_commands.specs.declared.asked.Asked.{Asked}
-use Rattle.store_spec.specs.Ballot.{Ballot}
-use Rattle.store_spec.specs.Disk.{DiskModel}
-use Rattle.store_spec.specs.Election.{Election, IsElection}
-use Rattle.store_spec.specs.Input.{script_limit}
-use Rattle.store_spec.specs.Medium.{HoldsSet, HoldsSome}
 
 -- the status that a script and a disk decide, and why
 abbrev pub CompareDecides : Election → List ℕ → List ℕ → Status → Type 0
@@ -61,7 +57,7 @@ none_settled model e asked status.Memory before after none ends = inr refl
 none_settled model e asked other before after none ends = inl tt
 
 some_settled : {S K D : Type 0} (model : DiskModel D) (e : Election) (asked : Asked) (a : Status) (before after : World S K D) → NothingFailed model (compare_row asked).touches before after
-    → Compares model e asked a before.streams after.streams before.disk after.disk → IsDecided a ⊎ (a ≡ status.Memory)
+    → ComparesLines model e asked a before.streams after.streams before.disk after.disk → IsDecided a ⊎ (a ≡ status.Memory)
 some_settled model e asked status.DiskFault before after none ends = absurd ends.ends
 some_settled model e asked status.WriteFault before after none ends = absurd (not_risen before.streams.sink.faults after.streams.sink.faults none.sink ends.ends.1)
 some_settled model e asked (status.ReadFault which.Script) before after none ends = absurd (not_risen before.streams.script.faults after.streams.script.faults none.script ends.ends.1)

@@ -1,5 +1,6 @@
 -- What the bytes of a medium that is only read decide.
 use Rattle.std.proofs.Common.{◌≡◌, ℕ, List, Some}
+use Rattle.store_spec.proofs.Common.{DiskModel, Election}
 use Rattle.medium_commands.proofs.Refusing.{Refuses, refuses}
 use Rattle.recovery.specs.Refused.{IsRefusedMedium}
 use Rattle.recovery.specs.declared.fault.RecoverFault.TheVariants as recover
@@ -8,8 +9,6 @@ use Rattle.run_outcome.specs.Status.{IsDecided}
 use Rattle.run_outcome.specs.declared.status.Status.{Status}
 use Rattle.run_outcome.specs.declared.status.Status.TheVariants as status
 use Rattle.sample_commands.specs.Looked.{ShowsNone}
-use Rattle.store_spec.specs.Disk.{DiskModel}
-use Rattle.store_spec.specs.Election.{Election}
 
 pub none_decides : {D : Type 0} (model : DiskModel D) (e : Election) (a : Status) (before after : D) (bytes : List ℕ) → model.seen before ≡ Some bytes → IsDecided a → ShowsNone model e a before after → Refuses e bytes a
 none_decides model e status.NoStore before after bytes is decided none =

@@ -1,5 +1,6 @@
 -- The laws of `sample`: the bytes of a disk decide how it ends, but for faults and want of memory.
 use Rattle.std.proofs.Common.{◌≡◌, ◌⊎◌, ℕ, List, Some, inl, inr, ⊎_elim, refl, sym, ◌∙◌}
+use Rattle.store_spec.proofs.Common.{DiskModel, Election, HoldsSet, HoldsSome, IsElection}
 use Rattle.medium_commands.proofs.Refusing.{Refuses, not_both, one_refused}
 use Rattle.outside_io.specs.Outside.{Output}
 use Rattle.run_outcome.proofs.Laws.{Laws, at_told, not_risen}
@@ -9,18 +10,15 @@ use Rattle.run_outcome.specs.World.{World}
 use Rattle.run_outcome.specs.declared.status.Status.{Status}
 use Rattle.run_outcome.specs.declared.status.Status.TheVariants as status
 use Rattle.sample_commands.proofs.Deciding.{none_decides}
-use Rattle.sample_commands.specs.Sample.{SampleTells, sample_row}
+use Rattle.sample_commands.specs.Sample.{SampleWrites, sample_row}
 use Rattle.sample_commands.specs.declared.asked.Asked.{Asked}
-use Rattle.store_spec.specs.Disk.{DiskModel}
-use Rattle.store_spec.specs.Election.{Election, IsElection}
-use Rattle.store_spec.specs.Medium.{HoldsSet, HoldsSome}
 
 -- the status that bytes decide, and why
 abbrev pub SampleDecides : Election → List ℕ → Status → Type 0
 SampleDecides e bytes a = ((a ≡ status.Ok) × HoldsSome e bytes) ⊎ Refuses e bytes a
 
 sample_decides : {K D : Type 0} (model : DiskModel D) (e : Election) (asked : Asked) (a : Status) (old new : Output K) (before after : D) (bytes : List ℕ) → model.seen before ≡ Some bytes → IsDecided a
-    → SampleTells model e asked a old new before after → SampleDecides e bytes a
+    → SampleWrites model e asked a old new before after → SampleDecides e bytes a
 sample_decides model e asked status.Ok old new before after bytes is decided tells =
     let set = tells.0.set in
     inl (refl, (set, at_told (model.seen before) bytes (λ x. HoldsSet e x set) is tells.0.shows.held))
@@ -34,7 +32,7 @@ one_sample e bytes a b valid x y = ⊎_elim
     x
 
 sample_settled : {S K D : Type 0} (model : DiskModel D) (e : Election) (asked : Asked) (a : Status) (before after : World S K D) → NothingFailed model (sample_row asked).touches before after
-    → SampleTells model e asked a before.streams.sink after.streams.sink before.disk after.disk → IsDecided a ⊎ (a ≡ status.Memory)
+    → SampleWrites model e asked a before.streams.sink after.streams.sink before.disk after.disk → IsDecided a ⊎ (a ≡ status.Memory)
 sample_settled model e asked status.DiskFault before after none tells = absurd (not_risen (model.faults before.disk) (model.faults after.disk) none.disk tells.0)
 sample_settled model e asked status.WriteFault before after none tells = absurd (not_risen before.streams.sink.faults after.streams.sink.faults none.sink tells.1)
 sample_settled model e asked (status.ReadFault which) before after none tells = absurd tells.0

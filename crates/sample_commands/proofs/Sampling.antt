@@ -1,17 +1,13 @@
 -- What becomes of a sample that was drawn.
 use Rattle.std.proofs.Common.{◌≡◌, ℕ, ◌<◌, ◌≤◌, List, ap, arith, length, sym, subst, ◌∙◌}
-use Rattle.std.proofs.lemmas.List.{length-map}
-use Rattle.std.specs.List.{All, AllPairs}
+use Rattle.store_spec.proofs.Common.{All, AllPairs, Ballot, DiskModel, Election, IsElection, IsValid, length-map, most_ballots}
 use Rattle.ballot_record.specs.Record.{ballot}
 use Rattle.body_store.specs.Contents.{ballots_of}
 use Rattle.ballot_record.specs.declared.record.Record.{Record}
 use Rattle.sample_commands.specs.Asked.{dice_of}
 use Rattle.sample_commands.specs.Looked.{ShowsSet}
-use Rattle.sample_commands.specs.Sample.{TellsSample, asked_sample, ballots_text}
+use Rattle.sample_commands.specs.Sample.{WritesSample, asked_sample, ballots_text}
 use Rattle.sample_commands.specs.declared.asked.Asked.{Asked}
-use Rattle.store_spec.specs.Ballot.{Ballot, IsValid}
-use Rattle.store_spec.specs.Disk.{DiskModel}
-use Rattle.store_spec.specs.Election.{Election, IsElection, most_ballots}
 use Rattle.ticket_sample.proofs.Samples.{sample_fewer, sample_set}
 
 -- the sample was drawn, and these are its records
@@ -31,7 +27,7 @@ drawn_few model e asked records before after valid drawn =
     omega (arith, length-map records ballot, ap length drawn.2, sample_fewer drawn.0 (dice_of asked) asked.count, drawn.1.within_limit, valid.few_ballots)
 
 -- the text of these records is that of the sample
-pub text_drawn : {D : Type 0} (model : DiskModel D) (e : Election) (asked : Asked) (records shown : List Record) (text : List ℕ) (before after : D) (Takes : List ℕ → Type 0) → IsDrawn model e asked records before after → shown ≡ records → text ≡ ballots_text e (ballots_of shown) → Takes text → TellsSample model e asked before after Takes
+pub text_drawn : {D : Type 0} (model : DiskModel D) (e : Election) (asked : Asked) (records shown : List Record) (text : List ℕ) (before after : D) (Takes : List ℕ → Type 0) → IsDrawn model e asked records before after → shown ≡ records → text ≡ ballots_text e (ballots_of shown) → Takes text → WritesSample model e asked before after Takes
 text_drawn model e asked records shown text before after Takes drawn same is takes = record {
   set = drawn.0;
   shows = drawn.1;

@@ -1,9 +1,7 @@
 -- What the sink has taken once some lines were answered, and how a run ends then.
 use Rattle.std.proofs.Common.{◌≡◌, ℕ, ◌+◌, inl, inr, List, [], ◌∷◌, ◌++◌, length, map, take, Option, Some, None, Result, Ok as Fine, Err, refl, sym, ap, subst, ◌∙◌, arith, append_assoc, append-nil}
-use Rattle.std.proofs.lemmas.List.{length-append, map_push}
-use Rattle.std.proofs.Math.Seq.{take-append-add}
+use Rattle.store_spec.proofs.Common.{Ballot, Election, Rose, codes, count_line, length-append, line_end, lines_text, map_push, script_limit, take-append-add, taken_within}
 use Rattle.std.specs.Option.{option_map}
-use Rattle.std.specs.Prelude.{codes}
 use Rattle.outside_io.proofs.Told.{told_as, told_at, told_still, told_with}
 use Rattle.outside_io.specs.Outside.{Outside, Output}
 use Rattle.outside_io.specs.Reading.{ReadFirst, ReadLines, ReadsTo}
@@ -15,34 +13,29 @@ use Rattle.run_outcome.specs.declared.status.Status.{Status}
 use Rattle.run_outcome.specs.declared.status.Status.TheVariants as status
 use Rattle.run_outcome.specs.declared.status.Which.TheVariants as which
 use Rattle.sample_commands.proofs.Answering.{Leaves, answered_more, answered_none, are_missing, reply_right}
-use Rattle.sample_commands.specs.Compare.{LinesEnd, Tells, replies_text, reply_line, reply_lines}
-use Rattle.store_spec.specs.Ballot.{Ballot}
-use Rattle.store_spec.specs.Election.{Election}
-use Rattle.store_spec.specs.Fault.{Rose}
-use Rattle.store_spec.specs.Input.{line_end, script_limit, taken_within}
-use Rattle.store_spec.specs.Report.{count_line, lines_text}
-use Rattle.ticket_sample.specs.Compared.{Answered, AreAnswered, IsReplyTo}
-use Rattle.ticket_sample.specs.Comparing.{IsDone}
+use Rattle.sample_commands.specs.Compare.{LinesEnd, WritesText, compare_reply_line, compare_reply_lines, replies_text}
+use Rattle.ticket_sample.specs.Compared.{AnsweredLine, AreAnswered, IsReplyTo}
+use Rattle.ticket_sample.specs.Comparing.{IsNoneOfRest}
 use Rattle.ticket_sample.specs.declared.compare.CompareReply.{CompareReply}
 use Rattle.ticket_sample.specs.declared.compare.CompareReply.TheVariants.{Malformed}
 
 -- ---- the text
 
-text_of : Answered → ℕ → List ℕ
-text_of one at = reply_line at one.reply ++ line_end ∷ []
+text_of : AnsweredLine → ℕ → List ℕ
+text_of one at = compare_reply_line at one.reply ++ line_end ∷ []
 
-lines_more : (at : ℕ) (answers : List Answered) (one : Answered) → lines_text (reply_lines at (answers ++ one ∷ [])) ≡ lines_text (reply_lines at answers) ++ (reply_line (at + length answers) one.reply ++ line_end ∷ [])
-lines_more at [] one = ap (λ n. (reply_line n one.reply ++ line_end ∷ []) ++ []) (let same : at ≡ at + 0 = omega arith in same) ∙ append-nil (reply_line (at + 0) one.reply ++ line_end ∷ [])
+lines_more : (at : ℕ) (answers : List AnsweredLine) (one : AnsweredLine) → lines_text (compare_reply_lines at (answers ++ one ∷ [])) ≡ lines_text (compare_reply_lines at answers) ++ (compare_reply_line (at + length answers) one.reply ++ line_end ∷ [])
+lines_more at [] one = ap (λ n. (compare_reply_line n one.reply ++ line_end ∷ []) ++ []) (let same : at ≡ at + 0 = omega arith in same) ∙ append-nil (compare_reply_line (at + 0) one.reply ++ line_end ∷ [])
 lines_more at (first ∷ answers) one =
-    let head = reply_line at first.reply ++ line_end ∷ [] in
+    let head = compare_reply_line at first.reply ++ line_end ∷ [] in
     ap (λ rest. head ++ rest) (lines_more (at + 1) answers one)
-    ∙ sym (append_assoc head (lines_text (reply_lines (at + 1) answers)) (reply_line (at + 1 + length answers) one.reply ++ line_end ∷ []))
-    ∙ ap (λ n. (head ++ lines_text (reply_lines (at + 1) answers)) ++ (reply_line n one.reply ++ line_end ∷ [])) (let same : at + 1 + length answers ≡ at + length (first ∷ answers) = omega arith in same)
+    ∙ sym (append_assoc head (lines_text (compare_reply_lines (at + 1) answers)) (compare_reply_line (at + 1 + length answers) one.reply ++ line_end ∷ []))
+    ∙ ap (λ n. (head ++ lines_text (compare_reply_lines (at + 1) answers)) ++ (compare_reply_line n one.reply ++ line_end ∷ [])) (let same : at + 1 + length answers ≡ at + length (first ∷ answers) = omega arith in same)
 
 -- the text of one reply more, which is that of this line
-pub text_more : (answers : List Answered) (one : Answered) (count : ℕ) → count ≡ length answers → replies_text (answers ++ one ∷ []) ≡ replies_text answers ++ (reply_line (count + 1) one.reply ++ line_end ∷ [])
+pub text_more : (answers : List AnsweredLine) (one : AnsweredLine) (count : ℕ) → count ≡ length answers → replies_text (answers ++ one ∷ []) ≡ replies_text answers ++ (compare_reply_line (count + 1) one.reply ++ line_end ∷ [])
 text_more answers one count counted =
-    lines_more 1 answers one ∙ ap (λ n. replies_text answers ++ (reply_line n one.reply ++ line_end ∷ [])) (let same : 1 + length answers ≡ count + 1 = omega (arith, counted) in same)
+    lines_more 1 answers one ∙ ap (λ n. replies_text answers ++ (compare_reply_line n one.reply ++ line_end ∷ [])) (let same : 1 + length answers ≡ count + 1 = omega (arith, counted) in same)
 
 -- ---- one text behind another
 
@@ -63,7 +56,7 @@ takes_none (Some front) = ap Some (sym (append-nil front))
 
 -- these lines were answered, and the sink took the replies
 pub record Replied {K : Type 0} (e : Election) (sample : List Ballot) (old new : Output K) (rest : List Ballot) (count : ℕ) (lines : List (Option (List ℕ))) : Type 0 where
-  pub answers : List Answered
+  pub answers : List AnsweredLine
   pub lines_are : lines ≡ map (λ one. one.line) answers
   pub right : AreAnswered e sample answers
   pub leaves : Leaves e sample answers rest
@@ -77,10 +70,10 @@ replied_none e sample rest sink right leaves = record { answers = []; lines_are 
 
 -- the reply to a whole line is right behind those
 pub whole_right : {K : Type 0} (e : Election) (sample : List Ballot) (old new : Output K) (rest : List Ballot) (count : ℕ) (lines : List (Option (List ℕ))) (so_far : Replied e sample old new rest count lines) (own : List Ballot) (bytes line : List ℕ) (reply : CompareReply)
-    → own ≡ sample → bytes ≡ line → IsReplyTo e own (IsDone rest) bytes reply → AreAnswered e sample (so_far.answers ++ record { line = Some line; reply = reply } ∷ [])
+    → own ≡ sample → bytes ≡ line → IsReplyTo e own (IsNoneOfRest rest) bytes reply → AreAnswered e sample (so_far.answers ++ record { line = Some line; reply = reply } ∷ [])
 whole_right e sample old new rest count lines so_far own bytes line reply same is replies =
     answered_more e sample so_far.answers (record { line = Some line; reply = reply }) so_far.right
-    (reply_right e sample so_far.answers rest line reply so_far.leaves (subst (λ (own : List Ballot). IsReplyTo e own (IsDone rest) line reply) same (subst (λ (bytes : List ℕ). IsReplyTo e own (IsDone rest) bytes reply) is replies)))
+    (reply_right e sample so_far.answers rest line reply so_far.leaves (subst (λ (own : List Ballot). IsReplyTo e own (IsNoneOfRest rest) line reply) same (subst (λ (bytes : List ℕ). IsReplyTo e own (IsNoneOfRest rest) bytes reply) is replies)))
 
 -- and that to a line that is too wide
 pub wide_right : {K : Type 0} (e : Election) (sample : List Ballot) (old new : Output K) (rest : List Ballot) (count : ℕ) (lines : List (Option (List ℕ))) (so_far : Replied e sample old new rest count lines)
@@ -103,14 +96,14 @@ not_none : {X : Type 0} {G : Type 0} (xs : List X) (x : X) → xs ++ x ∷ [] �
 not_none [] x is = absurd cc
 not_none (y ∷ xs) x is = absurd cc
 
-pub replied_more : {K : Type 0} (e : Election) (sample : List Ballot) (old mid new : Output K) (rest rest_now : List Ballot) (count : ℕ) (lines : List (Option (List ℕ))) (one : Answered) (so_far : Replied e sample old mid rest count lines)
-    → AreAnswered e sample (so_far.answers ++ one ∷ []) → Leaves e sample (so_far.answers ++ one ∷ []) rest_now → Tells (reply_line (count + 1) one.reply ++ line_end ∷ []) (Fine tt) mid new → Replied e sample old new rest_now (count + 1) (lines ++ one.line ∷ [])
+pub replied_more : {K : Type 0} (e : Election) (sample : List Ballot) (old mid new : Output K) (rest rest_now : List Ballot) (count : ℕ) (lines : List (Option (List ℕ))) (one : AnsweredLine) (so_far : Replied e sample old mid rest count lines)
+    → AreAnswered e sample (so_far.answers ++ one ∷ []) → Leaves e sample (so_far.answers ++ one ∷ []) rest_now → WritesText (compare_reply_line (count + 1) one.reply ++ line_end ∷ []) (Fine tt) mid new → Replied e sample old new rest_now (count + 1) (lines ++ one.line ∷ [])
 replied_more e sample old mid new rest rest_now count lines one so_far right leaves told = record {
   answers = so_far.answers ++ one ∷ [];
-  lines_are = ap (λ front. front ++ one.line ∷ []) so_far.lines_are ∙ sym (map_push (λ (one : Answered). one.line) so_far.answers one);
+  lines_are = ap (λ front. front ++ one.line ∷ []) so_far.lines_are ∙ sym (map_push (λ (one : AnsweredLine). one.line) so_far.answers one);
   right = right;
   leaves = leaves;
-  all = subst (λ (text : List ℕ). TakesAll old.taken text new.taken) (sym (text_more so_far.answers one count so_far.counted)) (takes_on old.taken mid.taken new.taken (replies_text so_far.answers) (reply_line (count + 1) one.reply ++ line_end ∷ []) so_far.all told.0);
+  all = subst (λ (text : List ℕ). TakesAll old.taken text new.taken) (sym (text_more so_far.answers one count so_far.counted)) (takes_on old.taken mid.taken new.taken (replies_text so_far.answers) (compare_reply_line (count + 1) one.reply ++ line_end ∷ []) so_far.all told.0);
   none = λ is. not_none so_far.answers one is;
   counted = omega (arith, so_far.counted, length-append so_far.answers (one ∷ []));
   steady = told.1 ∙ so_far.steady;
@@ -155,16 +148,16 @@ module _ {S K : Type 0} (e : Election) (sample : List Ballot) (before after : Ou
   )
 
   -- there was no memory, or the sink failed, as the reply to one more line was told
-  pub answer_failed : (one : Answered) (a : Status) → ReadsTo ReadFirst (Behind P one.line) before.script.left after.script.left
+  pub answer_failed : (one : AnsweredLine) (a : Status) → ReadsTo ReadFirst (Behind P one.line) before.script.left after.script.left
       → ((lines : List (Option (List ℕ))) (so_far : P lines) → AreAnswered e sample (so_far.answers ++ one ∷ []))
-      → Tells (reply_line (count + 1) one.reply ++ line_end ∷ []) (Err a) mid after.sink → LinesEnd e sample a before after
+      → WritesText (compare_reply_line (count + 1) one.reply ++ line_end ∷ []) (Err a) mid after.sink → LinesEnd e sample a before after
   answer_failed one status.WriteFault reads right told =
       let so_far = reads.good.good in
-      let text = reply_line (count + 1) one.reply ++ line_end ∷ [] in (
+      let text = compare_reply_line (count + 1) one.reply ++ line_end ∷ [] in (
         record {
           answers = so_far.answers ++ one ∷ [];
           read = told_as (told_with reads.told few) (λ x y h. (
-            subst (λ lines. ReadFirst x y lines) (reads.good.is ∙ ap (λ front. front ++ one.line ∷ []) so_far.lines_are ∙ sym (map_push (λ (one : Answered). one.line) so_far.answers one)) h.0,
+            subst (λ lines. ReadFirst x y lines) (reads.good.is ∙ ap (λ front. front ++ one.line ∷ []) so_far.lines_are ∙ sym (map_push (λ (one : AnsweredLine). one.line) so_far.answers one)) h.0,
             h.1,
           ));
           right = right reads.good.front so_far;
@@ -182,7 +175,7 @@ module _ {S K : Type 0} (e : Election) (sample : List Ballot) (before after : Ou
 
   -- the source has ended, and what is missing was told
   pub end_told : (missing : ℕ) (answer : Result (Unit {0}) Status) → ReadsTo (ReadLines ReadOut) P before.script.left after.script.left → (first : ReadsTo ReadFirst P before.script.left after.script.left) → missing ≡ length rest
-      → Tells (lines_text (count_line (codes "missing") missing ∷ [])) answer mid after.sink → LinesEnd e sample (ended answer) before after
+      → WritesText (lines_text (count_line (codes "missing") missing ∷ [])) answer mid after.sink → LinesEnd e sample (ended answer) before after
   end_told missing (Fine done) reads first counted told =
       let so_far = reads.good in (
         record {

@@ -7,12 +7,10 @@
 use Rattle.std.specs.Prelude.{◌≡◌, ℕ, ◌-◌, ◌≤◌, List, [], ◌∷◌, ◌++◌, All, length, replicate, take}
 use Rattle.std.specs.Fmt.{decimal}
 use Rattle.sample_commands.specs.declared.asked.Asked.{Asked}
+use Rattle.store_spec.specs.Election.{most_ballots}
 
 abbrev pub most_dice : ℕ
 most_dice = 64
-
-abbrev pub most_drawn : ℕ
-most_drawn = 32768
 
 pub record IsDice (word : List ℕ) : Type 0 where
   pub some : 1 ≤ length word
@@ -22,7 +20,7 @@ pub record IsDice (word : List ℕ) : Type 0 where
 -- the word spells this count
 pub record IsCountWord (word : List ℕ) (count : ℕ) : Type 0 where
   pub some : 1 ≤ count
-  pub few : count ≤ most_drawn
+  pub few : count ≤ most_ballots
   pub spelled : word ≡ decimal count
 
 abbrev pub dice_of : Asked → List ℕ

@@ -23,7 +23,7 @@ use Rattle.store_spec.specs.Fault.{Rose}
 use Rattle.store_spec.specs.Input.{script_limit}
 use Rattle.store_spec.specs.Medium.{HoldsSome}
 use Rattle.store_spec.specs.Report.{count_line, lines_text}
-use Rattle.ticket_sample.specs.Compared.{Answered, AreAnswered, AreMissing}
+use Rattle.ticket_sample.specs.Compared.{AnsweredLine, AreAnswered, AreMissing}
 use Rattle.ticket_sample.specs.declared.compare.CompareReply.{CompareReply}
 use Rattle.ticket_sample.specs.declared.compare.CompareReply.TheVariants.{Malformed, Invalid, Outside as NotInSample, Repeated, Match, Differs}
 
@@ -38,55 +38,55 @@ reply_word Match = codes "match"
 reply_word Differs = codes "differs"
 
 -- `line L REPLY`
-abbrev pub reply_line : ℕ → CompareReply → List ℕ
-reply_line at reply = codes "line " ++ decimal at ++ space ∷ reply_word reply
+abbrev pub compare_reply_line : ℕ → CompareReply → List ℕ
+compare_reply_line at reply = codes "line " ++ decimal at ++ space ∷ reply_word reply
 
 -- one for each line, of which the first has this number
-abbrev pub reply_lines : ℕ → List Answered → List (List ℕ)
-reply_lines at [] = []
-reply_lines at (one ∷ answers) = reply_line at one.reply ∷ reply_lines (at + 1) answers
+abbrev pub compare_reply_lines : ℕ → List AnsweredLine → List (List ℕ)
+compare_reply_lines at [] = []
+compare_reply_lines at (one ∷ answers) = compare_reply_line at one.reply ∷ compare_reply_lines (at + 1) answers
 
-abbrev pub replies_text : List Answered → List ℕ
-replies_text answers = lines_text (reply_lines 1 answers)
+abbrev pub replies_text : List AnsweredLine → List ℕ
+replies_text answers = lines_text (compare_reply_lines 1 answers)
 
 -- the replies, and how many ballots were compared with no line
-abbrev pub compare_text : List Answered → ℕ → List ℕ
+abbrev pub compare_text : List AnsweredLine → ℕ → List ℕ
 compare_text answers missing = replies_text answers ++ lines_text (count_line (codes "missing") missing ∷ [])
 
 -- ---- a run
 
 -- Lines were answered: these, of the script that was read so far, each with its reply; and of their replies the sink took
 -- what this says.
-pub record Answers {S K : Type 0} (e : Election) (sample : List Ballot) (before after : Outside S K)
-    (Read : List ℕ → List ℕ → List (Option (List ℕ)) → Type 0) (Takes : List Answered → Type 0) : Type 0 where
-  pub answers : List Answered
+pub record AnswersLines {S K : Type 0} (e : Election) (sample : List Ballot) (before after : Outside S K)
+    (Read : List ℕ → List ℕ → List (Option (List ℕ)) → Type 0) (Takes : List AnsweredLine → Type 0) : Type 0 where
+  pub answers : List AnsweredLine
   pub read : OfScript before after (λ text left. Read text left (map (λ one. one.line) answers))
   pub right : AreAnswered e sample answers
   pub takes : Takes answers
 
 -- the sink took the replies, and was left alone where there are none
-pub record TakesReplies {S K : Type 0} (before after : Outside S K) (answers : List Answered) : Type 0 where
+pub record TakesReplies {S K : Type 0} (before after : Outside S K) (answers : List AnsweredLine) : Type 0 where
   pub all : TakesAll before.sink.taken (replies_text answers) after.sink.taken
   pub none : answers ≡ [] → after.sink ≡ before.sink
 
 -- it took them, and how many ballots of the sample are missing
-pub record TakesWhole {S K : Type 0} (e : Election) (sample : List Ballot) (before after : Outside S K) (answers : List Answered) : Type 0 where
+pub record TakesWhole {S K : Type 0} (e : Election) (sample : List Ballot) (before after : Outside S K) (answers : List AnsweredLine) : Type 0 where
   pub missing : ℕ
   pub are_missing : AreMissing e sample answers missing
   pub all : TakesAll before.sink.taken (compare_text answers missing) after.sink.taken
 
 -- it took some first part of the replies, or of those and what is missing
-abbrev pub TakesPart : {S K : Type 0} → Election → List Ballot → Outside S K → Outside S K → List Answered → Type 0
+abbrev pub TakesPart : {S K : Type 0} → Election → List Ballot → Outside S K → Outside S K → List AnsweredLine → Type 0
 TakesPart e sample before after answers =
     TakesSome before.sink.taken (replies_text answers) after.sink.taken
     ⊎ ((missing : ℕ) × AreMissing e sample answers missing × TakesSome before.sink.taken (compare_text answers missing) after.sink.taken)
 
 -- The sink took a text, or some first part of it, or there was no memory and it was left alone.
-abbrev pub Tells : {K : Type 0} → List ℕ → Result (Unit {0}) Status → Output K → Output K → Type 0
-Tells text (Fine done) old new = TakesAll old.taken text new.taken × (new.faults ≡ old.faults)
-Tells text (Err status.WriteFault) old new = TakesSome old.taken text new.taken × Rose old.faults new.faults
-Tells text (Err status.Memory) old new = new ≡ old
-Tells text (Err other) old new = ⊥
+abbrev pub WritesText : {K : Type 0} → List ℕ → Result (Unit {0}) Status → Output K → Output K → Type 0
+WritesText text (Fine done) old new = TakesAll old.taken text new.taken × (new.faults ≡ old.faults)
+WritesText text (Err status.WriteFault) old new = TakesSome old.taken text new.taken × Rose old.faults new.faults
+WritesText text (Err status.Memory) old new = new ≡ old
+WritesText text (Err other) old new = ⊥
 
 -- these are the first lines of the script, of which no more was read than one byte past the limit
 abbrev pub ReadSome : List ℕ → List ℕ → List (Option (List ℕ)) → Type 0
@@ -95,21 +95,21 @@ ReadSome text left lines = ReadFirst text left lines × GivesAtMost (script_limi
 -- how a run on this sample ends, and why
 abbrev pub LinesEnd : {S K : Type 0} → Election → List Ballot → Status → Outside S K → Outside S K → Type 0
 LinesEnd e sample status.Ok before after =
-    Answers e sample before after (ReadLines ReadOut) (TakesWhole e sample before after) × NoFault before after
+    AnswersLines e sample before after (ReadLines ReadOut) (TakesWhole e sample before after) × NoFault before after
 LinesEnd e sample (status.TooLong which.Script) before after =
-    Answers e sample before after (ReadLines TooMuch) (TakesReplies before after) × NoFault before after
+    AnswersLines e sample before after (ReadLines TooMuch) (TakesReplies before after) × NoFault before after
 LinesEnd e sample (status.ReadFault which.Script) before after =
-    Answers e sample before after (ReadLines Faulted) (TakesReplies before after) × Rose before.script.faults after.script.faults
+    AnswersLines e sample before after (ReadLines Faulted) (TakesReplies before after) × Rose before.script.faults after.script.faults
     × (after.sink.faults ≡ before.sink.faults)
 LinesEnd e sample status.WriteFault before after =
-    Answers e sample before after ReadSome (TakesPart e sample before after) × Rose before.sink.faults after.sink.faults
+    AnswersLines e sample before after ReadSome (TakesPart e sample before after) × Rose before.sink.faults after.sink.faults
     × (after.script.faults ≡ before.script.faults)
 LinesEnd e sample status.Memory before after =
-    Answers e sample before after ReadSome (TakesReplies before after) × NoFault before after
+    AnswersLines e sample before after ReadSome (TakesReplies before after) × NoFault before after
 LinesEnd e sample other before after = ⊥
 
 -- the disk holds a set, and the lines were compared with its sample
-pub record Compares {S K D : Type 0} (model : DiskModel D) (e : Election) (asked : Asked) (status : Status) (before after : Outside S K) (old new : D) : Type 0 where
+pub record ComparesLines {S K D : Type 0} (model : DiskModel D) (e : Election) (asked : Asked) (status : Status) (before after : Outside S K) (old new : D) : Type 0 where
   pub set : List Ballot
   pub shows : ShowsSet model e set old new
   pub ends : LinesEnd e (asked_sample asked set) status before after
@@ -122,7 +122,7 @@ pub record ComparesNone {S K D : Type 0} (model : DiskModel D) (e : Election) (s
 -- All that a run of `compare` promises under an election; `old` and `new` are the disk before and after. Nothing is written
 -- to it: a read gives what it gave, and a crash at each moment leaves what it might have left before.
 pub record CompareEnds {S K D : Type 0} (model : DiskModel D) (e : Election) (asked : Asked) (status : Status) (before after : Outside S K) (old new : D) : Type 0 where
-  pub tells : ComparesNone model e status before after old new ⊎ Compares model e asked status before after old new
+  pub tells : ComparesNone model e status before after old new ⊎ ComparesLines model e asked status before after old new
   pub writes_nothing : WritesNothing model.seen model.calls model.may_leave old new
 
 -- ---- the row

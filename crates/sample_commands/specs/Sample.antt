@@ -28,23 +28,23 @@ abbrev pub asked_sample : Asked → List Ballot → List Ballot
 asked_sample asked set = sample_of set (dice_of asked) asked.count
 
 -- the disk holds a set, of whose sample's text the sink took what this says
-pub record TellsSample {D : Type 0} (model : DiskModel D) (e : Election) (asked : Asked) (before after : D) (Takes : List ℕ → Type 0) : Type 0 where
+pub record WritesSample {D : Type 0} (model : DiskModel D) (e : Election) (asked : Asked) (before after : D) (Takes : List ℕ → Type 0) : Type 0 where
   pub set : List Ballot
   pub shows : ShowsSet model e set before after
   pub takes : Takes (ballots_text e (asked_sample asked set))
 
 -- what becomes of the sink where a run of `sample` ends so, and why it does
-abbrev pub SampleTells : {K D : Type 0} → DiskModel D → Election → Asked → Status → Output K → Output K → D → D → Type 0
-SampleTells model e asked status.Ok old new before after =
-    TellsSample model e asked before after (λ text. TakesAll old.taken text new.taken) × (new.faults ≡ old.faults)
-SampleTells model e asked status.WriteFault old new before after =
-    TellsSample model e asked before after (λ text. TakesSome old.taken text new.taken) × Rose old.faults new.faults
-SampleTells model e asked other old new before after = ShowsNone model e other before after × (new ≡ old)
+abbrev pub SampleWrites : {K D : Type 0} → DiskModel D → Election → Asked → Status → Output K → Output K → D → D → Type 0
+SampleWrites model e asked status.Ok old new before after =
+    WritesSample model e asked before after (λ text. TakesAll old.taken text new.taken) × (new.faults ≡ old.faults)
+SampleWrites model e asked status.WriteFault old new before after =
+    WritesSample model e asked before after (λ text. TakesSome old.taken text new.taken) × Rose old.faults new.faults
+SampleWrites model e asked other old new before after = ShowsNone model e other before after × (new ≡ old)
 
 -- All that a run of `sample` promises under an election. Nothing is written to the disk: a read gives what it gave, and a
 -- crash at each moment leaves what it might have left before.
 pub record SampleEnds {K D : Type 0} (model : DiskModel D) (e : Election) (asked : Asked) (status : Status) (old new : Output K) (before after : D) : Type 0 where
-  pub tells : SampleTells model e asked status old new before after
+  pub tells : SampleWrites model e asked status old new before after
   pub writes_nothing : WritesNothing model.seen model.calls model.may_leave before after
 
 -- ---- the row

@@ -3,7 +3,7 @@
 ghost use Rattle.std.specs.Prelude.{◌≡◌, ◌≤◌, ◌∷◌, ◌++◌, ◌<◌, [], AllPairs, IfOk, OnOk, codes, string_bytes};
 ghost use Rattle.outside_io.specs.Outside.{input, output, outside};
 ghost use Rattle.run_outcome.specs.Status.{ended};
-ghost use Rattle.sample_commands.specs.Compare.{CompareEnds, LinesEnd, Tells, reply_line, reply_word};
+ghost use Rattle.sample_commands.specs.Compare.{CompareEnds, LinesEnd, WritesText, compare_reply_line, reply_word};
 ghost use Rattle.store_spec.specs.Disk.{disk_model};
 ghost use Rattle.store_spec.specs.Election.{IsElection};
 ghost use Rattle.store_spec.specs.Input.{line_end};
@@ -14,7 +14,7 @@ use crate::drawn::drawn;
 use ballot_record::Election;
 use crash_disk::Disk;
 use outside_io::{LineEndFault, Lines, Memory, NextLine, Sink, Source};
-use run_outcome::{Status, Which, tell};
+use run_outcome::{Status, Which, write_out};
 use std::alloc::Global;
 use ticket_sample::{Compare, CompareReply};
 
@@ -34,7 +34,7 @@ fn word_of(reply: CompareReply) -> &'static str
 
 /// Puts the reply to a line in place of a text. It takes no memory where there is room.
 fn put_reply(line: u64, reply: CompareReply, text: &mut String) -> Result<(), Memory>
-    ensures { OnOk result (string_bytes text.new ≡ reply_line line reply ++ line_end ∷ []) }
+    ensures { OnOk result (string_bytes text.new ≡ compare_reply_line line reply ++ line_end ∷ []) }
 {
     text.clear();
     let word = word_of(reply);
@@ -63,20 +63,20 @@ fn answer<K: Sink>(
     reply: CompareReply,
     text: &mut String,
 ) -> Result<(), Status>
-    ensures { Tells (reply_line line reply ++ line_end ∷ []) result
+    ensures { WritesText (compare_reply_line line reply ++ line_end ∷ []) result
         (output K.taken K.faults out.old) (output K.taken K.faults out.new) }
 {
     put_reply(line, reply, text)?;
-    tell(out, text.as_str().as_bytes())
+    write_out(out, text.as_str().as_bytes())
 }
 
 /// Writes how many ballots of the sample were compared with no line.
 fn tell_missing<K: Sink>(alloc: Global, out: &mut K, missing: u32) -> Result<(), Status>
-    ensures { Tells (lines_text (count_line (codes "missing") missing ∷ [])) result
+    ensures { WritesText (lines_text (count_line (codes "missing") missing ∷ [])) result
         (output K.taken K.faults out.old) (output K.taken K.faults out.new) }
 {
     let text = last_line(alloc, missing)?;
-    tell(out, text.as_str().as_bytes())
+    write_out(out, text.as_str().as_bytes())
 }
 
 /// Answers each line of a script as soon as it is whole, and tells at its end how many ballots are missing.

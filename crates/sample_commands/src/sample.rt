@@ -16,7 +16,7 @@ use crate::drawn::drawn;
 use ballot_record::{Election, Record, put_line};
 use crash_disk::Disk;
 use outside_io::{Memory, Sink};
-use run_outcome::{Status, tell};
+use run_outcome::{Status, write_out};
 use std::alloc::Global;
 
 /// The line that counts the ballots.
@@ -53,5 +53,5 @@ pub fn sample<K: Sink, D: Disk>(
 {
     let records = drawn(alloc, election, asked, disk)?;
     let text = text_of(alloc, election, &records)?;
-    tell(out, &text)
+    write_out(out, &text)
 }

@@ -1,26 +1,17 @@
 -- The numbers of a casting phase fit in 64 bits at every moment, so that its measures fit in the digits of a number.
 use Rattle.std.proofs.Common.{◌≡◌, ℕ, ◌+◌, ◌-◌, ◌^◌, ◌<◌, ◌≤◌, ◌==◌, Bool, true, false, cond, ⊎_elim, Option, Some, List, [], ◌∷◌, ◌++◌, length, get_or, take, drop, map, refl, sym, ap, ◌∙◌, subst, arith}
+use Rattle.store_spec.proofs.Common.{All, All-append, All-cons, All-contains, All-filter, All-head, All-map, All-nil, All-push, All-set, All-tail, All-weaker, Answer, Carrying, CastInvariant, CastNote, CastState, CastView, Contains-get_or, Held, Met, Probing, Ready, Rest, Table, accepted_of, ascending, cases_lt, cast_measure, cond-false, cond-true, filter, get_or-le-sum_by, hands_of, in_hand, is_met_accepted, le-ltb, list_any, lt-ltb, most_ballots, numbers_that, option_map_or, pow_mono, slice_get, sum_by, sum_by-append, sum_by-le}
 use Rattle.layout_def.proofs.Ascending.{contains_from_in, from_ascending, in_from_contains}
-use Rattle.std.proofs.Math.Pow.{pow_mono}
-use Rattle.std.proofs.lemmas.Bool.{cases_lt, cond-false, cond-true, le-ltb, lt-ltb}
 use Rattle.std.proofs.Math.Dec.{ltb}
-use Rattle.std.proofs.lemmas.List.Elements.{All-append, All-cons, All-contains, All-drop, All-filter, All-map, All-nil, All-push, All-set, All-tail, All-head, All-weaker, Contains-get_or}
-use Rattle.std.proofs.lemmas.List.Sums.{get_or-le-sum_by, sum_by-append, sum_by-le}
-use Rattle.std.specs.List.{All, filter, list_any, sum_by}
-use Rattle.std.specs.Option.{option_map_or}
-use Rattle.std.specs.Prelude.{slice_get}
+use Rattle.std.proofs.lemmas.List.Elements.{All-drop}
 use Rattle.schedule_replay.proofs.Measures.{number_falls}
 use Rattle.schedule_replay.specs.Machine.{IsShort, IsShortCasting, IsShortTab, cast_work, measure_base, number_of}
+use Rattle.step_core.proofs.SameNumbers.{weigh}
 use Rattle.step_core.proofs.Sets.{All-flat_map, All-from_map, at_place}
-use Rattle.step_core.specs.Casting.{Casting, Steps, Tabulator, after_step, answered, answers_at_once, first_answered, opened, opened_tab, settled, table_in, told}
+use Rattle.step_core.specs.Casting.{Casting, Steps, Tabulator, after_step, answered, answers_at_once, first_answered, opened, opened_tab, caught_up, table_in, told}
 use Rattle.step_core.specs.CastingInvariant.{FallsAt, IsCasting, tab_measure, view_of}
-use Rattle.store_spec.specs.CastInvariant.{CastInvariant, accepted_of, hands_of, in_hand}
-use Rattle.store_spec.specs.CastStep.{CastNote, CastState, CastView, Table, cast_measure}
 use Rattle.store_spec.specs.CastStep as notes
-use Rattle.store_spec.specs.CastStep.CastState.{Rest, Probing, Carrying, Ready}
-use Rattle.store_spec.specs.Layout.{ascending}
-use Rattle.store_spec.specs.Phase.{Answer, Met, is_met_accepted, numbers_that}
-use Rattle.store_spec.specs.Phase.Met.{Held, Accepted, Taken, Full}
+use Rattle.store_spec.specs.Phase.Met.{Accepted, Taken, Full}
 
 -- ---- what is kept
 
@@ -39,8 +30,8 @@ at_once_short base claims (x ∷ xs) h =
     one_of_two IsShortAnswer (list_any (λ b. b == x) base) _ _ (All-cons IsShortAnswer (record { number = x; met = Held }) _ first rest)
     (one_of_two IsShortAnswer (claims == 0) _ _ (All-cons IsShortAnswer (record { number = x; met = Full }) _ first rest) (All-nil IsShortAnswer))
 
-settled_short : (base : List ℕ) (claims : ℕ) (tab : Tabulator) → IsShortTab tab → IsShortTab (settled base claims tab)
-settled_short base claims tab h = record {
+caught_up_short : (base : List ℕ) (claims : ℕ) (tab : Tabulator) → IsShortTab tab → IsShortTab (caught_up base claims tab)
+caught_up_short base claims tab h = record {
   answered = All-append IsShortAnswer tab.answers (answers_at_once base claims tab.left) h.answered (at_once_short base claims tab.left h.left);
   left = All-drop IsShort (length (answers_at_once base claims tab.left)) tab.left h.left;
 }
@@ -66,7 +57,7 @@ in_state : (state : CastState) (tab : Tabulator) → IsShortTab tab → IsShortT
 in_state state tab h = record { answered = h.answered; left = h.left }
 
 after_short : (base : List ℕ) (claims : ℕ) (tab : Tabulator) (new : CastState) (note : CastNote) → IsShortTab tab → IsShortTab (after_step base claims tab new note)
-after_short base claims tab Rest note h = settled_short base claims (told note (record tab { state = Rest })) (told_short note (record tab { state = Rest }) (in_state Rest tab h))
+after_short base claims tab Rest note h = caught_up_short base claims (told note (record tab { state = Rest })) (told_short note (record tab { state = Rest }) (in_state Rest tab h))
 after_short base claims tab (Probing x k) note h = told_short note (record tab { state = Probing x k }) (in_state (Probing x k) tab h)
 after_short base claims tab (Carrying v i) note h = told_short note (record tab { state = Carrying v i }) (in_state (Carrying v i) tab h)
 after_short base claims tab (Ready v i s) note h = told_short note (record tab { state = Ready v i s }) (in_state (Ready v i s) tab h)
@@ -86,7 +77,7 @@ ascending_short numbers h k d within =
     let v = get_or (ascending numbers) k d in
     All-contains IsShort numbers v h (contains_from_in v numbers (from_ascending v numbers (in_from_contains v (ascending numbers) (Contains-get_or (ascending numbers) k d within))))
 
-pub opened_short : (bits salt limit : ℕ) (start : List ℕ) (lists : List (List ℕ)) → limit ≤ 32768 → All IsShort start → All (All IsShort) lists → IsCasting (opened bits salt limit start lists) → IsShortCasting (opened bits salt limit start lists)
+pub opened_short : (bits salt limit : ℕ) (start : List ℕ) (lists : List (List ℕ)) → limit ≤ most_ballots → All IsShort start → All (All IsShort) lists → IsCasting (opened bits salt limit start lists) → IsShortCasting (opened bits salt limit start lists)
 opened_short bits salt limit start lists few short listed holds =
     let base = ascending start in
     let claims = limit - length base in
@@ -95,7 +86,7 @@ opened_short bits salt limit start lists few short listed holds =
       limit = few;
       base = ascending_short start short;
       tabs = All-map IsShortTab (opened_tab base claims) lists (All-weaker (All IsShort) (λ list. IsShortTab (opened_tab base claims list))
-          (λ list each. settled_short base claims (record { state = Rest; answers = []; left = list }) (record { answered = All-nil IsShortAnswer; left = each })) lists listed);
+          (λ list each. caught_up_short base claims (record { state = Rest; answers = []; left = list }) (record { answered = All-nil IsShortAnswer; left = each })) lists listed);
     }
 
 -- ---- numbers in hand
@@ -131,8 +122,8 @@ hands_short t base words views invariant of_base accepted =
     let cells = take t.cells words in
     let claims = drop t.cells words in
     let zero_weight : long 0 ≡ 0 = omega (arith, short_long 0 (omega arith)) in
-    let claimed : sum_by long (accepted_of views) ≡ sum_by long claims = invariant.claimed.accepted long zero_weight in
-    let owned : sum_by long (cells ++ hands_of views) ≡ sum_by long (base ++ claims) = invariant.owned long zero_weight in
+    let claimed : sum_by long (accepted_of views) ≡ sum_by long claims = weigh invariant.claimed.accepted long zero_weight in
+    let owned : sum_by long (cells ++ hands_of views) ≡ sum_by long (base ++ claims) = weigh invariant.owned long zero_weight in
     all_short (hands_of views) (omega (
       arith,
       claimed,
@@ -168,7 +159,7 @@ tab_below c id tab h stands =
     let hands = hands_short (table_in c) c.base c.words views h.holds.invariant h.base (accepted_short c.tabs h.tabs) in
     let each = All-from_map (λ (view : CastView). IsShort (in_hand view.state)) view_of c.tabs (All-from_map IsShort (λ (view : CastView). in_hand view.state) views hands) in
     let homes : 2 ^ c.bits ≤ 2 ^ 16 = pow_mono h.holds.few_bits in
-    let few : c.limit ≤ 32768 = h.limit in
+    let few : c.limit ≤ most_ballots = h.limit in
     state_below (table_in c) tab.state (omega arith) (omega arith) (at_place (λ (t : Tabulator). IsShort (in_hand t.state)) c.tabs id tab stands each)
 
 pub work_falls : (c : Casting) (id : ℕ) (now : Casting) → IsShortCasting now → Steps c id now → FallsAt c id now → cast_work now id < cast_work c id

@@ -1,10 +1,10 @@
 -- How a replay ends: its script was refused, or its text was made and the sink took of it.
 use Rattle.std.proofs.Common.{◌≡◌, ◌≢◌, ℕ, List, Result, Ok, Err, ap, arith, refl, sym, subst}
-use Rattle.std.specs.Prelude.{IsErrAnd}
+use Rattle.store_spec.proofs.Common.{CountsFaultIf, Election, IsErrAnd}
 use Rattle.outside_io.proofs.Told.{told_as}
 use Rattle.schedule_replay.specs.Ends.{NoInput, ReplayEnds, WritesReplay}
 use Rattle.outside_io.specs.Outside.{OfScript}
-use Rattle.schedule_replay.specs.Input.{Input, lists_in, schedule_in}
+use Rattle.schedule_replay.specs.Input.{ReplayInput, lists_in, schedule_in}
 use Rattle.outside_io.specs.Outside.{NoFault, Outside, Output}
 use Rattle.schedule_replay.specs.Replayed.{Replayed, ReplaysAs}
 use Rattle.schedule_replay.specs.Script.{Keeps, lists_of}
@@ -13,8 +13,6 @@ use Rattle.schedule_replay.specs.declared.fault.ReplayFault.{ReplayFault}
 use Rattle.schedule_replay.specs.declared.fault.ReplayFault.TheVariants as faults
 use Rattle.schedule_replay.specs.declared.line.Kind.{Kind}
 use Rattle.schedule_replay.specs.declared.script.Script.{Script}
-use Rattle.store_spec.specs.Election.{Election}
-use Rattle.store_spec.specs.Fault.{CountsFaultIf}
 
 -- what holds of the fault that was made holds of the one that is told
 pub ends_with : {S K : Type 0} (e : Election) (r : Result (Unit {0}) ReplayFault) (x : ReplayFault) (before after : Outside S K) → IsErrAnd r (λ fault. fault ≡ x) → ReplayEnds e (Err x) before after → ReplayEnds e r before after
@@ -40,7 +38,7 @@ no_memory e script before after read still steady = (
 )
 
 -- what replays what is kept of a script replays its input
-replays_input : (e : Election) (script : Script) (input : Input) (text : List ℕ) → Keeps e script input → ReplaysAs script.kind e script.base.items (lists_of script) script.schedule.items text → Replayed e input text
+replays_input : (e : Election) (script : Script) (input : ReplayInput) (text : List ℕ) → Keeps e script input → ReplaysAs script.kind e script.base.items (lists_of script) script.schedule.items text → Replayed e input text
 replays_input e script input text keeps replays =
     subst (λ (kind : Kind). ReplaysAs kind e input.base (lists_in input) (schedule_in input) text) keeps.kind
     (subst (λ turns. ReplaysAs script.kind e input.base (lists_in input) turns text) keeps.schedule

@@ -1,10 +1,7 @@
 -- Schedules that are followed, one step after another.
 use Rattle.std.proofs.Common.{◌≡◌, ℕ, zero, suc, ◌+◌, ◌-◌, ◌<◌, ◌≤◌, List, [], ◌∷◌, ◌++◌, length, replicate, refl, sym, subst, arith}
-use Rattle.std.proofs.lemmas.List.{append-nil, append_assoc, replicate-append-replicate}
-use Rattle.std.proofs.lemmas.List.Elements.{All-get_or, All-nil, All-push, All-weaker}
+use Rattle.store_spec.proofs.Common.{All, All-get_or, All-nil, All-push, All-weaker, IsNonDecreasing, append-nil, append_assoc, replicate-append-replicate}
 use Rattle.std.proofs.lemmas.List.Sorted.{IsNonDecreasingBy-push, IsNonDecreasingBy-short}
-use Rattle.std.specs.List.{All}
-use Rattle.std.specs.List.Sorted.{IsNonDecreasing}
 use Rattle.schedule_replay.specs.Machine.{InTurn, StepsOn}
 use Rattle.step_core.proofs.Schedules.{follows_on}
 use Rattle.step_core.specs.Schedule.{Follows}

@@ -1,17 +1,14 @@
 -- The lines so far, and what the next may be.
 use Rattle.std.proofs.Common.{◌≡◌, ◌≢◌, ℕ, ◌<◌, ◌≤◌, List, [], ◌∷◌, ◌++◌, All, AllPairs, length, get_or, map, refl, sym, ap, subst, ◌∙◌, append_assoc, arith}
-use Rattle.std.proofs.lemmas.List.{append-nil, map-append}
-use Rattle.std.proofs.lemmas.List.Elements.{All-append, All-cons, All-head, All-nil, All-tail}
-use Rattle.schedule_replay.specs.Input.{Addition, Input, IsInput, addition_line, base_line, kind_line, lines_in, turns_line, word_of}
+use Rattle.store_spec.proofs.Common.{All-append, All-cons, All-head, All-nil, All-tail, Election, Invalid, Malformed, append-nil, map-append}
+use Rattle.schedule_replay.specs.Input.{Addition, IsInput, ReplayInput, addition_line, base_line, kind_line, lines_in, turns_line, word_of_kind}
 use Rattle.schedule_replay.specs.ReplayLine.{ReplayLine}
 use Rattle.schedule_replay.specs.Refusal.{BeginsInput}
-use Rattle.schedule_replay.specs.Script.{IsRefused}
+use Rattle.schedule_replay.specs.Script.{IsLineRefused}
 use Rattle.schedule_replay.specs.declared.line.Kind.{Kind}
 use Rattle.schedule_replay.specs.declared.line.Kind.TheVariants as kinds
 use Rattle.schedule_replay.specs.declared.line.Word.{Word}
 use Rattle.schedule_replay.specs.declared.line.Word.TheVariants as words
-use Rattle.store_spec.specs.Build.Reason.{Malformed, Invalid}
-use Rattle.store_spec.specs.Election.{Election}
 
 -- ---- what holds of each
 
@@ -94,11 +91,11 @@ WithinBy tabs words.Steps numbers = All (λ t. t ≤ tabs) numbers
 abbrev IsWithin : ℕ → ReplayLine → Type 0
 IsWithin tabs line = WithinBy tabs line.word line.numbers
 
-kind_within : (tabs : ℕ) (kind : Kind) (numbers : List ℕ) → WithinBy tabs (word_of kind) numbers
+kind_within : (tabs : ℕ) (kind : Kind) (numbers : List ℕ) → WithinBy tabs (word_of_kind kind) numbers
 kind_within tabs kinds.Cast numbers = tt
 kind_within tabs kinds.Withdraw numbers = tt
 
-all_within : (e : Election) (input : Input) → IsInput e input → All (IsWithin input.tabs) (lines_in input)
+all_within : (e : Election) (input : ReplayInput) → IsInput e input → All (IsWithin input.tabs) (lines_in input)
 all_within e input valid =
     let P = IsWithin input.tabs in
     let others = behind input.additions input.turns in
@@ -109,21 +106,21 @@ all_within e input valid =
 
 -- ---- why a line is refused
 
-begins_with : (parts : List ReplayLine) (line : ReplayLine) (input : Input) → BeginsInput (parts ++ line ∷ []) input → (others : List ReplayLine) × (parts ++ line ∷ others ≡ lines_in input)
+begins_with : (parts : List ReplayLine) (line : ReplayLine) (input : ReplayInput) → BeginsInput (parts ++ line ∷ []) input → (others : List ReplayLine) × (parts ++ line ∷ others ≡ lines_in input)
 begins_with parts line input b = (b.others, sym (b.first ∙ append_assoc parts (line ∷ []) b.others))
 
 -- before the base
-pub wrong_first : (e : Election) (line : ReplayLine) → line.word ≢ words.Start → IsRefused e [] line Malformed
+pub wrong_first : (e : Election) (line : ReplayLine) → line.word ≢ words.Start → IsLineRefused e [] line Malformed
 wrong_first e line wrong input b =
     let begun = begins_with [] line input b in wrong (same_word (line ∷ begun.0) (lines_in input) 0 begun.1)
 
 -- before the kind
-pub wrong_second : (e : Election) (first line : ReplayLine) → ((kind : Kind) → line.word ≢ word_of kind) → IsRefused e (first ∷ []) line Malformed
+pub wrong_second : (e : Election) (first line : ReplayLine) → ((kind : Kind) → line.word ≢ word_of_kind kind) → IsLineRefused e (first ∷ []) line Malformed
 wrong_second e first line wrong input b =
     let begun = begins_with (first ∷ []) line input b in wrong input.kind (same_word (first ∷ line ∷ begun.0) (lines_in input) 1 begun.1)
 
 -- where both are there
-pub wrong_behind : (e : Election) (old : Input) (line : ReplayLine) → ¬ IsBehind line.word → IsRefused e (lines_in old) line Malformed
+pub wrong_behind : (e : Election) (old : ReplayInput) (line : ReplayLine) → ¬ IsBehind line.word → IsLineRefused e (lines_in old) line Malformed
 wrong_behind e old line wrong input b =
     let begun = begins_with (lines_in old) line input b in
     let rest = rest_of (behind old.additions old.turns ++ line ∷ begun.0) (behind input.additions input.turns) (base_line old.base) (kind_line old.kind old.tabs) (base_line input.base) (kind_line input.kind input.tabs) begun.1 in
@@ -131,16 +128,16 @@ wrong_behind e old line wrong input b =
     wrong (All-middle P (behind old.additions old.turns) line begun.0 (subst (All P) (sym rest) (words_behind input.additions input.turns)))
 
 -- behind turns
-pub wrong_turns : (e : Election) (old : Input) (line : ReplayLine) → 0 < length old.turns → line.word ≢ words.Steps → IsRefused e (lines_in old) line Malformed
+pub wrong_turns : (e : Election) (old : ReplayInput) (line : ReplayLine) → 0 < length old.turns → line.word ≢ words.Steps → IsLineRefused e (lines_in old) line Malformed
 wrong_turns e old line some wrong input b =
     let begun = begins_with (lines_in old) line input b in
     let rest = rest_of (behind old.additions old.turns ++ line ∷ begun.0) (behind input.additions input.turns) (base_line old.base) (kind_line old.kind old.tabs) (base_line input.base) (kind_line input.kind input.tabs) begun.1 in
     wrong (behind_turns old.additions input.additions old.turns input.turns line begun.0 some rest)
 
 -- an input whose base is no set within the limit
-pub wrong_base : (e : Election) (numbers : List ℕ) → ¬ (AllPairs (λ a b. a ≢ b) numbers × (length numbers ≤ e.limit)) → IsRefused e [] (base_line numbers) Invalid
+pub wrong_base : (e : Election) (numbers : List ℕ) → ¬ (AllPairs (λ a b. a ≢ b) numbers × (length numbers ≤ e.limit)) → IsLineRefused e [] (base_line numbers) Invalid
 wrong_base e numbers wrong = (
-  (let any : Input = record { base = numbers; kind = kinds.Cast; tabs = 1; additions = []; turns = [] } in any, record { others = kind_line kinds.Cast 1 ∷ []; first = refl }),
+  (let any : ReplayInput = record { base = numbers; kind = kinds.Cast; tabs = 1; additions = []; turns = [] } in any, record { others = kind_line kinds.Cast 1 ∷ []; first = refl }),
   λ input valid b.
       let begun = begins_with [] (base_line numbers) input b in
       let same = same_numbers (base_line numbers ∷ begun.0) (lines_in input) 0 begun.1 in
@@ -148,7 +145,7 @@ wrong_base e numbers wrong = (
 )
 
 -- whoever a line names is there in every valid input that begins so
-named_within : (e : Election) (old input : Input) (line : ReplayLine) → IsInput e input → BeginsInput (lines_in old ++ line ∷ []) input → IsWithin old.tabs line
+named_within : (e : Election) (old input : ReplayInput) (line : ReplayLine) → IsInput e input → BeginsInput (lines_in old ++ line ∷ []) input → IsWithin old.tabs line
 named_within e old input line valid b =
     let begun = begins_with (lines_in old) line input b in
     let tabs : old.tabs ≡ input.tabs = ap (λ ns. get_or ns 0 0) (same_numbers (lines_in old ++ line ∷ begun.0) (lines_in input) 1 begun.1) in
@@ -156,10 +153,10 @@ named_within e old input line valid b =
     (All-middle (IsWithin input.tabs) (lines_in old) line begun.0 (subst (All (IsWithin input.tabs)) (sym begun.1) (all_within e input valid)))
 
 -- with one more addition, where there are no turns
-abbrev pub with_addition : Input → Addition → Input
+abbrev pub with_addition : ReplayInput → Addition → ReplayInput
 with_addition input a = record { base = input.base; kind = input.kind; tabs = input.tabs; additions = input.additions ++ a ∷ []; turns = input.turns }
 
-pub lines_added : (input : Input) (a : Addition) → input.turns ≡ [] → lines_in input ++ addition_line a ∷ [] ≡ lines_in (with_addition input a)
+pub lines_added : (input : ReplayInput) (a : Addition) → input.turns ≡ [] → lines_in input ++ addition_line a ∷ [] ≡ lines_in (with_addition input a)
 lines_added input a none =
     ap (λ ls. base_line input.base ∷ kind_line input.kind input.tabs ∷ ls)
     (ap (λ ts. (map addition_line input.additions ++ map turns_line ts) ++ addition_line a ∷ []) none
@@ -169,25 +166,25 @@ lines_added input a none =
     ∙ ap (λ ts. map addition_line (input.additions ++ a ∷ []) ++ map turns_line ts) (sym none))
 
 -- with more turns
-abbrev pub with_turns : Input → List ℕ → Input
+abbrev pub with_turns : ReplayInput → List ℕ → ReplayInput
 with_turns input turns = record { base = input.base; kind = input.kind; tabs = input.tabs; additions = input.additions; turns = input.turns ++ turns ∷ [] }
 
-pub lines_turned : (input : Input) (turns : List ℕ) → lines_in input ++ turns_line turns ∷ [] ≡ lines_in (with_turns input turns)
+pub lines_turned : (input : ReplayInput) (turns : List ℕ) → lines_in input ++ turns_line turns ∷ [] ≡ lines_in (with_turns input turns)
 lines_turned input turns =
     ap (λ ls. base_line input.base ∷ kind_line input.kind input.tabs ∷ ls)
     (append_assoc (map addition_line input.additions) (map turns_line input.turns) (turns_line turns ∷ [])
     ∙ ap (λ ls. map addition_line input.additions ++ ls) (sym (map-append turns_line input.turns (turns ∷ []))))
 
-pub all_begun : (parts : List ReplayLine) (input : Input) → parts ≡ lines_in input → BeginsInput parts input
+pub all_begun : (parts : List ReplayLine) (input : ReplayInput) → parts ≡ lines_in input → BeginsInput parts input
 all_begun parts input is = record { others = []; first = sym is ∙ sym (append-nil parts) }
 
-pub wrong_addition : (e : Election) (old : Input) (a : Addition) → old.turns ≡ [] → old.tabs < a.tab → IsRefused e (lines_in old) (addition_line a) Invalid
+pub wrong_addition : (e : Election) (old : ReplayInput) (a : Addition) → old.turns ≡ [] → old.tabs < a.tab → IsLineRefused e (lines_in old) (addition_line a) Invalid
 wrong_addition e old a none above = (
   (with_addition old a, all_begun (lines_in old ++ addition_line a ∷ []) (with_addition old a) (lines_added old a none)),
   λ input valid b. let within : a.tab ≤ old.tabs = named_within e old input (addition_line a) valid b in omega arith,
 )
 
-pub wrong_named : (e : Election) (old : Input) (turns : List ℕ) → ¬ All (λ t. t ≤ old.tabs) turns → IsRefused e (lines_in old) (turns_line turns) Invalid
+pub wrong_named : (e : Election) (old : ReplayInput) (turns : List ℕ) → ¬ All (λ t. t ≤ old.tabs) turns → IsLineRefused e (lines_in old) (turns_line turns) Invalid
 wrong_named e old turns wrong = (
   (with_turns old turns, all_begun (lines_in old ++ turns_line turns ∷ []) (with_turns old turns) (lines_turned old turns)),
   λ input valid b. wrong (named_within e old input (turns_line turns) valid b),

@@ -1,10 +1,8 @@
 -- A measure read as one number: where the first number that differs is less, the whole is less.
 use Rattle.std.proofs.Common.{◌≡◌, ℕ, suc, ◌+◌, ◌*◌, ◌^◌, ◌<◌, ◌≤◌, inl, inr, List, [], ◌∷◌, length, drop, sym, ap, ◌∙◌, subst, arith}
+use Rattle.store_spec.proofs.Common.{All, All-head, All-tail, Falls}
 use Rattle.std.proofs.Math.Nat.{mul-le-mul_right, pow-succ', pow-zero}
-use Rattle.std.proofs.lemmas.List.Elements.{All-head, All-tail}
-use Rattle.std.specs.List.{All}
 use Rattle.schedule_replay.specs.Machine.{number_of}
-use Rattle.store_spec.specs.Measure.{Falls}
 
 -- a digit and what comes behind it
 digit : (n b power rest : ℕ) → n < b → rest < power → n * power + rest < b * power

@@ -1,15 +1,10 @@
 -- Numbers with a space before each: as they are read, and that they are read in one way.
 use Rattle.std.proofs.Common.{◌≡◌, ℕ, ◌<◌, List, [], ◌∷◌, ◌++◌, All, length, Option, Some, None, refl, sym, ap, subst, ◌∙◌, append_assoc, arith, lit<}
-use Rattle.std.proofs.lemmas.Grind.{flat_map-append}
-use Rattle.std.proofs.lemmas.List.{append-nil}
-use Rattle.std.proofs.lemmas.List.Elements.{All-append, All-cons, All-head, All-nil, All-tail}
-use Rattle.std.proofs.lemmas.Option.{none-some, some_pair_parts}
-use Rattle.std.specs.Fmt.{decimal}
+use Rattle.store_spec.proofs.Common.{All-append, All-cons, All-head, All-nil, All-tail, IsNumber, append-nil, decimal, flat_map-append, none-some, some_pair_parts}
 use Rattle.std.specs.Prelude.{flat_map}
 use Rattle.ballot_record.proofs.LineNumbers.{StopsDigits, number_again, number_takes}
 use Rattle.ballot_record.specs.LineReading.{digits_at}
 use Rattle.schedule_replay.specs.ReplayLine.{AreNumbers, TakesNumber, number_text}
-use Rattle.store_spec.specs.ScriptLine.{IsNumber}
 
 -- the greatest number
 abbrev most : ℕ

@@ -1,7 +1,6 @@
 -- What a replay's script gives is decided by its text, but for faults and want of memory.
 use Rattle.std.proofs.Common.{◌≡◌, ℕ, zero, suc, ◌+◌, ◌<◌, ◌≤◌, List, [], ◌∷◌, ◌++◌, length, take, drop, Option, Some, Result, Ok, Err, ◌⊎◌, inl, inr, ⊎_elim, refl, sym, ◌∙◌, ap, subst, append_assoc, arith}
-use Rattle.std.proofs.lemmas.List.{take-append-drop, take-take, append-nil}
-use Rattle.std.specs.List.{AllZip}
+use Rattle.store_spec.proofs.Common.{AllZip, Election, Invalid, Malformed, Reason, append-nil, lines_of, script_limit, take-append-drop, take-take, taken_lines, taken_within}
 use Rattle.ballot_record.proofs.Reasons.{same_why}
 use Rattle.ballot_record.specs.LineWhy.{reason}
 use Rattle.ballot_record.specs.declared.fault.LineWhy.{LineWhy}
@@ -9,15 +8,12 @@ use Rattle.outside_io.proofs.FirstLine.{all_within}
 use Rattle.outside_io.proofs.Told.{told_at}
 use Rattle.outside_io.specs.Outside.{Outside}
 use Rattle.schedule_replay.specs.Ends.{ReplayEnds, HasBadLine, IsDecided}
-use Rattle.schedule_replay.specs.Input.{Input, IsInput, lines_in}
-use Rattle.schedule_replay.specs.Refusal.{AreGood, AreLinesOf, Begin, EndsEarly, IsFirstBad, IsLastBad}
+use Rattle.schedule_replay.specs.Input.{IsInput, ReplayInput, lines_in}
+use Rattle.schedule_replay.specs.Refusal.{AreGood, AreLinesOf, Begin, EndsEarly, IsFirstBadReplayLine, IsLastBad}
 use Rattle.schedule_replay.specs.ReplayLine.{ReplayLine, TakenAs}
 use Rattle.schedule_replay.specs.declared.fault.ReplayFault.{ReplayFault}
 use Rattle.schedule_replay.specs.declared.fault.ReplayFault.TheVariants as faults
-use Rattle.store_spec.specs.Build.{Reason}
-use Rattle.store_spec.specs.Build.Reason.{Malformed, Invalid, Duplicate, Conflict, Full}
-use Rattle.store_spec.specs.Election.{Election}
-use Rattle.store_spec.specs.Input.{script_limit, lines_of, taken_lines, taken_within}
+use Rattle.store_spec.specs.Build.Reason.{Duplicate, Conflict, Full}
 
 -- ---- lines
 
@@ -38,7 +34,7 @@ zip_length [] (p ∷ parts) each = absurd each
 zip_length (l ∷ lines) [] each = absurd each
 zip_length (l ∷ lines) (p ∷ parts) each = ap suc (zip_length lines parts each.1)
 
-begin_take : (n : ℕ) (lines : Taken) (input : Input) → Begin lines input → Begin (take n lines) input
+begin_take : (n : ℕ) (lines : Taken) (input : ReplayInput) → Begin lines input → Begin (take n lines) input
 begin_take n lines input begin = record {
   parts = take n begin.parts;
   each = zip_take n lines begin.parts begin.each;
@@ -52,7 +48,7 @@ begin_take n lines input begin = record {
 good_take : (e : Election) (n : ℕ) (lines : Taken) → AreGood e lines → AreGood e (take n lines)
 good_take e n lines good = (good.0, begin_take n lines good.0 good.1, good.2)
 
-whole_good : (e : Election) (lines : Taken) (input : Input) → AreLinesOf input lines → IsInput e input → AreGood e lines
+whole_good : (e : Election) (lines : Taken) (input : ReplayInput) → AreLinesOf input lines → IsInput e input → AreGood e lines
 whole_good e lines input each valid = (input, record { parts = lines_in input; each = each; first = record { others = []; first = sym (append-nil (lines_in input)) } }, valid)
 
 -- ---- the first bad line
@@ -64,11 +60,11 @@ last_not_good e lines Duplicate bad good = bad
 last_not_good e lines Conflict bad good = bad
 last_not_good e lines Full bad good = bad
 
-bad_not_good : (e : Election) (lines : Taken) (at : ℕ) (why : Reason) → IsFirstBad e lines at why → ¬ AreGood e lines
+bad_not_good : (e : Election) (lines : Taken) (at : ℕ) (why : Reason) → IsFirstBadReplayLine e lines at why → ¬ AreGood e lines
 bad_not_good e lines at why bad good = last_not_good e (take (bad.index + 1) lines) why bad.bad (good_take e (bad.index + 1) lines good)
 
 -- the lines up to a bad one are not good
-none_before : (e : Election) (lines : Taken) (m n : ℕ) (v w : Reason) (a : IsFirstBad e lines m v) (b : IsFirstBad e lines n w) → ¬ (a.index < b.index)
+none_before : (e : Election) (lines : Taken) (m n : ℕ) (v w : Reason) (a : IsFirstBadReplayLine e lines m v) (b : IsFirstBadReplayLine e lines n w) → ¬ (a.index < b.index)
 none_before e lines m n v w a b lt =
     last_not_good e (take (a.index + 1) lines) v a.bad
     (subst (AreGood e) (take-take (a.index + 1) b.index lines (omega arith)) (good_take e (a.index + 1) (take b.index lines) b.good))
@@ -85,7 +81,7 @@ one_reason e lines v Duplicate x y = absurd y
 one_reason e lines v Conflict x y = absurd y
 one_reason e lines v Full x y = absurd y
 
-one_bad : (e : Election) (lines : Taken) (m n : ℕ) (v w : Reason) → IsFirstBad e lines m v → IsFirstBad e lines n w → (m ≡ n) × (v ≡ w)
+one_bad : (e : Election) (lines : Taken) (m n : ℕ) (v w : Reason) → IsFirstBadReplayLine e lines m v → IsFirstBadReplayLine e lines n w → (m ≡ n) × (v ≡ w)
 one_bad e lines m n v w a b =
     let left = none_before e lines m n v w a b in
     let right = none_before e lines n m w v b a in
@@ -99,11 +95,11 @@ one_bad e lines m n v w a b =
 -- a bad line, or lines that end too early
 abbrev IsBadAt : Election → List ℕ → ℕ → Reason → Type 0
 IsBadAt e text line why =
-    IsFirstBad e (taken_within script_limit text) line why
+    IsFirstBadReplayLine e (taken_within script_limit text) line why
     ⊎ ((length text ≤ script_limit) × EndsEarly e (taken_within script_limit text) line why)
 
 abbrev pub Decides : Election → List ℕ → Result (Unit {0}) ReplayFault → Type 0
-Decides e text (Ok done) = (length text ≤ script_limit) × ((input : Input) × AreLinesOf input (taken_within script_limit text) × IsInput e input)
+Decides e text (Ok done) = (length text ≤ script_limit) × ((input : ReplayInput) × AreLinesOf input (taken_within script_limit text) × IsInput e input)
 Decides e text (Err (faults.BadLine line why)) = IsBadAt e text line (reason why)
 Decides e text (Err faults.TooLong) = (script_limit < length text) × AreGood e (taken_within script_limit text)
 Decides e text (Err other) = ⊥
@@ -131,7 +127,7 @@ replay_decides e (Err faults.WriteFault) before after text is decided ends = abs
 replay_decides e (Err faults.Memory) before after text is decided ends = absurd decided
 
 -- an input has its first two lines
-never_early : (e : Election) (lines : Taken) (input : Input) (at : ℕ) (why : Reason) → AreLinesOf input lines → ¬ EndsEarly e lines at why
+never_early : (e : Election) (lines : Taken) (input : ReplayInput) (at : ℕ) (why : Reason) → AreLinesOf input lines → ¬ EndsEarly e lines at why
 never_early e lines input at why each early = omega (arith, zip_length lines (lines_in input) each, early.early)
 
 good_or_bad : (e : Election) (text : List ℕ) (line : ℕ) (why : Reason) → AreGood e (taken_within script_limit text) → (length text ≤ script_limit → ¬ EndsEarly e (taken_within script_limit text) line why) → ¬ IsBadAt e text line why

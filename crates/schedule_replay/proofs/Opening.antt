@@ -1,17 +1,13 @@
 -- The phase of a script that is ready, and what a machine that plays it tells.
 use Rattle.std.proofs.Common.{◌≡◌, ◌≢◌, ◌≤◌, ℕ, List, Result, Ok, Err, length, map, sym, ap, ◌∙◌, subst, arith}
-use Rattle.std.specs.Prelude.{IfOk}
-use Rattle.std.proofs.lemmas.List.{length-map}
-use Rattle.std.proofs.lemmas.List.Elements.{All-map, All-weaker}
-use Rattle.std.specs.List.{All}
+use Rattle.store_spec.proofs.Common.{All, All-map, All-weaker, Election, IfOk, IsNumber, length-map, most_ballots}
 use Rattle.schedule_replay.proofs.CastShort as cast_short
 use Rattle.schedule_replay.proofs.Playing.{TellsCasting, TellsWithdrawing, cast_told, withdraw_told}
 use Rattle.schedule_replay.proofs.WithdrawShort as withdraw_short
 use Rattle.schedule_replay.specs.Machine.{IsShort, IsShortCasting, IsShortWithdrawing}
-use Rattle.store_spec.specs.ScriptLine.{IsNumber}
 use Rattle.schedule_replay.specs.Replayed.{ReplaysCast, ReplaysWithdraw}
 use Rattle.schedule_replay.specs.Runs.{IsScheduled}
-use Rattle.schedule_replay.specs.Script.{IsReady, lists_of}
+use Rattle.schedule_replay.specs.Script.{MayBeOpened, lists_of}
 use Rattle.schedule_replay.specs.declared.script.Script.{Script}
 use Rattle.step_core.specs.Casting as casting
 use Rattle.step_core.specs.CastingInvariant as casting_kept
@@ -19,7 +15,6 @@ use Rattle.step_core.specs.Casting.{Casting}
 use Rattle.step_core.specs.Withdrawing as withdrawing
 use Rattle.step_core.specs.WithdrawingInvariant as withdrawing_kept
 use Rattle.step_core.specs.Withdrawing.{Withdrawing}
-use Rattle.store_spec.specs.Election.{Election}
 
 each_short : (numbers : List ℕ) → All IsNumber numbers → All IsShort numbers
 each_short numbers h = All-weaker IsNumber IsShort (λ n is. is.1) numbers h
@@ -42,7 +37,7 @@ pub withdraw_counted : (e : Election) (script : Script) (core : Withdrawing) →
 withdraw_counted e script core is = ap (λ (w : Withdrawing). length w.tabs) is ∙ simp length-map
 
 -- the turns of a script are those of as many
-pub turns_within : (e : Election) (script : Script) (turns : List ℕ) (tabs : ℕ) → IsReady e script → turns ≡ script.schedule.items → tabs ≡ length script.lists.items → IsScheduled tabs turns
+pub turns_within : (e : Election) (script : Script) (turns : List ℕ) (tabs : ℕ) → MayBeOpened e script → turns ≡ script.schedule.items → tabs ≡ length script.lists.items → IsScheduled tabs turns
 turns_within e script turns tabs ready same counted =
     subst (λ (n : ℕ). IsScheduled n turns) (sym counted) (subst (IsScheduled (length script.lists.items)) (sym same) ready.turns)
 
@@ -56,12 +51,12 @@ module _ {C : Type 0} (open_as : ℕ → ℕ → ℕ → List ℕ → List (List
       ∙ ap (λ n. open_as e.bits e.salt n start (lists_of script)) l
       ∙ ap (λ ns. open_as e.bits e.salt e.limit ns (lists_of script)) base
 
-pub cast_opens : (e : Election) (script : Script) (core : Casting) → IsReady e script → e.limit ≤ 32768 → core ≡ casting.opened e.bits e.salt e.limit script.base.items (lists_of script) → casting_kept.IsCasting core → IsShortCasting core
+pub cast_opens : (e : Election) (script : Script) (core : Casting) → MayBeOpened e script → e.limit ≤ most_ballots → core ≡ casting.opened e.bits e.salt e.limit script.base.items (lists_of script) → casting_kept.IsCasting core → IsShortCasting core
 cast_opens e script core ready few is holds =
     subst IsShortCasting (sym is) (cast_short.opened_short e.bits e.salt e.limit script.base.items (lists_of script) few (each_short script.base.items ready.base)
     (lists_short (λ list. list.items) script.lists.items ready.listed) (subst casting_kept.IsCasting is holds))
 
-pub withdraw_opens : (e : Election) (script : Script) (core : Withdrawing) → IsReady e script → e.limit ≤ 32768 → core ≡ withdrawing.opened e.bits e.salt e.limit script.base.items (lists_of script) → withdrawing_kept.IsWithdrawing core → IsShortWithdrawing core
+pub withdraw_opens : (e : Election) (script : Script) (core : Withdrawing) → MayBeOpened e script → e.limit ≤ most_ballots → core ≡ withdrawing.opened e.bits e.salt e.limit script.base.items (lists_of script) → withdrawing_kept.IsWithdrawing core → IsShortWithdrawing core
 withdraw_opens e script core ready few is holds =
     subst IsShortWithdrawing (sym is) (withdraw_short.opened_short e.bits e.salt e.limit script.base.items (lists_of script) few (each_short script.base.items ready.base)
     (subst withdrawing_kept.IsWithdrawing is holds))

@@ -1,9 +1,6 @@
 -- What a machine that plays a phase tells is the text of a replay.
 use Rattle.std.proofs.Common.{◌≡◌, ℕ, ◌<◌, Option, List, length, subst, arith}
-use Rattle.std.proofs.lemmas.Option.{slice_get-get_or}
-use Rattle.std.specs.List.{All}
-use Rattle.std.specs.Option.{IsSomeAnd}
-use Rattle.std.specs.Prelude.{slice_get}
+use Rattle.store_spec.proofs.Common.{All, Election, IsSomeAnd, slice_get, slice_get-get_or}
 use Rattle.schedule_replay.specs.Machine.{IsShortCasting, IsShortWithdrawing}
 use Rattle.schedule_replay.specs.Replayed.{ReplaysCast, ReplaysWithdraw, cast_words, places_of, withdraw_words}
 use Rattle.schedule_replay.specs.Runs.{TellsReplay}
@@ -13,7 +10,6 @@ use Rattle.step_core.specs.Casting as casting
 use Rattle.step_core.specs.Casting.{Casting}
 use Rattle.step_core.specs.Withdrawing as withdrawing
 use Rattle.step_core.specs.Withdrawing.{Withdrawing}
-use Rattle.store_spec.specs.Election.{Election}
 
 -- each one of so many is done, so all are
 pub all_done : {X : Type 0} (IsDone : X → Type 0) (tabs : List X) (many : ℕ) → length tabs ≡ many → ((id : ℕ) → id < many → IsSomeAnd (slice_get tabs id) IsDone) → All IsDone tabs

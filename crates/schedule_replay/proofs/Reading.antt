@@ -1,9 +1,7 @@
 -- The lines of a script as they are read: they are good, or which of them is the first bad one.
 use Rattle.std.proofs.Common.{◌≡◌, ℕ, ◌+◌, ◌<◌, ◌≤◌, List, [], ◌∷◌, ◌++◌, All, length, take, Option, Some, None, Ok, Err, refl, ap, sym, subst, ◌∙◌, arith, append_assoc, length-append}
-use Rattle.std.specs.List.{AllZip}
-use Rattle.std.proofs.lemmas.List.{length-drop, take_at}
-use Rattle.std.proofs.lemmas.List.Elements.{All-nil}
-use Rattle.std.proofs.lemmas.Slice.Zip.{AllZip-long, all_zipped_more}
+use Rattle.store_spec.proofs.Common.{All-nil, AllZip, AllZip-long, Election, Invalid, Malformed, Reason, length-drop, script_limit, take_at}
+use Rattle.std.proofs.lemmas.Slice.Zip.{all_zipped_more}
 use Rattle.ballot_record.specs.LineWhy.{reason}
 use Rattle.ballot_record.specs.declared.fault.LineWhy.{LineWhy}
 use Rattle.ballot_record.specs.declared.fault.LineWhy.TheVariants as whys
@@ -17,10 +15,10 @@ use Rattle.schedule_replay.proofs.Takings.{kept_at}
 use Rattle.schedule_replay.proofs.Words.{one_parts}
 use Rattle.schedule_replay.specs.Ends.{HasBadLine, HasTooMuch, IsGoodSoFar}
 use Rattle.schedule_replay.specs.Ends.HasBadLine.{bad, early}
-use Rattle.schedule_replay.specs.Input.{Addition, Input, IsInput, kind_line, lines_in}
-use Rattle.schedule_replay.specs.Refusal.{AreGood, AreLinesOf, Begin, BeginsInput, EndsEarly, IsFirstBad, IsLastBad}
-use Rattle.schedule_replay.specs.ReplayLine.{ReadsAs, ReplayLine, TakenAs}
-use Rattle.schedule_replay.specs.Script.{HasRead, IsAt, IsReady, IsRefused, IsWhole, TakesLine}
+use Rattle.schedule_replay.specs.Input.{Addition, IsInput, ReplayInput, kind_line, lines_in}
+use Rattle.schedule_replay.specs.Refusal.{AreGood, AreLinesOf, Begin, BeginsInput, EndsEarly, IsFirstBadReplayLine, IsLastBad}
+use Rattle.schedule_replay.specs.ReplayLine.{ReadsAsReplay, ReplayLine, TakenAs}
+use Rattle.schedule_replay.specs.Script.{HasBothLines, HasRead, IsAt, IsLineRefused, MayBeOpened, TakesLine}
 use Rattle.schedule_replay.specs.Script.TakesLine.{reads, reads_none, no_memory}
 use Rattle.schedule_replay.specs.Spelled.{SpellsScript}
 use Rattle.schedule_replay.specs.declared.fault.Refusal.TheVariants as refusals
@@ -28,10 +26,7 @@ use Rattle.schedule_replay.specs.declared.line.Kind.TheVariants as kinds
 use Rattle.schedule_replay.specs.declared.script.Script.{Script}
 use Rattle.schedule_replay.specs.declared.script.Stage.{Stage}
 use Rattle.schedule_replay.specs.declared.script.Stage.TheVariants as stages
-use Rattle.store_spec.specs.Build.{Reason}
-use Rattle.store_spec.specs.Build.Reason.{Malformed, Invalid, Duplicate, Conflict, Full}
-use Rattle.store_spec.specs.Election.{Election}
-use Rattle.store_spec.specs.Input.{script_limit}
+use Rattle.store_spec.specs.Build.Reason.{Duplicate, Conflict, Full}
 
 -- ---- lines by their parts
 
@@ -64,15 +59,15 @@ none_taken e script read = record { parts = []; each = tt; read = read; counted 
 
 -- a valid input that begins with these parts
 record ValidInput (e : Election) (parts : List ReplayLine) : Type 0 where
-  input : Input
+  input : ReplayInput
   begins : BeginsInput parts input
   valid : IsInput e input
 
 -- one of a base
-abbrev opening : Script → Input
+abbrev opening : Script → ReplayInput
 opening script = record { base = script.base.items; kind = kinds.Cast; tabs = 1; additions = []; turns = [] }
 
-valid_opening : (e : Election) (script : Script) → IsReady e script → IsInput e (opening script)
+valid_opening : (e : Election) (script : Script) → MayBeOpened e script → IsInput e (opening script)
 valid_opening e script ready = record {
   distinct = ready.distinct;
   few = ready.few;
@@ -80,7 +75,7 @@ valid_opening e script ready = record {
   scheduled = All-nil (All (λ (tab : ℕ). tab ≤ 1));
 }
 
-valid_at : (e : Election) (script : Script) (parts : List ReplayLine) (stage : Stage) → IsReady e script → IsAt stage e script parts → ValidInput e parts
+valid_at : (e : Election) (script : Script) (parts : List ReplayLine) (stage : Stage) → MayBeOpened e script → IsAt stage e script parts → ValidInput e parts
 valid_at e script parts stages.Base ready at = record {
   input = opening script;
   begins = record { others = lines_in (opening script); first = ap (λ ps. ps ++ lines_in (opening script)) (sym at.0) };
@@ -102,10 +97,10 @@ good_taken e script count lines taken =
 -- ---- a line that is bad behind good ones
 
 -- whatever input begins with the lines begins with their parts
-begins_same : (lines : List (Option (List ℕ))) (parts : List ReplayLine) (input : Input) → AllZip TakenAs lines parts → Begin lines input → BeginsInput parts input
+begins_same : (lines : List (Option (List ℕ))) (parts : List ReplayLine) (input : ReplayInput) → AllZip TakenAs lines parts → Begin lines input → BeginsInput parts input
 begins_same lines parts input each b = subst (λ ps. BeginsInput ps input) (one_parts lines b.parts parts b.each each) b.first
 
-refused_last : (e : Election) (parts : List ReplayLine) (line : ReplayLine) (lines : List (Option (List ℕ))) (bytes : List ℕ) (why : Reason) → AllZip TakenAs lines parts → ReadsAs bytes line → IsRefused e parts line why → IsLastBad e (lines ++ Some bytes ∷ []) why
+refused_last : (e : Election) (parts : List ReplayLine) (line : ReplayLine) (lines : List (Option (List ℕ))) (bytes : List ℕ) (why : Reason) → AllZip TakenAs lines parts → ReadsAsReplay bytes line → IsLineRefused e parts line why → IsLastBad e (lines ++ Some bytes ∷ []) why
 refused_last e parts line lines bytes Malformed each is refused =
     let all = all_zipped_more TakenAs lines parts (Some bytes) line each is in
     λ form. refused form.0 (begins_same (lines ++ Some bytes ∷ []) (parts ++ line ∷ []) form.0 all form.1)
@@ -172,7 +167,7 @@ one_bad e old new bytes count why takes lines taken = record {
 
 -- ---- how the reading ends
 
-first_bad : (e : Election) (count : ℕ) (why : Reason) (lines others : List (Option (List ℕ))) → AreBad e count why lines → IsFirstBad e (lines ++ others) (count + 1) why
+first_bad : (e : Election) (count : ℕ) (why : Reason) (lines others : List (Option (List ℕ))) → AreBad e count why lines → IsFirstBadReplayLine e (lines ++ others) (count + 1) why
 first_bad e count why lines others b =
     let before = b.before in
     let n = length before in
@@ -180,22 +175,22 @@ first_bad e count why lines others b =
     let all : lines ++ others ≡ before ++ b.line ∷ others = ap (λ ls. ls ++ others) b.last ∙ append_assoc before one others in
     let front : take (n + 1) (before ++ b.line ∷ others) ≡ before ++ one =
     ap (take (n + 1)) (sym (append_assoc before one others)) ∙ take_at (before ++ one) others (n + 1) (length-append before one) in
-    let there : IsFirstBad e (before ++ b.line ∷ others) (count + 1) why = record {
+    let there : IsFirstBadReplayLine e (before ++ b.line ∷ others) (count + 1) why = record {
       index = n;
       counted = ap (λ k. k + 1) b.counted;
       within = omega (arith, length-append before (b.line ∷ others));
       good = subst (AreGood e) (sym (take_at before (b.line ∷ others) n refl)) b.good;
       bad = subst (λ (ls : List (Option (List ℕ))). IsLastBad e ls why) (sym front) b.refused;
     } in
-    subst (λ (ls : List (Option (List ℕ))). IsFirstBad e ls (count + 1) why) (sym all) there
+    subst (λ (ls : List (Option (List ℕ))). IsFirstBadReplayLine e ls (count + 1) why) (sym all) there
 
 pub told_bad : {a b : Option (List ℕ)} (e : Election) (count : ℕ) (why : Reason) → ReadsTo ReadFirst (AreBad e count why) a b → IfTold a b (GivesAtMost (script_limit + 1)) → IfTold a b (HasBadLine e (count + 1) why)
 told_bad e count why read given = told_as (told_with read.told given) (λ x y h.
     let first = h.0 in
-    bad (subst (λ (ls : List (Option (List ℕ))). IsFirstBad e ls (count + 1) why) (sym first.1) (first_bad e count why read.lines first.0 read.good)) h.1)
+    bad (subst (λ (ls : List (Option (List ℕ))). IsFirstBadReplayLine e ls (count + 1) why) (sym first.1) (first_bad e count why read.lines first.0 read.good)) h.1)
 
 -- all lines of an input were taken
-pub told_input : {a b : Option (List ℕ)} (e : Election) (script : Script) (count : ℕ) → IsWhole script.stage → ReadsTo (ReadLines ReadOut) (AreTaken e script count) a b → SpellsScript e a b script
+pub told_input : {a b : Option (List ℕ)} (e : Election) (script : Script) (count : ℕ) → HasBothLines script.stage → ReadsTo (ReadLines ReadOut) (AreTaken e script count) a b → SpellsScript e a b script
 told_input e script count whole read =
     let taken = read.good in
     let kept = kept_at e script taken.parts script.stage whole taken.read.stage in
@@ -207,14 +202,14 @@ told_input e script count whole read =
       spelled = told_as read.told (λ x y h. ((h.0, h.1), subst (AreLinesOf kept.input) h.2 each));
     }
 
-few_parts : (e : Election) (script : Script) (parts : List ReplayLine) (stage : Stage) → ¬ IsWhole stage → IsAt stage e script parts → length parts < 2
+few_parts : (e : Election) (script : Script) (parts : List ReplayLine) (stage : Stage) → ¬ HasBothLines stage → IsAt stage e script parts → length parts < 2
 few_parts e script parts stages.Base part at = omega (arith, ap length at.0)
 few_parts e script parts stages.Kind part at = omega (arith, ap length at.0)
 few_parts e script parts stages.Lists part at = absurd (part tt)
 few_parts e script parts stages.Turns part at = absurd (part tt)
 
 -- the input ended before its second line
-pub told_early : {a b : Option (List ℕ)} (e : Election) (script : Script) (count : ℕ) → ¬ IsWhole script.stage → ReadsTo (ReadLines ReadOut) (AreTaken e script count) a b → IfTold a b (HasBadLine e (count + 1) Malformed)
+pub told_early : {a b : Option (List ℕ)} (e : Election) (script : Script) (count : ℕ) → ¬ HasBothLines script.stage → ReadsTo (ReadLines ReadOut) (AreTaken e script count) a b → IfTold a b (HasBadLine e (count + 1) Malformed)
 told_early e script count part read =
     let taken = read.good in
     let ends : EndsEarly e read.lines (count + 1) Malformed = record {

@@ -1,12 +1,8 @@
 -- The replies of a list, as the words that are told.
 use Rattle.std.proofs.Common.{◌≡◌, ℕ, Option, Some, None, Result, Ok, Err, List, [], ◌++◌, map, sym, ap, ◌∙◌}
-use Rattle.std.proofs.lemmas.Simd.{map-map}
-use Rattle.std.proofs.lemmas.Option.{slice_get-map}
-use Rattle.std.specs.Option.{option_map_or}
-use Rattle.std.specs.Prelude.{IfOk, option_map, slice_get}
+use Rattle.store_spec.proofs.Common.{IfOk, map-map, option_map, option_map_or, reply_lines, slice_get, slice_get-map, withdraw_text}
 use Rattle.reply_lines.specs.Words.{met_text}
 use Rattle.schedule_replay.specs.Replayed.{cast_words, withdraw_words}
-use Rattle.store_spec.specs.Session.{reply_lines, withdraw_text}
 use Rattle.step_core.specs.CastCore.{met_of}
 use Rattle.step_core.specs.Casting as casting
 use Rattle.step_core.specs.Casting.{Casting}

@@ -1,9 +1,6 @@
 -- What one step of a phase does to the others, and schedules of a phase as those of a machine.
 use Rattle.std.proofs.Common.{◌≡◌, ◌≢◌, ℕ, Option, Some, None, List, length, get_or, set, refl, sym, ap, ◌∙◌, subst, arith}
-use Rattle.std.proofs.lemmas.List.{get_or-set_other, length-set}
-use Rattle.std.proofs.lemmas.Option.{get_or_from_slice_get, slice_get-get_or, slice_get_within}
-use Rattle.std.specs.Option.{IsSomeAnd}
-use Rattle.std.specs.Prelude.{slice_get}
+use Rattle.store_spec.proofs.Common.{IsSomeAnd, get_or-set_other, get_or_from_slice_get, length-set, slice_get, slice_get-get_or, slice_get_within}
 use Rattle.schedule_replay.proofs.CastShort as cast_short
 use Rattle.schedule_replay.proofs.WithdrawShort as withdraw_short
 use Rattle.schedule_replay.specs.Machine.{IsShortCasting, IsShortWithdrawing}

@@ -1,24 +1,13 @@
 -- What is kept after one more line.
 use Rattle.std.proofs.Common.{◌≡◌, ◌≢◌, ◌==◌, if◌then◌else◌, ℕ, zero, suc, ◌+◌, ◌-◌, ◌<◌, ◌≤◌, List, [], ◌∷◌, ◌++◌, All, AllPairs, length, get_or, take, drop, set, map, replicate, refl, sym, ap, subst, ◌∙◌, arith, length-append, length-drop}
-use Rattle.std.proofs.lemmas.Bool.{cond-false, cond-true, eq-eqb, ne_eqb}
-use Rattle.std.proofs.lemmas.Grind.{flat_map-append}
-use Rattle.std.proofs.lemmas.List.{append-nil, get_or-map, length-map, length-replicate, length-set, map-set, take_all}
-use Rattle.std.proofs.lemmas.List.Elements.{All-append, All-cons, All-head, All-nil, All-set, All-tail}
-use Rattle.std.proofs.lemmas.List.FromFn.{get_or-map-range_with_len}
-use Rattle.std.specs.List.{range_with_len}
-use Rattle.std.specs.List.Sorted.{IsNonDecreasing, IsPermutation, IsStrictlyIncreasing}
-use Rattle.std.proofs.lemmas.Bool.Decides.{Decides-eqb}
+use Rattle.store_spec.proofs.Common.{All-append, All-cons, All-head, All-nil, All-set, All-tail, Decides-eqb, Election, Global, Invalid, IsDistinct-from_AllPairs, IsNonDecreasing, IsNumber, IsPermutation, IsPermutation-sym, IsStrictlyIncreasing, Malformed, Vec, append-nil, cond-false, cond-true, eq-eqb, flat_map-append, get_or-map, get_or-map-range_with_len, length-map, length-replicate, length-set, map-set, ne_eqb, range_with_len, take_all}
 use Rattle.std.proofs.lemmas.List.Kept.{AllPairs-from_increasing}
-use Rattle.std.proofs.lemmas.List.Sorted.{IsPermutation-sym}
 use Rattle.std.proofs.lemmas.Map.Keys.{IsStrictlyIncreasing-from_distinct}
-use Rattle.std.proofs.lemmas.Map.Made.{IsDistinct-from_AllPairs}
 use Rattle.layout_def.proofs.Ascending.{distinct-IsPermutation}
-use Rattle.std.specs.Prelude.{Vec}
-use Rattle.std.specs.declared.alloc.Global.{Global}
 use Rattle.schedule_replay.proofs.Inputs.{All-map, IsBehind, lines_added, lines_turned, with_addition, with_turns, wrong_addition, wrong_base, wrong_behind, wrong_first, wrong_named, wrong_second, wrong_turns}
-use Rattle.schedule_replay.specs.Input.{Addition, Input, IsInput, addition_line, base_line, kind_line, list_at, lines_in, lists_in, schedule_in, turns_line, word_of}
+use Rattle.schedule_replay.specs.Input.{Addition, ReplayInput, IsInput, addition_line, base_line, kind_line, list_at, lines_in, lists_in, schedule_in, turns_line, word_of_kind}
 use Rattle.schedule_replay.specs.ReplayLine.{HasForm, ReplayLine}
-use Rattle.schedule_replay.specs.Script.{HasRead, HoldsBase, IsAt, IsRefused, Keeps, MayCome, line_at, lists_of}
+use Rattle.schedule_replay.specs.Script.{HasRead, HoldsBase, IsAt, IsLineRefused, Keeps, MayCome, line_at, lists_of}
 use Rattle.schedule_replay.specs.declared.line.Kind.{Kind}
 use Rattle.schedule_replay.specs.declared.line.Kind.TheVariants as kinds
 use Rattle.schedule_replay.specs.declared.line.Word.{Word}
@@ -26,9 +15,7 @@ use Rattle.schedule_replay.specs.declared.line.Word.TheVariants as words
 use Rattle.schedule_replay.specs.declared.script.Script.{Script}
 use Rattle.schedule_replay.specs.declared.script.Stage.{Stage}
 use Rattle.schedule_replay.specs.declared.script.Stage.TheVariants as stages
-use Rattle.store_spec.specs.Build.Reason.{Malformed, Invalid}
-use Rattle.store_spec.specs.Election.{Election}
-use Rattle.store_spec.specs.ScriptLine.{IsNumber}
+use Rattle.store_spec.specs.ScriptLine.{most_tabs}
 
 at_stage : (e : Election) (script : Script) (parts : List ReplayLine) (stage : Stage) → script.stage ≡ stage → HasRead e script parts → IsAt stage e script parts
 at_stage e script parts stage is h = subst (λ s. IsAt s e script parts) is h.stage
@@ -80,14 +67,14 @@ from_each : (script : Script) → All (λ list. All IsNumber list.items) script.
 from_each script h = All-map (All IsNumber) (λ (list : Vec ℕ Global). list.items) script.lists.items h
 
 pub took_kind : (e : Election) (old new : Script) (kind : Kind) (tabs : ℕ) → old.stage ≡ stages.Kind → new.stage ≡ stages.Lists → new.kind ≡ kind → new.base ≡ old.base → lists_of new ≡ lists_of old ++ replicate tabs [] → new.schedule ≡ old.schedule
-    → 1 ≤ tabs → tabs ≤ 64 → (parts : List ReplayLine) → HasRead e old parts → HasRead e new (parts ++ kind_line kind tabs ∷ [])
+    → 1 ≤ tabs → tabs ≤ most_tabs → (parts : List ReplayLine) → HasRead e old parts → HasRead e new (parts ++ kind_line kind tabs ∷ [])
 took_kind e old new kind tabs was stage kind_now base lists schedule some few parts h =
     let at = at_stage e old parts stages.Kind was h in
     let empty : lists_of new ≡ replicate tabs [] = lists ∙ ap (λ (ls : List (Vec ℕ Global)). map (λ list. list.items) ls ++ replicate tabs []) at.1.lists in
     let long : length new.lists.items ≡ tabs = sym (length-map new.lists.items (λ (list : Vec ℕ Global). list.items)) ∙ ap length empty ∙ length-replicate tabs [] in
     let same : new.base.items ≡ old.base.items = ap (λ b. b.items) base in
     let none : new.schedule.items ≡ [] = ap (λ s. s.items) schedule ∙ at.1.schedule in
-    let input : Input = record { base = old.base.items; kind = kind; tabs = tabs; additions = []; turns = [] } in
+    let input : ReplayInput = record { base = old.base.items; kind = kind; tabs = tabs; additions = []; turns = [] } in
     let valid : IsInput e input = record {
       distinct = h.ready.distinct;
       few = h.ready.few;
@@ -180,7 +167,7 @@ took_addition e old new a list was stage kind base schedule some within is lists
 
 -- at both stages an input is kept
 pub record KeptAt (e : Election) (script : Script) (parts : List ReplayLine) : Type 0 where
-  pub input : Input
+  pub input : ReplayInput
   pub lines : parts ≡ lines_in input
   pub keeps : Keeps e script input
 
@@ -248,22 +235,22 @@ distinct_sorted numbers copy sorted is same order apart =
 
 -- ---- refusals
 
-pub refused_base : (e : Election) (old : Script) (numbers : List ℕ) → old.stage ≡ stages.Base → ¬ (AllPairs (λ a b. a ≢ b) numbers × (length numbers ≤ e.limit)) → (parts : List ReplayLine) → HasRead e old parts → IsRefused e parts (base_line numbers) Invalid
+pub refused_base : (e : Election) (old : Script) (numbers : List ℕ) → old.stage ≡ stages.Base → ¬ (AllPairs (λ a b. a ≢ b) numbers × (length numbers ≤ e.limit)) → (parts : List ReplayLine) → HasRead e old parts → IsLineRefused e parts (base_line numbers) Invalid
 refused_base e old numbers was wrong parts h =
     let at = at_stage e old parts stages.Base was h in
-    subst (λ ps. IsRefused e ps (base_line numbers) Invalid) (sym at.0) (wrong_base e numbers wrong)
+    subst (λ ps. IsLineRefused e ps (base_line numbers) Invalid) (sym at.0) (wrong_base e numbers wrong)
 
-pub refused_addition : (e : Election) (old : Script) (a : Addition) → old.stage ≡ stages.Lists → length old.lists.items < a.tab → (parts : List ReplayLine) → HasRead e old parts → IsRefused e parts (addition_line a) Invalid
+pub refused_addition : (e : Election) (old : Script) (a : Addition) → old.stage ≡ stages.Lists → length old.lists.items < a.tab → (parts : List ReplayLine) → HasRead e old parts → IsLineRefused e parts (addition_line a) Invalid
 refused_addition e old a was above parts h =
     let at = at_stage e old parts stages.Lists was h in
-    subst (λ ps. IsRefused e ps (addition_line a) Invalid) (sym at.1) (wrong_addition e at.0 a at.2 (omega (arith, at.3.tabs)))
+    subst (λ ps. IsLineRefused e ps (addition_line a) Invalid) (sym at.1) (wrong_addition e at.0 a at.2 (omega (arith, at.3.tabs)))
 
-pub refused_turns : (e : Election) (old : Script) (turns : List ℕ) → MayCome old.stage words.Steps → ¬ All (λ t. t ≤ length old.lists.items) turns → (parts : List ReplayLine) → HasRead e old parts → IsRefused e parts (turns_line turns) Invalid
+pub refused_turns : (e : Election) (old : Script) (turns : List ℕ) → MayCome old.stage words.Steps → ¬ All (λ t. t ≤ length old.lists.items) turns → (parts : List ReplayLine) → HasRead e old parts → IsLineRefused e parts (turns_line turns) Invalid
 refused_turns e old turns may wrong parts h =
     let at = kept_at e old parts old.stage may h.stage in
-    subst (λ ps. IsRefused e ps (turns_line turns) Invalid) (sym at.lines) (wrong_named e at.input turns (λ each. wrong (subst (λ n. All (λ t. t ≤ n) turns) at.keeps.tabs each)))
+    subst (λ ps. IsLineRefused e ps (turns_line turns) Invalid) (sym at.lines) (wrong_named e at.input turns (λ each. wrong (subst (λ n. All (λ t. t ≤ n) turns) at.keeps.tabs each)))
 
-kind_comes : (kind : Kind) → MayCome stages.Kind (word_of kind)
+kind_comes : (kind : Kind) → MayCome stages.Kind (word_of_kind kind)
 kind_comes kinds.Cast = tt
 kind_comes kinds.Withdraw = tt
 
@@ -274,22 +261,22 @@ behind_comes words.Withdraw h = absurd h
 behind_comes words.List h = tt
 behind_comes words.Steps h = tt
 
-refused_at : (e : Election) (script : Script) (line : ReplayLine) (parts : List ReplayLine) (stage : Stage) → ¬ MayCome stage line.word → IsAt stage e script parts → IsRefused e parts line Malformed
+refused_at : (e : Election) (script : Script) (line : ReplayLine) (parts : List ReplayLine) (stage : Stage) → ¬ MayCome stage line.word → IsAt stage e script parts → IsLineRefused e parts line Malformed
 refused_at e script line parts stages.Base wrong at =
-    subst (λ ps. IsRefused e ps line Malformed) (sym at.0) (wrong_first e line (λ is. wrong (subst (MayCome stages.Base) (sym is) tt)))
+    subst (λ ps. IsLineRefused e ps line Malformed) (sym at.0) (wrong_first e line (λ is. wrong (subst (MayCome stages.Base) (sym is) tt)))
 refused_at e script line parts stages.Kind wrong at =
-    subst (λ ps. IsRefused e ps line Malformed) (sym at.0) (wrong_second e (base_line script.base.items) line (λ kind is. wrong (subst (MayCome stages.Kind) (sym is) (kind_comes kind))))
+    subst (λ ps. IsLineRefused e ps line Malformed) (sym at.0) (wrong_second e (base_line script.base.items) line (λ kind is. wrong (subst (MayCome stages.Kind) (sym is) (kind_comes kind))))
 refused_at e script line parts stages.Lists wrong at =
-    subst (λ ps. IsRefused e ps line Malformed) (sym at.1) (wrong_behind e at.0 line (λ h. wrong (behind_comes line.word h)))
+    subst (λ ps. IsLineRefused e ps line Malformed) (sym at.1) (wrong_behind e at.0 line (λ h. wrong (behind_comes line.word h)))
 refused_at e script line parts stages.Turns wrong at =
-    subst (λ ps. IsRefused e ps line Malformed) (sym at.1) (wrong_turns e at.0 line at.2 (λ is. wrong (subst (MayCome stages.Turns) (sym is) tt)))
+    subst (λ ps. IsLineRefused e ps line Malformed) (sym at.1) (wrong_turns e at.0 line at.2 (λ is. wrong (subst (MayCome stages.Turns) (sym is) tt)))
 
-pub refused_word : (e : Election) (script : Script) (line : ReplayLine) → ¬ MayCome script.stage line.word → (parts : List ReplayLine) → HasRead e script parts → IsRefused e parts line Malformed
+pub refused_word : (e : Election) (script : Script) (line : ReplayLine) → ¬ MayCome script.stage line.word → (parts : List ReplayLine) → HasRead e script parts → IsLineRefused e parts line Malformed
 refused_word e script line wrong parts h = refused_at e script line parts script.stage wrong h.stage
 
 -- ---- numbers that have their form
 
-pub form_one : (kind : Kind) (numbers : List ℕ) → HasForm (word_of kind) numbers → (numbers ≡ get_or numbers 0 0 ∷ []) × (get_or numbers 0 0 ≤ 64)
+pub form_one : (kind : Kind) (numbers : List ℕ) → HasForm (word_of_kind kind) numbers → (numbers ≡ get_or numbers 0 0 ∷ []) × (get_or numbers 0 0 ≤ most_tabs)
 form_one kinds.Cast [] form = absurd form
 form_one kinds.Cast (n ∷ ns) form = (ap (λ xs. n ∷ xs) form.1, form.0)
 form_one kinds.Withdraw [] form = absurd form
@@ -305,8 +292,8 @@ first_number numbers rest is each =
     let h = subst (All IsNumber) is each in
     (All-head IsNumber (get_or numbers 0 0) rest h, All-tail IsNumber (get_or numbers 0 0) rest h)
 
-pub line_of_one : (kind : Kind) (numbers : List ℕ) (e : Election) (new : Script) (parts : List ReplayLine) → numbers ≡ get_or numbers 0 0 ∷ [] → HasRead e new (parts ++ kind_line kind (get_or numbers 0 0) ∷ []) → HasRead e new (parts ++ line_at (word_of kind) numbers ∷ [])
-line_of_one kind numbers e new parts is h = subst (λ (ns : List ℕ). HasRead e new (parts ++ line_at (word_of kind) ns ∷ [])) (sym is) h
+pub line_of_one : (kind : Kind) (numbers : List ℕ) (e : Election) (new : Script) (parts : List ReplayLine) → numbers ≡ get_or numbers 0 0 ∷ [] → HasRead e new (parts ++ kind_line kind (get_or numbers 0 0) ∷ []) → HasRead e new (parts ++ line_at (word_of_kind kind) numbers ∷ [])
+line_of_one kind numbers e new parts is h = subst (λ (ns : List ℕ). HasRead e new (parts ++ line_at (word_of_kind kind) ns ∷ [])) (sym is) h
 
 -- the addition of a line
 abbrev pub addition_of : List ℕ → Addition
@@ -316,9 +303,9 @@ pub taken_as_list : (numbers : List ℕ) (e : Election) (old new : Script) → n
     → (parts : List ReplayLine) → HasRead e old parts → HasRead e new (parts ++ line_at words.List numbers ∷ [])
 taken_as_list numbers e old new is took parts h = subst (λ (ns : List ℕ). HasRead e new (parts ++ line_at words.List ns ∷ [])) (sym is) (took parts h)
 
-pub refused_as_list : (numbers : List ℕ) (e : Election) (old : Script) → numbers ≡ get_or numbers 0 0 ∷ drop 1 numbers → ((parts : List ReplayLine) → HasRead e old parts → IsRefused e parts (addition_line (addition_of numbers)) Invalid)
-    → (parts : List ReplayLine) → HasRead e old parts → IsRefused e parts (line_at words.List numbers) Invalid
-refused_as_list numbers e old is refused parts h = subst (λ (ns : List ℕ). IsRefused e parts (line_at words.List ns) Invalid) (sym is) (refused parts h)
+pub refused_as_list : (numbers : List ℕ) (e : Election) (old : Script) → numbers ≡ get_or numbers 0 0 ∷ drop 1 numbers → ((parts : List ReplayLine) → HasRead e old parts → IsLineRefused e parts (addition_line (addition_of numbers)) Invalid)
+    → (parts : List ReplayLine) → HasRead e old parts → IsLineRefused e parts (line_at words.List numbers) Invalid
+refused_as_list numbers e old is refused parts h = subst (λ (ns : List ℕ). IsLineRefused e parts (line_at words.List ns) Invalid) (sym is) (refused parts h)
 
 -- one list of a script is extended
 pub lists_set : (lists : List (Vec ℕ Global)) (i : ℕ) (list : Vec ℕ Global) → map (λ (l : Vec ℕ Global). l.items) (set lists i list) ≡ set (map (λ (l : Vec ℕ Global). l.items) lists) i list.items

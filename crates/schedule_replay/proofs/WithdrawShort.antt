@@ -1,10 +1,6 @@
 -- The numbers of a withdrawing phase fit in 64 bits at every moment, so that its measures fit in the digits of a number.
 use Rattle.std.proofs.Common.{◌≡◌, ℕ, ◌-◌, ◌*◌, ◌^◌, ◌<◌, ◌≤◌, Option, Some, List, [], ◌∷◌, length, map, refl, sym, ap, ◌∙◌, subst, arith}
-use Rattle.std.proofs.Math.Pow.{pow_mono}
-use Rattle.std.proofs.lemmas.List.Elements.{All-cons, All-contains, All-nil}
-use Rattle.std.specs.List.{All}
-use Rattle.std.specs.Option.{option_map_or}
-use Rattle.std.specs.Prelude.{slice_get}
+use Rattle.store_spec.proofs.Common.{All, All-cons, All-contains, All-nil, Chosen, Down, IsOfBase, IsSound, Owing, Up, WithdrawState, WithdrawView, cell_words, most_ballots, option_map_or, pow_mono, slice_get, withdraw_measure}
 use Rattle.schedule_replay.proofs.CastShort.{ascending_short}
 use Rattle.schedule_replay.proofs.Measures.{number_falls}
 use Rattle.schedule_replay.specs.Machine.{IsShort, IsShortWithdrawing, measure_base, number_of, withdraw_work}
@@ -12,9 +8,7 @@ use Rattle.step_core.proofs.Sets.{All-from_map, at_place}
 use Rattle.step_core.proofs.WithdrawingBase.{base_layout, of_base_held}
 use Rattle.step_core.specs.Withdrawing.{Steps, Withdrawer, Withdrawing, base_in, count_in, home_in, opened}
 use Rattle.step_core.specs.WithdrawingInvariant.{FallsAt, IsWithdrawing, tab_measure, view_of}
-use Rattle.store_spec.specs.WithdrawInvariant.{IsOf, IsSound, cell_words}
-use Rattle.store_spec.specs.WithdrawStep.{WithdrawState, WithdrawView, withdraw_measure}
-use Rattle.store_spec.specs.WithdrawStep.WithdrawState.{Rest, Chosen, Owing, Up, Down}
+use Rattle.store_spec.specs.WithdrawStep.WithdrawState.{Rest}
 
 -- ---- what is kept
 
@@ -22,7 +16,7 @@ pub step_short : (w : Withdrawing) (id : ℕ) (now : Withdrawing) → IsShortWit
 step_short w id now h s holds =
     subst (λ (d : Withdrawing). IsWithdrawing d → IsShortWithdrawing d) (sym s.is) (λ kept. record { holds = kept; limit = h.limit; held = h.held }) holds
 
-pub opened_short : (bits salt limit : ℕ) (start : List ℕ) (lists : List (List ℕ)) → limit ≤ 32768 → All IsShort start → IsWithdrawing (opened bits salt limit start lists) → IsShortWithdrawing (opened bits salt limit start lists)
+pub opened_short : (bits salt limit : ℕ) (start : List ℕ) (lists : List (List ℕ)) → limit ≤ most_ballots → All IsShort start → IsWithdrawing (opened bits salt limit start lists) → IsShortWithdrawing (opened bits salt limit start lists)
 opened_short bits salt limit start lists few short holds = record { holds = holds; limit = few; held = ascending_short start short }
 
 -- ---- the measure
@@ -32,7 +26,7 @@ four_below a b c d one two three four =
     let P : ℕ → Type 0 = λ n. n < measure_base in
     All-cons P a (b ∷ c ∷ d ∷ []) one (All-cons P b (c ∷ d ∷ []) two (All-cons P c (d ∷ []) three (All-cons P d [] four (All-nil P))))
 
-state_below : (home : ℕ → ℕ) (base cells : List ℕ) (views : List WithdrawView) (state : WithdrawState) (many : ℕ) → many ≤ 2 ^ 17 → length base ≡ many → ((x : ℕ) → IsOf base x → IsShort x) → IsSound home base cells views state → All (λ n. n < measure_base) (withdraw_measure many state)
+state_below : (home : ℕ → ℕ) (base cells : List ℕ) (views : List WithdrawView) (state : WithdrawState) (many : ℕ) → many ≤ 2 ^ 17 → length base ≡ many → ((x : ℕ) → IsOfBase base x → IsShort x) → IsSound home base cells views state → All (λ n. n < measure_base) (withdraw_measure many state)
 state_below home base cells views Rest many few counted short sound = four_below 0 0 0 0 (omega arith) (omega arith) (omega arith) (omega arith)
 state_below home base cells views (Chosen x place) many few counted short sound = four_below (many - place) 0 0 0 (omega arith) (omega arith) (omega arith) (omega arith)
 state_below home base cells views (Owing x bound) many few counted short sound =
@@ -60,8 +54,8 @@ tab_below w id tab h stands =
     let sound = at_place (λ (t : Withdrawer). IsSound (home_in w) (base_in w) cells views t.state) w.tabs id tab stands
     (All-from_map (λ (view : WithdrawView). IsSound (home_in w) (base_in w) cells views view.state) view_of w.tabs i.invariant.states) in
     let homes : 2 ^ w.bits ≤ 2 ^ 16 = pow_mono i.few_bits in
-    let few : w.limit ≤ 32768 = h.limit in
-    let of_base : (x : ℕ) → IsOf (base_in w) x → IsShort x = λ x of. All-contains IsShort w.held x h.held (of_base_held w.bits w.salt w.limit w.held i.few_bits i.within_limit i.some i.distinct x of) in
+    let few : w.limit ≤ most_ballots = h.limit in
+    let of_base : (x : ℕ) → IsOfBase (base_in w) x → IsShort x = λ x of. All-contains IsShort w.held x h.held (of_base_held w.bits w.salt w.limit w.held i.few_bits i.within_limit i.some i.distinct x of) in
     state_below (home_in w) (base_in w) cells views tab.state (count_in w) (omega arith) (base_layout w.bits w.salt w.limit w.held i.few_bits i.within_limit i.some i.distinct).size of_base sound
 
 pub work_falls : (w : Withdrawing) (id : ℕ) (now : Withdrawing) → IsShortWithdrawing now → Steps w id now → FallsAt w id now → withdraw_work now id < withdraw_work w id

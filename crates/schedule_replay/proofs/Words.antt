@@ -1,8 +1,8 @@
 -- A line reads in one way.
 use Rattle.std.proofs.Common.{◌≡◌, ℕ, List, [], ◌∷◌, ◌++◌, get_or, Option, Some, None, refl, sym, ap, subst, ◌∙◌, arith}
-use Rattle.std.specs.List.{AllZip}
+use Rattle.store_spec.proofs.Common.{AllZip}
 use Rattle.schedule_replay.proofs.Numbers.{one_reading}
-use Rattle.schedule_replay.specs.ReplayLine.{AreNumbers, HasForm, ReadsAs, ReplayLine, TakenAs, word_text}
+use Rattle.schedule_replay.specs.ReplayLine.{AreNumbers, HasForm, ReadsAsReplay, ReplayLine, TakenAs, word_text}
 use Rattle.schedule_replay.specs.declared.line.Word.{Word}
 use Rattle.schedule_replay.specs.declared.line.Word.TheVariants as words
 
@@ -37,7 +37,7 @@ one_word words.Steps words.Withdraw a b e = differs 0 115 119 _ _ e refl refl (�
 one_word words.Steps words.List a b e = differs 0 115 108 _ _ e refl refl (λ e. omega arith)
 one_word words.Steps words.Steps a b e = (refl, cc)
 
-pub one_line : (bytes : List ℕ) (l m : ReplayLine) → ReadsAs bytes l → ReadsAs bytes m → l ≡ m
+pub one_line : (bytes : List ℕ) (l m : ReplayLine) → ReadsAsReplay bytes l → ReadsAsReplay bytes m → l ≡ m
 one_line bytes l m a b =
     let same = one_word l.word m.word a.behind b.behind (sym a.begun ∙ b.begun) in
     let numbers = one_reading a.behind l.numbers m.numbers a.numbers (subst (λ rest. AreNumbers rest m.numbers) (sym same.1) b.numbers) in
@@ -61,19 +61,19 @@ one_parts (x ∷ lines) (l ∷ ls) (m ∷ ms) a b =
 
 -- ---- the answers of reading a line
 
-pub no_word : (bytes : List ℕ) → ((word : Word) (rest : List ℕ) → ¬ (bytes ≡ word_text word ++ rest)) → (line : ReplayLine) → ¬ ReadsAs bytes line
+pub no_word : (bytes : List ℕ) → ((word : Word) (rest : List ℕ) → ¬ (bytes ≡ word_text word ++ rest)) → (line : ReplayLine) → ¬ ReadsAsReplay bytes line
 no_word bytes none line reads = none line.word reads.behind reads.begun
 
-pub no_numbers : (bytes rest : List ℕ) (word : Word) → bytes ≡ word_text word ++ rest → ((ns : List ℕ) → ¬ AreNumbers rest ns) → (line : ReplayLine) → ¬ ReadsAs bytes line
+pub no_numbers : (bytes rest : List ℕ) (word : Word) → bytes ≡ word_text word ++ rest → ((ns : List ℕ) → ¬ AreNumbers rest ns) → (line : ReplayLine) → ¬ ReadsAsReplay bytes line
 no_numbers bytes rest word front none line reads =
     let same = one_word word line.word rest reads.behind (sym front ∙ reads.begun) in
     none line.numbers (subst (λ bs. AreNumbers bs line.numbers) (sym same.1) reads.numbers)
 
-pub no_form : (bytes rest numbers : List ℕ) (word : Word) → bytes ≡ word_text word ++ rest → AreNumbers rest numbers → ¬ HasForm word numbers → (line : ReplayLine) → ¬ ReadsAs bytes line
+pub no_form : (bytes rest numbers : List ℕ) (word : Word) → bytes ≡ word_text word ++ rest → AreNumbers rest numbers → ¬ HasForm word numbers → (line : ReplayLine) → ¬ ReadsAsReplay bytes line
 no_form bytes rest numbers word front read wrong line reads =
     let same = one_word word line.word rest reads.behind (sym front ∙ reads.begun) in
     let others = one_reading rest line.numbers numbers (subst (λ bs. AreNumbers bs line.numbers) (sym same.1) reads.numbers) read in
     wrong (subst (λ ns. HasForm word ns) others (subst (λ w. HasForm w line.numbers) (sym same.0) reads.form))
 
-pub reads_as : (bytes rest numbers : List ℕ) (word : Word) → bytes ≡ word_text word ++ rest → AreNumbers rest numbers → HasForm word numbers → ReadsAs bytes (record { word = word; numbers = numbers })
+pub reads_as : (bytes rest numbers : List ℕ) (word : Word) → bytes ≡ word_text word ++ rest → AreNumbers rest numbers → HasForm word numbers → ReadsAsReplay bytes (record { word = word; numbers = numbers })
 reads_as bytes rest numbers word front read form = record { form = form; behind = rest; begun = front; numbers = read }

@@ -2,9 +2,9 @@
 use Rattle.std.specs.Prelude.{◌≡◌, ℕ, ◌+◌, ◌≤◌, List, ◌++◌, length, Result, Ok, Err}
 use Rattle.ballot_record.specs.LineWhy.{reason}
 use Rattle.outside_io.specs.Stream.{GivesAtMost, GivesExactly, TakesAll, TakesSome}
-use Rattle.schedule_replay.specs.Input.{Input, IsInput}
+use Rattle.schedule_replay.specs.Input.{IsInput, ReplayInput}
 use Rattle.outside_io.specs.Outside.{Outside, NoFault, IsReadOut, OfScript, RefusesScript}
-use Rattle.schedule_replay.specs.Refusal.{AreGood, AreLinesOf, EndsEarly, IsFirstBad}
+use Rattle.schedule_replay.specs.Refusal.{AreGood, AreLinesOf, EndsEarly, IsFirstBadReplayLine}
 use Rattle.schedule_replay.specs.Replayed.{Replayed}
 use Rattle.schedule_replay.specs.declared.fault.ReplayFault.{ReplayFault}
 use Rattle.schedule_replay.specs.declared.fault.ReplayFault.TheVariants as faults
@@ -14,12 +14,12 @@ use Rattle.store_spec.specs.Fault.{Rose}
 use Rattle.store_spec.specs.Input.{script_limit, ended_lines, lines_of, taken_lines, taken_within}
 
 -- the script was read out, and its lines are the input's
-abbrev pub SpellsInput : Input → List ℕ → List ℕ → Type 0
+abbrev pub SpellsInput : ReplayInput → List ℕ → List ℕ → Type 0
 SpellsInput input text left = IsReadOut text left × AreLinesOf input (taken_lines (lines_of text))
 
 -- a line that ends within the limit is the first bad one, or the script was read out and ends before its second line
 pub data HasBadLine (e : Election) (line : ℕ) (why : Reason) (text left : List ℕ) : Type 0 where
-  bad : IsFirstBad e (taken_within script_limit text) line why → GivesAtMost (script_limit + 1) text left → HasBadLine e line why text left
+  bad : IsFirstBadReplayLine e (taken_within script_limit text) line why → GivesAtMost (script_limit + 1) text left → HasBadLine e line why text left
   early : IsReadOut text left → EndsEarly e (taken_lines (lines_of text)) line why → HasBadLine e line why text left
 
 -- one byte more than the limit was read, and no line that ends within the limit is bad
@@ -40,7 +40,7 @@ NoInput e faults.WriteFault text left = ⊥
 
 -- the script's lines are those of a valid input, and the sink took of the text of its replay as this says
 pub record WritesReplay {S K : Type 0} (e : Election) (before after : Outside S K) (Takes : List ℕ → Type 0) : Type 0 where
-  pub input : Input
+  pub input : ReplayInput
   pub valid : IsInput e input
   pub spelled : OfScript before after (SpellsInput input)
   pub text : List ℕ

@@ -15,7 +15,7 @@ pub record Addition : Type 0 where
 
 -- the base, the kind of phase, how many tabulators or withdrawers, what is appended to their lists, and what to the
 -- schedule, line by line; they are counted from 1
-pub record Input : Type 0 where
+pub record ReplayInput : Type 0 where
   pub base : List ℕ
   pub kind : Kind
   pub tabs : ℕ
@@ -24,15 +24,15 @@ pub record Input : Type 0 where
 
 -- ---- its lines
 
-abbrev pub word_of : Kind → Word
-word_of kinds.Cast = words.Cast
-word_of kinds.Withdraw = words.Withdraw
+abbrev pub word_of_kind : Kind → Word
+word_of_kind kinds.Cast = words.Cast
+word_of_kind kinds.Withdraw = words.Withdraw
 
 abbrev pub base_line : List ℕ → ReplayLine
 base_line base = record { word = words.Start; numbers = base }
 
 abbrev pub kind_line : Kind → ℕ → ReplayLine
-kind_line kind tabs = record { word = word_of kind; numbers = tabs ∷ [] }
+kind_line kind tabs = record { word = word_of_kind kind; numbers = tabs ∷ [] }
 
 abbrev pub addition_line : Addition → ReplayLine
 addition_line addition = record { word = words.List; numbers = addition.tab ∷ addition.numbers }
@@ -40,7 +40,7 @@ addition_line addition = record { word = words.List; numbers = addition.tab ∷ 
 abbrev pub turns_line : List ℕ → ReplayLine
 turns_line turns = record { word = words.Steps; numbers = turns }
 
-abbrev pub lines_in : Input → List ReplayLine
+abbrev pub lines_in : ReplayInput → List ReplayLine
 lines_in input =
     base_line input.base ∷ kind_line input.kind input.tabs
     ∷ (map addition_line input.additions ++ map turns_line input.turns)
@@ -51,14 +51,14 @@ lines_in input =
 abbrev pub list_at : List Addition → ℕ → List ℕ
 list_at additions tab = flat_map (λ a. if a.tab == tab then a.numbers else []) additions
 
-abbrev pub lists_in : Input → List (List ℕ)
+abbrev pub lists_in : ReplayInput → List (List ℕ)
 lists_in input = map (list_at input.additions) (range_with_len 1 input.tabs)
 
-abbrev pub schedule_in : Input → List ℕ
+abbrev pub schedule_in : ReplayInput → List ℕ
 schedule_in input = flat_map (λ turns. turns) input.turns
 
 -- a set within the election's limit, and nobody is named who is not there
-pub record IsInput (e : Election) (input : Input) : Type 0 where
+pub record IsInput (e : Election) (input : ReplayInput) : Type 0 where
   pub distinct : AllPairs (λ a b. a ≢ b) input.base
   pub few : length input.base ≤ e.limit
   pub listed : All (λ a. a.tab ≤ input.tabs) input.additions

@@ -9,6 +9,7 @@ use Rattle.step_core.specs.Withdrawing as withdrawing
 use Rattle.step_core.specs.WithdrawingInvariant as withdrawing_kept
 use Rattle.step_core.specs.Schedule.{Follows}
 use Rattle.step_core.specs.Withdrawing.{Withdrawing}
+use Rattle.store_spec.specs.Election.{most_ballots}
 
 -- one of them steps so many times
 abbrev pub StepsOn : {C : Type 0} → (C → ℕ → C → Type 0) → (C → ℕ → Type 0) → C → ℕ → C → Type 0
@@ -48,11 +49,11 @@ pub record IsShortTab (tab : casting.Tabulator) : Type 0 where
 
 pub record IsShortCasting (c : Casting) : Type 0 where
   pub holds : casting_kept.IsCasting c
-  pub limit : c.limit ≤ 32768
+  pub limit : c.limit ≤ most_ballots
   pub base : All IsShort c.base
   pub tabs : All IsShortTab c.tabs
 
 pub record IsShortWithdrawing (w : Withdrawing) : Type 0 where
   pub holds : withdrawing_kept.IsWithdrawing w
-  pub limit : w.limit ≤ 32768
+  pub limit : w.limit ≤ most_ballots
   pub held : All IsShort w.held

@@ -55,7 +55,7 @@ TakesNumber (Some x) bytes = IsNumber x.0 × (bytes ≡ number_text x.0 ++ x.1) 
 TakesNumber None bytes = (ns : List ℕ) → 0 < length bytes → ¬ AreNumbers bytes ns
 
 -- the bytes are in the grammar, and these are their parts
-pub record ReadsAs (bytes : List ℕ) (line : ReplayLine) : Type 0 where
+pub record ReadsAsReplay (bytes : List ℕ) (line : ReplayLine) : Type 0 where
   pub form : HasForm line.word line.numbers
   pub behind : List ℕ
   pub begun : bytes ≡ word_text line.word ++ behind
@@ -64,4 +64,4 @@ pub record ReadsAs (bytes : List ℕ) (line : ReplayLine) : Type 0 where
 -- the same of a line as it is taken: one that is too wide is not in the grammar
 abbrev pub TakenAs : Option (List ℕ) → ReplayLine → Type 0
 TakenAs None line = ⊥
-TakenAs (Some bytes) line = ReadsAs bytes line
+TakenAs (Some bytes) line = ReadsAsReplay bytes line

@@ -2,7 +2,7 @@
 
 ghost use Rattle.std.specs.Prelude.{◌≡◌, ◌≢◌, ◌↔◌, ◌++◌, ◌<◌, [], List, ℕ, IsTrue, IfOk, MatchBool, MatchOption, length, option_map};
 ghost use Rattle.schedule_replay.specs.ReplayLine.{AreNumbers, HasForm, TakesNumber, word_text};
-ghost use Rattle.schedule_replay.specs.Script.{Reads};
+ghost use Rattle.schedule_replay.specs.Script.{ReadsLine};
 
 use ballot_record::take_number;
 use outside_io::Memory;
@@ -103,7 +103,7 @@ fn has_form(word: Word, numbers: &[u64]) -> bool
 
 /// The word of a line that is in the grammar, and `None` for any other. Its numbers come into `numbers`.
 pub fn read_line(line: &[u8], numbers: &mut Vec<u64>) -> Result<Option<Word>, Memory>
-    ensures { Reads result line.now numbers.new.items }
+    ensures { ReadsLine result line.now numbers.new.items }
 {
     numbers.clear();
     let Some((word, rest)) = take_word(line) else {

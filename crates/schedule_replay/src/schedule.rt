@@ -4,7 +4,7 @@ ghost use Rattle.std.specs.Prelude.{◌≡◌, ◌≤◌, IfOk, string_bytes, ve
 ghost use Rattle.schedule_replay.specs.Ends.{ReplayEnds};
 ghost use Rattle.outside_io.specs.Outside.{input, output, outside};
 ghost use Rattle.schedule_replay.specs.Replayed.{ReplaysAs, ReplaysCast, ReplaysWithdraw};
-ghost use Rattle.schedule_replay.specs.Script.{IsReady, lists_of};
+ghost use Rattle.schedule_replay.specs.Script.{MayBeOpened, lists_of};
 
 use crate::fault::ReplayFault;
 use crate::line::Kind;
@@ -18,7 +18,7 @@ use step_core::{CastCore, WithdrawCore};
 
 /// The text of the replay of a casting phase.
 fn text_of_casts(alloc: Global, election: &Election, script: Script) -> Result<String, Memory>
-    requires ready { IsReady election.now script }
+    requires ready { MayBeOpened election.now script }
     requires some_list { 1 ≤ vec_len script.lists }
     ensures { IfOk result (λ text. ReplaysCast election.now script.base.items (lists_of script)
         script.schedule.items (string_bytes text)) }
@@ -37,7 +37,7 @@ fn text_of_casts(alloc: Global, election: &Election, script: Script) -> Result<S
 
 /// The text of the replay of a withdrawing phase.
 fn text_of_withdrawals(alloc: Global, election: &Election, script: Script) -> Result<String, Memory>
-    requires ready { IsReady election.now script }
+    requires ready { MayBeOpened election.now script }
     requires some_list { 1 ≤ vec_len script.lists }
     ensures { IfOk result (λ text. ReplaysWithdraw election.now script.base.items (lists_of script)
         script.schedule.items (string_bytes text)) }
@@ -56,7 +56,7 @@ fn text_of_withdrawals(alloc: Global, election: &Election, script: Script) -> Re
 
 /// The text of the replay of an input.
 fn text_of(alloc: Global, election: &Election, script: Script) -> Result<String, Memory>
-    requires ready { IsReady election.now script }
+    requires ready { MayBeOpened election.now script }
     requires some_list { 1 ≤ vec_len script.lists }
     ensures { IfOk result (λ text. ReplaysAs script.kind election.now script.base.items
         (lists_of script) script.schedule.items (string_bytes text)) }

@@ -3,8 +3,9 @@
 ghost use Rattle.std.specs.Prelude.{◌≡◌, ◌≢◌, ◌↔◌, ◌++◌, ◌<◌, ◌≤◌, [], List, All, AllPairs, IfOk, IsTrue, length, vec_len};
 ghost use Rattle.std.specs.List.Sorted.{IsStrictlyIncreasing};
 ghost use Rattle.store_spec.specs.Election as definition;
-ghost use Rattle.schedule_replay.specs.Input.{word_of};
-ghost use Rattle.schedule_replay.specs.Script.{AreRead, HasRead, IsWhole, MayCome, TakesLine, TakesRead, line_at};
+ghost use Rattle.store_spec.specs.ScriptLine.{most_tabs};
+ghost use Rattle.schedule_replay.specs.Input.{word_of_kind};
+ghost use Rattle.schedule_replay.specs.Script.{AreRead, HasBothLines, HasRead, MayCome, TakesLine, TakesRead, line_at};
 
 use crate::fault::Refusal;
 use crate::line::{Kind, Word, read_line};
@@ -64,7 +65,7 @@ impl Script {
 
     /// Whether both lines that an input must have are there.
     pub fn is_whole(&self) -> bool
-        ensures { IsTrue result ↔ IsWhole self.now.stage }
+        ensures { IsTrue result ↔ HasBothLines self.now.stage }
     {
         matches!(self.stage, Stage::Lists | Stage::Turns)
     }
@@ -115,9 +116,9 @@ impl Script {
 
     fn take_kind(&mut self, alloc: Global, kind: Kind, numbers: &[u64]) -> Result<(), Refusal>
         requires stage { self.old.stage ≡ Stage.Kind }
-        requires read { AreRead (word_of kind) numbers.now }
+        requires read { AreRead (word_of_kind kind) numbers.now }
         ensures { (e : definition.Election)
-            → TakesRead result e (line_at (word_of kind) numbers.now) self.old self.new }
+            → TakesRead result e (line_at (word_of_kind kind) numbers.now) self.old self.new }
     {
         for _ in 0..numbers[0] {
             self.lists.push(Vec::new(alloc))?;
@@ -158,7 +159,7 @@ impl Script {
 
 /// Appends turns, of 64 at most.
 fn push_turns(schedule: &mut Vec<u8>, turns: &[u64]) -> Result<(), Memory>
-    requires { All (λ tab. tab ≤ 64) turns.now }
+    requires { All (λ tab. tab ≤ most_tabs) turns.now }
     ensures { IfOk result (λ _. schedule.new.items ≡ schedule.old.items ++ turns.now) }
 {
     for tab in turns {

@@ -1,14 +1,14 @@
 //! The texts of a replay.
 
 ghost use Rattle.std.specs.Prelude.{◌≡◌, ◌++◌, IfOk, string_bytes};
-ghost use Rattle.schedule_replay.specs.Replayed.{cell_line, cell_lines, count_line};
+ghost use Rattle.schedule_replay.specs.Replayed.{cell_line, cell_lines, steps_line};
 
 use outside_io::Memory;
 
 /// Appends how many steps were scheduled.
 pub fn push_count(text: &mut String, count: usize) -> Result<(), Memory>
     ensures { IfOk result
-        (λ _. string_bytes text.new ≡ string_bytes text.old ++ count_line count) }
+        (λ _. string_bytes text.new ≡ string_bytes text.old ++ steps_line count) }
 {
     write!(text, "steps {count}\n")?;
     Ok(())

@@ -1,5 +1,6 @@
 -- The laws of `build`: its script decides how it ends, but for faults and want of memory.
 use Rattle.std.proofs.Common.{◌≡◌, ◌⊎◌, ℕ, ◌<◌, ◌≤◌, List, length, Some, Result, Ok, Err, inl, inr, refl, sym, ◌∙◌, ap, subst, arith}
+use Rattle.store_spec.proofs.Common.{Ballot, DiskModel, Election, Reason, lines_of, lines_within, script_limit}
 use Rattle.ballot_record.proofs.BuildLaws.{build_one_way}
 use Rattle.ballot_record.proofs.Reasons.{same_why}
 use Rattle.ballot_record.specs.LineWhy.{reason}
@@ -15,11 +16,7 @@ use Rattle.run_outcome.specs.declared.status.Status.{Status}
 use Rattle.run_outcome.specs.declared.status.Status.TheVariants as status
 use Rattle.run_outcome.specs.declared.status.Which.TheVariants as which
 use Rattle.script_commands.specs.Build.{BuildEnds, build_row}
-use Rattle.store_spec.specs.Ballot.{Ballot}
-use Rattle.store_spec.specs.Build.{Builds, BuiltFrom, Reason}
-use Rattle.store_spec.specs.Disk.{DiskModel}
-use Rattle.store_spec.specs.Election.{Election}
-use Rattle.store_spec.specs.Input.{script_limit, lines_of, lines_within}
+use Rattle.store_spec.specs.Build.{Builds, BuiltFrom}
 
 -- the status that a script decides, and why
 abbrev pub BuildDecides : Election → List ℕ → Status → Type 0

@@ -1,6 +1,6 @@
 -- What `build` makes of a script that was read.
 use Rattle.std.proofs.Common.{◌≡◌, ℕ, List, Err, ap, subst, ◌∙◌, arith, refl}
-use Rattle.std.specs.List.{AllZip}
+use Rattle.store_spec.proofs.Common.{AllZip, Ballot, CountsFaultIf, Election, IsListing, IsWithinLimit, Spells, image_of, lines_of}
 use Rattle.ballot_record.proofs.BallotSets.{in_order, in_order-IsPermutation, set_of_listing}
 use Rattle.body_store.proofs.BallotSets.{limit-IsPermutation}
 use Rattle.body_store.proofs.Listings.{image_of-IsPermutation}
@@ -11,12 +11,6 @@ use Rattle.script_commands.specs.declared.build.script.ScriptFault.{ScriptFault}
 use Rattle.script_commands.specs.declared.build.script.ScriptFault.TheVariants.{BadLine, TooLong, ReadFault, Memory}
 use Rattle.run_outcome.specs.declared.status.Status.TheVariants as status
 use Rattle.outside_io.proofs.Told.{told_as}
-use Rattle.store_spec.specs.Ballot.{Ballot, IsListing, IsWithinLimit}
-use Rattle.store_spec.specs.BallotLine.{Spells}
-use Rattle.store_spec.specs.Election.{Election}
-use Rattle.store_spec.specs.Fault.{CountsFaultIf}
-use Rattle.store_spec.specs.Image.{image_of}
-use Rattle.store_spec.specs.Input.{lines_of}
 
 -- where the sink was left alone, and the script did not fail, nothing failed
 quiet : {S K : Type 0} (before after : Outside S K) → after.sink ≡ before.sink → after.script.faults ≡ before.script.faults → NoFault before after

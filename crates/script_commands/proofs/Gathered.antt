@@ -1,8 +1,7 @@
 -- The cells of an image, of which a sink takes one page after another.
 use Rattle.std.proofs.Common.{◌≡◌, ℕ, zero, suc, ◌+◌, ◌*◌, ◌<◌, ◌≤◌, List, [], ◌∷◌, ◌++◌, take, drop, get_or, length, replicate, Option, refl, sym, ap, ap₂, subst, ◌∙◌, arith}
-use Rattle.std.proofs.lemmas.Grind.{flat_map-append}
-use Rattle.std.proofs.lemmas.List.{drop-drop, get_or-drop, length-drop, replicate_more, take-append-drop, take_more}
-use Rattle.std.specs.List.{flat_map}
+use Rattle.store_spec.proofs.Common.{drop-drop, flat_map, flat_map-append, get_or-drop, length-drop, take-append-drop, take_more}
+use Rattle.std.proofs.lemmas.List.{replicate_more}
 use Rattle.body_store.proofs.Images.{pieces_of_one}
 use Rattle.outside_io.proofs.Written.{IsWritten, more_gathered}
 

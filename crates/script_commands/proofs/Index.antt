@@ -1,17 +1,9 @@
 -- Numbers at their places.
 use Rattle.std.proofs.Common.{◌≡◌, ◌≢◌, ℕ, ◌<◌, true, false, List, [], ◌∷◌, ◌++◌, length, get_or, Some, ap, sym, ◌∙◌, inl, inr, arith}
-use Rattle.std.proofs.lemmas.Bool.{cases_lt}
-use Rattle.std.proofs.lemmas.List.{get_or-map, length-map}
-use Rattle.std.proofs.lemmas.List.Elements.{All-push}
-use Rattle.std.proofs.lemmas.List.Quantifiers.{all_pairs_push}
-use Rattle.std.proofs.lemmas.Option.{get_or_from_slice_get, slice_get_within}
+use Rattle.store_spec.proofs.Common.{All-push, Ballot, Election, Equal, Greater, IsListing, IsValid, Less, all_pairs_push, cases_lt, get_or-map, get_or_from_slice_get, is_eq, length-map, nat_cmp, numbers_of, slice_get, slice_get_within}
 use Rattle.std.specs.Cmp.{nat_cmp_is}
-use Rattle.std.specs.declared.cmp.Ordering.TheVariants.{Less, Equal, Greater}
-use Rattle.std.specs.Ordering.{nat_cmp, is_eq}
-use Rattle.std.specs.Prelude.{Contains, slice_get}
+use Rattle.std.specs.Prelude.{Contains}
 use Rattle.script_commands.specs.Index.{IsAbsent}
-use Rattle.store_spec.specs.Ballot.{Ballot, IsListing, IsValid, numbers_of}
-use Rattle.store_spec.specs.Election.{Election}
 
 -- what stands at a place is in the list
 pub stands : {X : Type 0} (xs : List X) (place : ℕ) (x : X) → slice_get xs place ≡ Some x → Contains xs x

@@ -1,10 +1,7 @@
 -- The ballots that the lines of a script spell, as far as they were read.
 use Rattle.std.proofs.Common.{◌≡◌, ◌≢◌, ℕ, ◌+◌, List, [], ◌∷◌, ◌++◌, length, map, take, Option, Some, None, refl, ap, sym, subst, ◌∙◌, arith}
-use Rattle.std.proofs.lemmas.List.{length-drop, map_push, take_at}
-use Rattle.std.proofs.lemmas.List.Sorted.{Contains-permutation, IsPermutation-sym, length_permutation}
-use Rattle.std.proofs.lemmas.Slice.Zip.{AllZip-long}
-use Rattle.std.specs.List.{AllZip}
-use Rattle.std.specs.Prelude.{Any, IsPermutation, slice_get}
+use Rattle.store_spec.proofs.Common.{AllZip, AllZip-long, Ballot, Contains-permutation, Election, Invalid, IsListing, IsPermutation-sym, IsWithinLimit, Malformed, Reason, Spells, ended_lines, length-drop, length_permutation, lines_of, lines_within, map_push, script_limit, slice_get, take_at, taken_line, taken_lines}
+use Rattle.std.specs.Prelude.{Any, IsPermutation}
 use Rattle.script_commands.specs.Build.{HasBadLine, HasTooMuch, IsGoodSoFar}
 use Rattle.outside_io.specs.Outside.{IsReadOut}
 use Rattle.outside_io.proofs.TakenLines.{IsBehind, line_behind, whole_line, whole_lines, wide_line}
@@ -17,12 +14,8 @@ use Rattle.ballot_record.proofs.BallotSets.{in_order, in_order-IsPermutation}
 use Rattle.ballot_record.proofs.LineFronts.{listing_builds}
 use Rattle.ballot_record.proofs.LineLaws.{short_lines}
 use Rattle.ballot_record.proofs.Versions.{few_bytes}
-use Rattle.store_spec.specs.Ballot.{Ballot, IsListing, IsWithinLimit}
-use Rattle.store_spec.specs.BallotLine.{Spells}
-use Rattle.store_spec.specs.Build.{Builds, IsFirstBad, IsRefused, Reason}
-use Rattle.store_spec.specs.Build.Reason.{Malformed, Invalid, Duplicate, Conflict, Full}
-use Rattle.store_spec.specs.Election.{Election}
-use Rattle.store_spec.specs.Input.{script_limit, lines_of, ended_lines, lines_within, taken_line, taken_lines}
+use Rattle.store_spec.specs.Build.{Builds, IsFirstBad, IsRefused}
+use Rattle.store_spec.specs.Build.Reason.{Duplicate, Conflict, Full}
 
 -- ---- lines and ballots
 

@@ -1,5 +1,6 @@
 -- The laws of `replay`: its script decides how it ends, but for faults and want of memory.
 use Rattle.std.proofs.Common.{◌≡◌, ◌⊎◌, Result, Ok, Err, inl, inr, refl, sym, ◌∙◌, ap, subst}
+use Rattle.store_spec.proofs.Common.{Election, script_limit, taken_lines}
 use Rattle.outside_io.proofs.FirstLine.{all_within}
 use Rattle.outside_io.specs.Outside.{Outside}
 use Rattle.run_outcome.proofs.Laws.{Laws, not_risen}
@@ -14,8 +15,6 @@ use Rattle.schedule_replay.specs.Refusal.{AreLinesOf}
 use Rattle.schedule_replay.specs.declared.fault.ReplayFault.{ReplayFault}
 use Rattle.schedule_replay.specs.declared.fault.ReplayFault.TheVariants as faults
 use Rattle.script_commands.specs.Replay.{HasInput, replay_row, replay_status}
-use Rattle.store_spec.specs.Election.{Election}
-use Rattle.store_spec.specs.Input.{script_limit, taken_lines}
 
 -- what a replay answered is told by its status
 abbrev pub ReplayDecides : Election → Content → Status → Type 0

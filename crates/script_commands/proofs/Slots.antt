@@ -1,11 +1,7 @@
 -- An index after one number more.
 use Rattle.std.proofs.Common.{◌≡◌, ◌≢◌, ℕ, zero, suc, ◌+◌, ◌^◌, ◌<◌, ◌≤◌, cond, List, [], ◌∷◌, ◌++◌, length, set, Option, Some, refl, ap, sym, subst, ◌∙◌, ◌⊎◌, inl, inr, arith, length-append}
-use Rattle.std.proofs.lemmas.Bool.{cases_eq, cases_lt}
-use Rattle.std.proofs.lemmas.List.{get_or-set_same, get_or-set_other}
-use Rattle.std.proofs.lemmas.Option.{same_Some, slice_get-get_or}
-use Rattle.std.specs.List.{AllByRecursion}
-use Rattle.std.specs.Ordering.{nat_cmp, is_eq}
-use Rattle.std.specs.Prelude.{Contains, None, slice_get, slice_index}
+use Rattle.store_spec.proofs.Common.{AllByRecursion, cases_eq, cases_lt, get_or-set_other, get_or-set_same, is_eq, nat_cmp, same_Some, slice_get, slice_get-get_or, slice_index}
+use Rattle.std.specs.Prelude.{Contains, None}
 use Rattle.script_commands.specs.Index.{AreTaken, IsAbsent, StandsAmong, StandsIn, slot_of}
 use Rattle.script_commands.proofs.Index.{same_number, other_number, stands}
 

@@ -26,7 +26,7 @@ abbrev pub IsIndexed : Ballots → Type 0
 IsIndexed ballots = IsIndexOf ballots.index (numbers_of (ballots_so_far ballots))
 
 -- the ballots so far are the listing of a set that the election's store may hold, and are found by their numbers
-pub record IsSound (e : Election) (ballots : Ballots) : Type 0 where
+pub record AreGoodBallots (e : Election) (ballots : Ballots) : Type 0 where
   pub election : ballots.list.election ≡ e
   pub listing : IsListing e (ballots_so_far ballots)
   pub within_limit : IsWithinLimit e (ballots_so_far ballots)
@@ -34,7 +34,7 @@ pub record IsSound (e : Election) (ballots : Ballots) : Type 0 where
 
 -- what becomes of a valid ballot after those of the lines before
 abbrev pub Adds : Result (Unit {0}) Refusal → Election → Record → Ballots → Ballots → Type 0
-Adds (Ok done) e r old new = (ballots_so_far new ≡ ballots_so_far old ++ ballot r ∷ []) × IsSound e new
+Adds (Ok done) e r old new = (ballots_so_far new ≡ ballots_so_far old ++ ballot r ∷ []) × AreGoodBallots e new
 Adds (Err (Bad Duplicate)) e r old new = Contains (ballots_so_far old) (ballot r)
 Adds (Err (Bad Conflict)) e r old new = Any (λ other. (other.number ≡ r.number) × (other ≢ ballot r)) (ballots_so_far old)
 Adds (Err (Bad Full)) e r old new = ¬ Any (λ other. other.number ≡ r.number) (ballots_so_far old) × (length (ballots_so_far old) ≡ e.limit)
@@ -44,6 +44,6 @@ Adds (Err Memory) e r old new = Unit {0}
 
 -- a line was judged: its ballot came behind the others, or it is refused for a reason
 abbrev pub Judges : Result (Unit {0}) Refusal → Election → List ℕ → Ballots → Ballots → Type 0
-Judges (Ok done) e line old new = (b : Ballot) × Spells e line b × (ballots_so_far new ≡ ballots_so_far old ++ b ∷ []) × IsSound e new
+Judges (Ok done) e line old new = (b : Ballot) × Spells e line b × (ballots_so_far new ≡ ballots_so_far old ++ b ∷ []) × AreGoodBallots e new
 Judges (Err (Bad why)) e line old new = IsRefused e (ballots_so_far old) line (reason why)
 Judges (Err Memory) e line old new = Unit {0}

@@ -8,7 +8,7 @@ use Rattle.run_outcome.specs.declared.status.Status.{Status}
 use Rattle.run_outcome.specs.declared.status.Status.TheVariants as status
 use Rattle.run_outcome.specs.declared.status.Which.TheVariants as which
 use Rattle.schedule_replay.specs.Ends.{ReplayEnds}
-use Rattle.schedule_replay.specs.Input.{Input, IsInput}
+use Rattle.schedule_replay.specs.Input.{IsInput, ReplayInput}
 use Rattle.schedule_replay.specs.Refusal.{AreLinesOf}
 use Rattle.schedule_replay.specs.declared.fault.ReplayFault.{ReplayFault}
 use Rattle.schedule_replay.specs.declared.fault.ReplayFault.TheVariants.{BadLine, TooLong, ReadFault, WriteFault, Memory}
@@ -34,7 +34,7 @@ pub record ReplayRunEnds {S K : Type 0} (e : Election) (status : Status) (before
 -- the lines of a script within its limit are those of a valid input
 abbrev pub HasInput : Election → Content → Type 0
 HasInput e content =
-    (length content.script ≤ script_limit) × (input : Input) × IsInput e input × AreLinesOf input (taken_lines (lines_of content.script))
+    (length content.script ≤ script_limit) × (input : ReplayInput) × IsInput e input × AreLinesOf input (taken_lines (lines_of content.script))
 
 abbrev replay_ends : {S K D : Type 0} → DiskModel D → Election → Status → Reported → World S K D → World S K D → Type 0
 replay_ends model e status report before after = ReplayRunEnds e status before.streams after.streams

@@ -1,20 +1,14 @@
 -- The ballots of the generated script: what they mark.
 use Rattle.std.proofs.Common.{◌≡◌, ◌≢◌, ℕ, ◌+◌, ◌-◌, ◌%◌, ◌^◌, ◌<◌, ◌≤◌, Bool, true, false, cond, eqb, List, [], ◌∷◌, ◌++◌, length, map, zero, suc, append_assoc, Some, refl, sym, ap, ◌∙◌, arith, mod-lt}
-use Rattle.std.specs.Fmt.{decimal}
-use Rattle.std.specs.Prelude.{codes}
-use Rattle.std.specs.List.{join_with_byte, range_with_len, slice_get}
-use Rattle.std.proofs.lemmas.Bool.{eq-eqb, ne_eqb}
-use Rattle.std.proofs.lemmas.List.Elements.{All-cons}
+use Rattle.store_spec.proofs.Common.{All-cons, Election, IsElection, IsGroup, MARK_SETS, choices_in, choices_of, codes, decimal, eq-eqb, group_text, is_on_style, join_with_byte, line_of_ballot, mark_set, most_choices, ne_eqb, range_with_len, slash, space}
+use Rattle.std.specs.List.{slice_get}
 use Rattle.std.proofs.lemmas.List.FromFn.{take-map-range_with_len}
 use Rattle.ballot_record.proofs.MarkSets.{choices_in-mark_set, mark_set-cons}
 use Rattle.ballot_record.specs.Contest.{contest_of}
 use Rattle.ballot_record.specs.declared.contest.Contest.{Contest}
-use Rattle.script_lines.specs.Generated.{ballot_at, cast_line, marks_at, number_at, style_at}
-use Rattle.script_lines.specs.Parts.{group_at}
+use Rattle.script_lines.specs.Generated.{cast_line, generated_ballot, generated_number, marks_at, style_at}
+use Rattle.script_lines.specs.Parts.{generated_group}
 use Rattle.ballot_record.proofs.Versions.{contests_fit}
-use Rattle.store_spec.specs.Ballot.{MARK_SETS}
-use Rattle.store_spec.specs.BallotLine.{IsGroup, choices_in, group_text, line_of_ballot, mark_set, slash, space}
-use Rattle.store_spec.specs.Election.{Election, IsElection, choices_of, is_on_style, most_choices}
 
 -- ---- the marks of one contest
 
@@ -59,34 +53,34 @@ marked e i k choices other on offered some few =
 
 -- the groups of so many contests from one on
 abbrev pub groups_from : Election → ℕ → ℕ → ℕ → List ℕ
-groups_from e i k n = join_with_byte slash (map (group_at e i) (range_with_len k n))
+groups_from e i k n = join_with_byte slash (map (generated_group e i) (range_with_len k n))
 
 -- the group of the contest before those whose groups are put
-pub group_before : (e : Election) (i k n more : ℕ) (behind start apart now : List ℕ) → 1 ≤ n → more ≡ n + 1 → start ≡ groups_from e i (k + 1) n ++ behind → apart ≡ slash ∷ start → now ≡ group_at e i k ++ apart
+pub group_before : (e : Election) (i k n more : ℕ) (behind start apart now : List ℕ) → 1 ≤ n → more ≡ n + 1 → start ≡ groups_from e i (k + 1) n ++ behind → apart ≡ slash ∷ start → now ≡ generated_group e i k ++ apart
     → now ≡ groups_from e i k more ++ behind
 group_before e i k zero more behind start apart now some one so_far put_slash put = absurd (omega arith)
 group_before e i k (suc m) more behind start apart now some one so_far put_slash put =
     let two : more ≡ suc (suc m) = omega arith in
-    put ∙ ap (λ text. group_at e i k ++ text) (put_slash ∙ ap (λ text. slash ∷ text) so_far)
-    ∙ sym (append_assoc (group_at e i k) (slash ∷ groups_from e i (k + 1) (suc m)) behind)
+    put ∙ ap (λ text. generated_group e i k ++ text) (put_slash ∙ ap (λ text. slash ∷ text) so_far)
+    ∙ sym (append_assoc (generated_group e i k) (slash ∷ groups_from e i (k + 1) (suc m)) behind)
     ∙ ap (λ n. groups_from e i k n ++ behind) (sym two)
 
-mapped : (e : Election) (i : ℕ) (ks : List ℕ) → map group_text (map (choices_in e) (map (marks_at e i) ks)) ≡ map (group_at e i) ks
+mapped : (e : Election) (i : ℕ) (ks : List ℕ) → map group_text (map (choices_in e) (map (marks_at e i) ks)) ≡ map (generated_group e i) ks
 mapped e i [] = refl
-mapped e i (k ∷ ks) = ap (λ rest. group_at e i k ∷ rest) (mapped e i ks)
+mapped e i (k ∷ ks) = ap (λ rest. generated_group e i k ∷ rest) (mapped e i ks)
 
 -- the line of a ballot has a group for each contest
-pub groups_of_ballot : (e : Election) (seed i : ℕ) → IsElection e → map group_text (line_of_ballot e (ballot_at e seed i)).groups ≡ map (group_at e i) (range_with_len 1 (length e.contests))
+pub groups_of_ballot : (e : Election) (seed i : ℕ) → IsElection e → map group_text (line_of_ballot e (generated_ballot e seed i)).groups ≡ map (generated_group e i) (range_with_len 1 (length e.contests))
 groups_of_ballot e seed i election =
     ap (λ sets. map group_text (map (choices_in e) sets)) (take-map-range_with_len (marks_at e i) 1 MARK_SETS (length e.contests) (contests_fit e election))
     ∙ mapped e i (range_with_len 1 (length e.contests))
 
 -- the parts of a line that casts, each before what was put before it
 pub cast_put : (e : Election) (seed tabs i : ℕ) (behind groups style number tab now : List ℕ) → IsElection e
-    → groups ≡ groups_from e i 1 (length e.contests) ++ behind → style ≡ decimal (style_at e i) ++ space ∷ groups → number ≡ decimal (number_at seed i) ++ space ∷ style
+    → groups ≡ groups_from e i 1 (length e.contests) ++ behind → style ≡ decimal (style_at e i) ++ space ∷ groups → number ≡ decimal (generated_number seed i) ++ space ∷ style
     → tab ≡ decimal (1 + i % tabs) ++ space ∷ number → now ≡ codes "cast " ++ tab
     → now ≡ cast_line e seed tabs i ++ behind
 cast_put e seed tabs i behind groups style number tab now election is_groups is_style is_number is_tab is_now =
-    let same : groups_from e i 1 (length e.contests) ≡ join_with_byte slash (map group_text (line_of_ballot e (ballot_at e seed i)).groups) =
+    let same : groups_from e i 1 (length e.contests) ≡ join_with_byte slash (map group_text (line_of_ballot e (generated_ballot e seed i)).groups) =
     ap (join_with_byte slash) (sym (groups_of_ballot e seed i election)) in
     rw (is_now, is_tab, is_number, is_style, is_groups, same) (simp append_assoc refl)

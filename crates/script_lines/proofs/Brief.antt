@@ -1,33 +1,25 @@
 -- The lines of the generated script are no longer than 200 bytes: a ballot marks one choice of a contest at most.
-use Rattle.std.proofs.Common.{◌≡◌, ℕ, zero, suc, ◌+◌, ◌*◌, ◌/◌, ◌%◌, ◌^◌, ◌<◌, ◌≤◌, Bool, true, false, inl, inr, List, [], ◌∷◌, ◌++◌, length, map, refl, sym, ap, subst, ◌∙◌, arith, length-append, mod-lt}
-use Rattle.std.specs.Prelude.{codes}
-use Rattle.std.specs.Fmt.{decimal}
-use Rattle.std.specs.List.{AllByRecursion, join_with_byte, range_with_len}
-use Rattle.std.proofs.lemmas.Bool.{cases_eq}
-use Rattle.std.proofs.lemmas.Fmt.{length-decimal-le}
+use Rattle.std.proofs.Common.{◌≡◌, ℕ, zero, suc, ◌+◌, ◌*◌, ◌/◌, ◌%◌, ◌^◌, ◌<◌, ◌≤◌, Bool, true, false, inl, inr, List, [], ◌∷◌, ◌++◌, length, map, refl, sym, subst, arith, length-append, mod-lt}
+use Rattle.store_spec.proofs.Common.{AllByRecursion, Casting, Election, IsElection, IsTab, Withdrawing, Work, cases_eq, choices_of, codes, decimal, group_text, is_on_style, join_with_byte, length-decimal-le, line_of_ballot, open_text, range_with_len, record_line, slash, work_text}
 use Rattle.ballot_record.proofs.ValidMarks.{choices_fit}
 use Rattle.ballot_record.proofs.Versions.{contests_fit, few_choices}
 use Rattle.script_lines.proofs.Ballots.{groups_from, groups_of_ballot, marked, off_style, unmarked}
 use Rattle.script_lines.proofs.GeneratedBallots.{some_choice}
 use Rattle.script_lines.proofs.Meanings.{item_length, work_length}
-use Rattle.script_lines.specs.Generated.{ballot_at, ballot_count, cast_line, generated, number_at, style_at, withdraw_line}
-use Rattle.script_lines.specs.Parts.{group_at}
-use Rattle.store_spec.specs.BallotLine.{group_text, line_of_ballot, record_line, slash}
-use Rattle.store_spec.specs.Election.{Election, IsElection, choices_of, is_on_style}
-use Rattle.store_spec.specs.ScriptLine.{IsTab, Work, open_text, work_text}
-use Rattle.store_spec.specs.ScriptLine.Work.{Casting, Withdrawing}
+use Rattle.script_lines.specs.Generated.{ballot_count, cast_line, generated, generated_ballot, generated_number, style_at, withdraw_line}
+use Rattle.script_lines.specs.Parts.{generated_group}
 
 abbrev pub IsBrief : List ℕ → Type 0
 IsBrief line = length line ≤ 200
 
 -- ---- a ballot
 
-group_brief : (e : Election) (i k : ℕ) → IsElection e → 1 ≤ k → length (group_at e i k) ≤ 2
+group_brief : (e : Election) (i k : ℕ) → IsElection e → 1 ≤ k → length (generated_group e i k) ≤ 2
 group_brief e i k election first =
     let dash : length (group_text []) ≤ 2 = omega arith in
     let Brief : List ℕ → Type 0 = λ choices. length (group_text choices) ≤ 2 in
     let styles : i % length e.styles < length e.styles = mod-lt i election.some_style in
-    let by_style : (on : Bool) → is_on_style e (style_at e i) k ≡ on → length (group_at e i k) ≤ 2 = elim [
+    let by_style : (on : Bool) → is_on_style e (style_at e i) k ≡ on → length (generated_group e i k) ≤ 2 = elim [
       | false ↦ λ off. subst Brief (sym (off_style e i k off)) dash
       | true ↦ λ on. elim (cases_eq (i % 7) 0) [
         | inl seventh ↦ subst Brief (sym (unmarked e i k seventh)) dash
@@ -45,27 +37,27 @@ groups_brief : (e : Election) (i k n : ℕ) → IsElection e → 1 ≤ k → len
 groups_brief e i k zero election first = omega arith
 groups_brief e i k (suc zero) election first = omega (arith, group_brief e i k election first)
 groups_brief e i k (suc (suc n)) election first =
-    omega (arith, group_brief e i k election first, groups_brief e i (k + 1) (suc n) election (omega arith), length-append (group_at e i k) (slash ∷ groups_from e i (k + 1) (suc n)))
+    omega (arith, group_brief e i k election first, groups_brief e i (k + 1) (suc n) election (omega arith), length-append (generated_group e i k) (slash ∷ groups_from e i (k + 1) (suc n)))
 
 pub cast_brief : (e : Election) (seed tabs i : ℕ) → IsElection e → IsTab (1 + i % tabs) → IsBrief (cast_line e seed tabs i)
 cast_brief e seed tabs i election is_tab =
     let n = length e.contests in
-    let b = ballot_at e seed i in
+    let b = generated_ballot e seed i in
     let marks = join_with_byte slash (map group_text (line_of_ballot e b).groups) in
     let groups : length marks ≤ 3 * n = subst (λ texts. length (join_with_byte slash texts) ≤ 3 * n) (sym (groups_of_ballot e seed i election)) (groups_brief e i 1 n election (omega arith)) in
-    let short : number_at seed i < 2 ^ 64 = mod-lt ((seed + i) * 0xD1342543DE82EF95) (omega arith) in
+    let short : generated_number seed i < 2 ^ 64 = mod-lt ((seed + i) * 0xD1342543DE82EF95) (omega arith) in
     let styles : i % length e.styles < length e.styles = mod-lt i election.some_style in
     let few : style_at e i < 1000 = omega (arith, styles, election.few_styles) in
-    let number = length-decimal-le 20 (number_at seed i) (omega arith) (omega (arith, short)) short in
+    let number = length-decimal-le 20 (generated_number seed i) (omega arith) (omega (arith, short)) short in
     let style = length-decimal-le 3 (style_at e i) (omega arith) few (omega (arith, few)) in
-    let front = length-append (decimal (number_at seed i)) (32 ∷ decimal (style_at e i)) in
-    let whole = length-append (decimal (number_at seed i) ++ (32 ∷ decimal (style_at e i))) (32 ∷ marks) in
+    let front = length-append (decimal (generated_number seed i)) (32 ∷ decimal (style_at e i)) in
+    let whole = length-append (decimal (generated_number seed i) ++ (32 ∷ decimal (style_at e i))) (32 ∷ marks) in
     omega (arith, item_length Casting (1 + i % tabs) (record_line e b) is_tab, groups, contests_fit e election, number, style, front, whole)
 
 pub withdraw_brief : (seed tabs j : ℕ) → IsTab (1 + j % tabs) → IsBrief (withdraw_line seed tabs j)
 withdraw_brief seed tabs j is_tab =
-    let short : number_at seed (10 * j) < 2 ^ 64 = mod-lt ((seed + 10 * j) * 0xD1342543DE82EF95) (omega arith) in
-    omega (arith, item_length Withdrawing (1 + j % tabs) (decimal (number_at seed (10 * j))) is_tab, length-decimal-le 20 (number_at seed (10 * j)) (omega arith) (omega (arith, short)) short)
+    let short : generated_number seed (10 * j) < 2 ^ 64 = mod-lt ((seed + 10 * j) * 0xD1342543DE82EF95) (omega arith) in
+    omega (arith, item_length Withdrawing (1 + j % tabs) (decimal (generated_number seed (10 * j))) is_tab, length-decimal-le 20 (generated_number seed (10 * j)) (omega arith) (omega (arith, short)) short)
 
 -- ---- the script
 

@@ -1,13 +1,10 @@
 -- Numbers and tabulators at the front of some bytes, from what was read there.
 use Rattle.std.proofs.Common.{◌≡◌, ◌≢◌, ℕ, ◌+◌, ◌-◌, ◌^◌, ◌<◌, ◌≤◌, List, [], ◌∷◌, ◌++◌, length, take, drop, slice_index_or, Option, Some, None, refl, sym, ap, ◌∙◌, append-nil, arith, lit<}
+use Rattle.store_spec.proofs.Common.{IsTab, decimal, nil_from_length, none-some, some_pair_parts, take_all}
 use Rattle.std.proofs.lemmas.Fmt.{decimal_digit}
-use Rattle.std.proofs.lemmas.List.{nil_from_length, take_all}
-use Rattle.std.proofs.lemmas.Option.{none-some, some_pair_parts}
-use Rattle.std.specs.Fmt.{decimal}
 use Rattle.ballot_record.proofs.LineNumbers.{StopsDigits, number_again, number_takes}
 use Rattle.ballot_record.specs.LineReading.{digits_at}
 use Rattle.script_lines.specs.Words.{IsNotUpTo, LacksTab}
-use Rattle.store_spec.specs.ScriptLine.{IsTab}
 
 -- what is read is the number that is spelled
 only_number : (limit : ℕ) → limit < 2 ^ 64 → (bytes : List ℕ) (o : Option (ℕ × List ℕ)) → o ≡ digits_at limit 0 bytes → (n : ℕ) (rest : List ℕ) → 1 ≤ n → n ≤ limit → StopsDigits rest → bytes ≡ decimal n ++ rest → o ≡ Some (n, rest)

@@ -1,16 +1,11 @@
 -- A line has one form, and a part that is missing leaves no form.
 use Rattle.std.proofs.Common.{◌≡◌, ◌≢◌, ℕ, List, ◌∷◌, ◌++◌, get_or, Option, Some, None, refl, sym, ap, subst, ◌∙◌, arith}
-use Rattle.std.specs.Fmt.{decimal}
-use Rattle.std.specs.Prelude.{MatchOption}
+use Rattle.store_spec.proofs.Common.{Cast, CastInvalid, Casting, Checkpoint, Close, Election, Export, Find, Finding, IsRecordLine, IsTab, MatchOption, Open, Says, ScriptLine, Tally, Withdraw, Withdrawing, Work, decimal, item_text, work_text}
 use Rattle.script_lines.proofs.Decimals.{one_tab}
-use Rattle.script_lines.specs.Line.{script_line}
-use Rattle.script_lines.specs.declared.line.Line.{Line}
+use Rattle.ballot_record.specs.declared.record.Record.{Record}
+use Rattle.script_lines.specs.Line.{IsSaid}
+use Rattle.script_lines.specs.declared.line.Said.{Said}
 use Rattle.script_lines.specs.Words.{IsItem, IsNoItem, IsNotUpTo, LacksTab, LacksWork}
-use Rattle.store_spec.specs.BallotLine.{IsRecordLine}
-use Rattle.store_spec.specs.Election.{Election}
-use Rattle.store_spec.specs.ScriptLine.{IsTab, Says, ScriptLine, Work, item_text, work_text}
-use Rattle.store_spec.specs.ScriptLine.ScriptLine.{Open, Cast, CastInvalid, Withdraw, Find, Close, Checkpoint, Tally, Export}
-use Rattle.store_spec.specs.ScriptLine.Work.{Casting, Withdrawing, Finding}
 
 -- some bytes name one work
 pub one_work : (v w : Work) (a b : List ℕ) → work_text v ++ 32 ∷ a ≡ work_text w ++ 32 ∷ b → (v ≡ w) × (a ≡ b)
@@ -71,10 +66,10 @@ no_record e bytes tab rest is_tab named none Tally item says = item
 no_record e bytes tab rest is_tab named none Export item says = item
 
 -- what is told of what is cast is told of the line
-pub cast_told : (e : Election) (bytes : List ℕ) (tab : ℕ) (rest : List ℕ) (read : Option Line) → IsTab tab → bytes ≡ item_text Casting tab rest
-    → MatchOption read (¬ IsRecordLine e rest) (λ l. Says e (item_text Casting tab rest) (script_line l)) → MatchOption read (IsNoItem e bytes) (λ l. Says e bytes (script_line l))
-cast_told e bytes tab rest None is_tab named told = no_record e bytes tab rest is_tab named told
-cast_told e bytes tab rest (Some l) is_tab named told = subst (λ bs. Says e bs (script_line l)) (sym named) told
+pub cast_told : (e : Election) (bytes : List ℕ) (tab : ℕ) (rest : List ℕ) (read : Option Said) (r : Record) → IsTab tab → bytes ≡ item_text Casting tab rest
+    → MatchOption read (¬ IsRecordLine e rest) (λ said. IsSaid e (item_text Casting tab rest) said r) → MatchOption read (IsNoItem e bytes) (λ said. IsSaid e bytes said r)
+cast_told e bytes tab rest None r is_tab named told = no_record e bytes tab rest is_tab named told
+cast_told e bytes tab rest (Some said) r is_tab named told = subst (λ bs. IsSaid e bs said r) (sym named) told
 
 -- without a number there is no other work
 pub no_number : (e : Election) (bytes : List ℕ) (w : Work) (tab : ℕ) (rest : List ℕ) → w ≢ Casting → IsTab tab → bytes ≡ item_text w tab rest → IsNotUpTo 18446744073709551615 rest → IsNoItem e bytes

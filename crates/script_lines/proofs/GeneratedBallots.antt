@@ -1,16 +1,10 @@
 -- The ballots of the generated script are valid ballots with distinct numbers.
 use Rattle.std.proofs.Common.{◌≡◌, ◌≢◌, ℕ, ◌+◌, ◌-◌, ◌*◌, ◌/◌, ◌%◌, ◌^◌, ◌<◌, ◌≤◌, Bool, true, false, cond, eqb, inl, inr, length, get_or, refl, sym, ap, subst, ◌∙◌, arith, mod-lt}
-use Rattle.std.specs.Prelude.{All, AllPairs, Contains, Some, slice_get}
-use Rattle.std.proofs.lemmas.Bool.{cases_lt, ne_eqb}
-use Rattle.std.proofs.lemmas.List.{get_or-map, length-map}
-use Rattle.std.proofs.lemmas.List.FromFn.{get_or-map-range_with_len, length-map-range_with_len}
-use Rattle.std.proofs.lemmas.Nat.{pow_below, pow_pos}
-use Rattle.std.proofs.lemmas.Option.{slice_get-get_or}
+use Rattle.store_spec.proofs.Common.{Ballot, Contest, Election, IsElection, IsValid, MARK_SETS, Some, cases_lt, choices_of, choices_on, get_or-map, get_or-map-range_with_len, is_on_style, length-map, length-map-range_with_len, ne_eqb, numbers_of, pow_below, pow_pos, slice_get, slice_get-get_or}
+use Rattle.std.specs.Prelude.{All, AllPairs, Contains}
 use Rattle.ballot_record.proofs.OnStyle.{past_contests}
 use Rattle.script_lines.proofs.Numbers.{apart, some}
-use Rattle.script_lines.specs.Generated.{ballot_at, ballot_count, cast_ballots, marks_at, number_at, style_at, withdrawn_numbers}
-use Rattle.store_spec.specs.Ballot.{Ballot, IsValid, MARK_SETS, numbers_of}
-use Rattle.store_spec.specs.Election.{Contest, Election, IsElection, choices_of, choices_on, is_on_style}
+use Rattle.script_lines.specs.Generated.{ballot_count, cast_ballots, generated_ballot, generated_number, marks_at, style_at, withdrawn_numbers}
 
 -- ---- the marks
 
@@ -42,7 +36,7 @@ marks_fit e i k election positive =
 
 -- ---- the ballots
 
-pub valid_ballot : (e : Election) (seed i : ℕ) → IsElection e → seed < 2 ^ 32 → 1 ≤ i → i < 2 ^ 32 → IsValid e (ballot_at e seed i)
+pub valid_ballot : (e : Election) (seed i : ℕ) → IsElection e → seed < 2 ^ 32 → 1 ≤ i → i < 2 ^ 32 → IsValid e (generated_ballot e seed i)
 valid_ballot e seed i election small positive few =
     let styles : i % length e.styles < length e.styles = mod-lt i election.some_style in
     record {
@@ -52,17 +46,17 @@ valid_ballot e seed i election small positive few =
       known_style = omega arith;
       every_set = length-map-range_with_len (marks_at e i) 1 MARK_SETS;
       marked = λ k first last.
-          let set : get_or (ballot_at e seed i).marks (k - 1) 0 ≡ marks_at e i k = get_or-map-range_with_len (marks_at e i) 1 MARK_SETS (k - 1) k 0 (omega arith) (omega arith) in
+          let set : get_or (generated_ballot e seed i).marks (k - 1) 0 ≡ marks_at e i k = get_or-map-range_with_len (marks_at e i) 1 MARK_SETS (k - 1) k 0 (omega arith) (omega arith) in
           subst (λ n. n < 2 ^ choices_on e (style_at e i) k) (sym set) (marks_fit e i k election first);
     }
 
 -- the ballot at a place
-pub cast_at : (e : Election) (seed count place : ℕ) (other : Ballot) → place < length (cast_ballots e seed count) → get_or (cast_ballots e seed count) place other ≡ ballot_at e seed (1 + place)
+pub cast_at : (e : Election) (seed count place : ℕ) (other : Ballot) → place < length (cast_ballots e seed count) → get_or (cast_ballots e seed count) place other ≡ generated_ballot e seed (1 + place)
 cast_at e seed count place other within =
-    get_or-map-range_with_len (ballot_at e seed) 1 (ballot_count e count) place (1 + place) other (omega (arith, length-map-range_with_len (ballot_at e seed) 1 (ballot_count e count))) refl
+    get_or-map-range_with_len (generated_ballot e seed) 1 (ballot_count e count) place (1 + place) other (omega (arith, length-map-range_with_len (generated_ballot e seed) 1 (ballot_count e count))) refl
 
 pub cast_count : (e : Election) (seed count : ℕ) → length (cast_ballots e seed count) ≡ ballot_count e count
-cast_count e seed count = length-map-range_with_len (ballot_at e seed) 1 (ballot_count e count)
+cast_count e seed count = length-map-range_with_len (generated_ballot e seed) 1 (ballot_count e count)
 
 pub all_valid : (e : Election) (seed count : ℕ) → IsElection e → seed < 2 ^ 32 → All (IsValid e) (cast_ballots e seed count)
 all_valid e seed count election small place other within =
@@ -83,15 +77,15 @@ all_apart e seed count election small i j other less within =
 pub withdrawn_among : (e : Election) (seed count : ℕ) → All (Contains (numbers_of (cast_ballots e seed count))) (withdrawn_numbers e seed count)
 withdrawn_among e seed count place other within =
     let n = ballot_count e count in
-    let tenths = length-map-range_with_len (λ j. number_at seed (10 * j)) 1 (n / 10) in
+    let tenths = length-map-range_with_len (λ j. generated_number seed (10 * j)) 1 (n / 10) in
     let ballots = cast_ballots e seed count in
     let number : Ballot → ℕ = λ b. b.number in
     let at = 10 * (1 + place) - 1 in
-    let first = ballot_at e seed 1 in
+    let first = generated_ballot e seed 1 in
     let x = get_or (withdrawn_numbers e seed count) place other in
-    let is : x ≡ number_at seed (10 * (1 + place)) = get_or-map-range_with_len (λ j. number_at seed (10 * j)) 1 (n / 10) place (1 + place) other (omega arith) refl in
+    let is : x ≡ generated_number seed (10 * (1 + place)) = get_or-map-range_with_len (λ j. generated_number seed (10 * j)) 1 (n / 10) place (1 + place) other (omega arith) refl in
     let inside : at < length ballots = omega (arith, cast_count e seed count) in
-    let of_ballot : get_or (numbers_of ballots) at x ≡ number_at seed (1 + at) =
+    let of_ballot : get_or (numbers_of ballots) at x ≡ generated_number seed (1 + at) =
     get_or-map number ballots at first x inside ∙ ap number (cast_at e seed count at first inside) in
     let same : 1 + at ≡ 10 * (1 + place) = omega arith in
-    (at, omega (arith, length-map ballots number), of_ballot ∙ ap (number_at seed) same ∙ sym is)
+    (at, omega (arith, length-map ballots number), of_ballot ∙ ap (generated_number seed) same ∙ sym is)

@@ -1,17 +1,9 @@
 -- What the source of the generated script has left.
 use Rattle.std.proofs.Common.{◌≡◌, ℕ, zero, suc, ◌+◌, ◌-◌, ◌*◌, ◌/◌, ◌<◌, ◌≤◌, true, false, List, [], ◌∷◌, ◌++◌, length, map, take, drop, Option, Some, None, refl, sym, ap, ◌∙◌, arith, append_assoc, length-append}
-use Rattle.std.proofs.Math.Seq.{take-append-add}
-use Rattle.std.proofs.lemmas.List.{drop_all, drop_more, length-take-le, take-append-le, take_at}
-use Rattle.std.proofs.lemmas.List.FromFn.{length-map-range_with_len}
+use Rattle.store_spec.proofs.Common.{Election, Withdrawing, codes, drop_all, drop_more, get_or_from_slice_get, is_some, length-map-range_with_len, length-take-le, lines_text, open_text, range_with_len, slice_get_within, take-append-add, take-append-le, take_at, unwrap_or}
 use Rattle.std.proofs.lemmas.Simd.{chunk-drop}
-use Rattle.std.proofs.lemmas.Option.{get_or_from_slice_get, slice_get_within}
-use Rattle.std.specs.Prelude.{is_some, unwrap_or, codes}
-use Rattle.std.specs.List.{range_with_len, slice_get}
+use Rattle.std.specs.List.{slice_get}
 use Rattle.script_lines.specs.Generated.{ballot_count, cast_line, generated, withdraw_line}
-use Rattle.store_spec.specs.Election.{Election}
-use Rattle.store_spec.specs.Report.{lines_text}
-use Rattle.store_spec.specs.ScriptLine.{open_text}
-use Rattle.store_spec.specs.ScriptLine.Work.{Withdrawing}
 
 -- there is a line at a place, or none
 is_there : (o : Option (List ℕ)) → true ≡ is_some o → o ≡ Some (unwrap_or o [])

@@ -1,7 +1,6 @@
 pub mod Ballots
 mod Brief
 pub mod Decimals
-pub mod Entries
 pub mod Forms
 pub mod GeneratedBallots
 pub mod Left

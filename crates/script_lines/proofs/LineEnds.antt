@@ -1,20 +1,11 @@
 -- No line that says something has a line end in it, so that lines stand apart in a text.
 use Rattle.std.proofs.Common.{◌≡◌, ℕ, ◌+◌, ◌*◌, ◌%◌, ◌^◌, ◌<◌, ◌≤◌, List, [], ◌∷◌, ◌++◌, length, map, refl, sym, Bool, true, false, cond, leb, Some, None, ap, ◌∙◌, arith, append_assoc, length-append}
-use Rattle.std.specs.Prelude.{All, ◌&&◌, codes}
-use Rattle.std.specs.Fmt.{decimal}
-use Rattle.std.specs.List.{AllByRecursion, AllZip, join_with_byte, list_all}
-use Rattle.std.proofs.lemmas.Bool.{le-leb, leb-true, ne_eqb}
+use Rattle.store_spec.proofs.Common.{All-append, All-cons, All-nil, All-push, AllByRecursion, AllZip, Cast, CastInvalid, Casting, Checkpoint, Close, Election, Export, Find, Finding, IsGroup, IsRecordLine, IsTab, Open, Says, ScriptLine, Tally, Withdraw, Withdrawing, Work, begun_with, codes, decimal, group_text, item_text, join_with_byte, le-leb, leb-true, line_text, lines_of, lines_text, list_all, most_choices, ne_eqb, open_text, taken_lines, work_text}
+use Rattle.std.specs.Prelude.{All, ◌&&◌}
 use Rattle.std.proofs.lemmas.Fmt.{decimal_by_steps}
-use Rattle.std.proofs.lemmas.List.Elements.{All-append, All-cons, All-nil, All-push, All-same, recursion_from_All}
+use Rattle.std.proofs.lemmas.List.Elements.{All-same, recursion_from_All}
 use Rattle.script_lines.proofs.Meanings.{short}
-use Rattle.store_spec.specs.BallotLine.{IsGroup, IsRecordLine, group_text, line_text}
 use Rattle.ballot_record.proofs.Versions.{few_choices}
-use Rattle.store_spec.specs.Election.{Election, most_choices}
-use Rattle.store_spec.specs.Input.{begun_with, lines_of, taken_lines}
-use Rattle.store_spec.specs.Report.{lines_text}
-use Rattle.store_spec.specs.ScriptLine.{IsTab, Says, ScriptLine, Work, item_text, open_text, work_text}
-use Rattle.store_spec.specs.ScriptLine.ScriptLine.{Open, Cast, CastInvalid, Withdraw, Find, Close, Checkpoint, Tally, Export}
-use Rattle.store_spec.specs.ScriptLine.Work.{Casting, Withdrawing, Finding}
 
 -- the bytes are no control codes
 abbrev pub ArePrinted : List ℕ → Type 0

@@ -1,19 +1,10 @@
 -- A line says one thing, in few bytes.
 use Rattle.std.proofs.Common.{◌≡◌, ℕ, ◌+◌, ◌^◌, ◌<◌, ◌≤◌, List, ◌∷◌, ◌++◌, get_or, length, refl, sym, ap, subst, ◌∙◌, arith, length-append}
-use Rattle.std.proofs.lemmas.Fmt.{decimal_injective, length-decimal-le}
-use Rattle.std.specs.Fmt.{decimal}
-use Rattle.std.specs.Prelude.{IfNone, IfSome, MatchOption, Option, None, Some}
+use Rattle.store_spec.proofs.Common.{Cast, CastInvalid, Casting, Checkpoint, Close, Election, Export, Find, Finding, IsMalformed, IsTab, Open, Says, ScriptLine, Spells, Tally, Withdraw, Withdrawing, Work, decimal, decimal_injective, item_text, length-decimal-le, open_text, work_text}
 use Rattle.ballot_record.proofs.Versions.{few_bytes}
 use Rattle.ballot_record.proofs.LineLaws.{one_ballot, short_lines}
 use Rattle.script_lines.proofs.Forms.{no_work, one_item, one_work}
-use Rattle.script_lines.specs.Line.{script_line}
-use Rattle.script_lines.specs.declared.line.Line.{Line}
 use Rattle.script_lines.specs.Words.{IsNoCommand, LacksWork}
-use Rattle.store_spec.specs.BallotLine.{Spells}
-use Rattle.store_spec.specs.Election.{Election}
-use Rattle.store_spec.specs.ScriptLine.{IsMalformed, IsTab, Says, ScriptLine, Work, item_text, open_text, work_text}
-use Rattle.store_spec.specs.ScriptLine.ScriptLine.{Open, Cast, CastInvalid, Withdraw, Find, Close, Checkpoint, Tally, Export}
-use Rattle.store_spec.specs.ScriptLine.Work.{Casting, Withdrawing, Finding}
 
 -- the fourth byte of a line, which tells its form
 fourth : ScriptLine → ℕ
@@ -82,11 +73,8 @@ one_meaning e bytes a b x y = by_form e bytes a b (sym (fourth_byte e bytes a x)
 
 -- ---- what a line says that names no work
 
-pub command_meant : (e : Election) (bytes : List ℕ) (read : Option Line) → LacksWork bytes
-    → MatchOption read (IsNoCommand bytes) (λ l. (e : Election) → Says e bytes (script_line l))
-    → IfSome read (λ l. Says e bytes (script_line l)) × IfNone read (IsMalformed e bytes)
-command_meant e bytes None none told = (tt, λ line says. told e line (λ item. no_work e bytes none line item says) says)
-command_meant e bytes (Some l) none told = (told e, tt)
+pub no_command : (e : Election) (bytes : List ℕ) → LacksWork bytes → IsNoCommand bytes → IsMalformed e bytes
+no_command e bytes none told line says = told e line (λ item. no_work e bytes none line item says) says
 
 -- ---- how long a line is
 

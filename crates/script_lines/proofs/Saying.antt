@@ -1,7 +1,6 @@
 -- What each line of the generated script says.
 use Rattle.std.proofs.Common.{◌≡◌, ℕ, zero, suc, ◌+◌, ◌*◌, ◌/◌, ◌%◌, ◌^◌, ◌<◌, ◌≤◌, List, [], ◌∷◌, ◌++◌, length, map, refl, ap, ◌∙◌, arith, mod-lt}
-use Rattle.std.specs.Prelude.{Some, codes}
-use Rattle.std.specs.List.{AllZip, range_with_len}
+use Rattle.store_spec.proofs.Common.{AllZip, Casting, Checkpoint, Close, Election, IsElection, IsTab, Open, Says, Some, Tally, Withdrawing, codes, lines_of, open_text, range_with_len, record_line, script_limit, taken_lines, taken_within}
 use Rattle.ballot_record.proofs.LineLaws.{spells_its_ballot}
 use Rattle.outside_io.proofs.FirstLine.{all_within}
 use Rattle.script_lines.proofs.Brief.{all_brief}
@@ -9,13 +8,7 @@ use Rattle.script_lines.proofs.GeneratedBallots.{valid_ballot}
 use Rattle.script_lines.proofs.Left.{length_generated}
 use Rattle.script_lines.proofs.LineEnds.{lines_again, lines_taken, text_length}
 use Rattle.script_lines.proofs.Numbers.{some}
-use Rattle.script_lines.specs.Generated.{ballot_at, ballot_count, cast_line, cast_said, generated, generated_script, generated_text, withdraw_line, withdraw_said}
-use Rattle.store_spec.specs.BallotLine.{record_line}
-use Rattle.store_spec.specs.Election.{Election, IsElection}
-use Rattle.store_spec.specs.Input.{lines_of, script_limit, taken_lines, taken_within}
-use Rattle.store_spec.specs.ScriptLine.{IsTab, Says, open_text}
-use Rattle.store_spec.specs.ScriptLine.ScriptLine.{Open, Close, Checkpoint, Tally}
-use Rattle.store_spec.specs.ScriptLine.Work.{Casting, Withdrawing}
+use Rattle.script_lines.specs.Generated.{ballot_count, cast_line, cast_said, generated, generated_ballot, generated_script, generated_text, withdraw_line, withdraw_said}
 
 -- ---- lists that say something, one behind the other
 
@@ -37,9 +30,9 @@ a_tab i tabs is = (omega arith, omega (arith, mod-lt i is.0, is.1))
 casts : (e : Election) (seed tabs i : ℕ) → IsElection e → seed < 2 ^ 32 → IsTab tabs → 1 ≤ i → i < 2 ^ 32 → Says e (cast_line e seed tabs i) (cast_said e seed tabs i)
 casts e seed tabs i election small is positive few = (
   a_tab i tabs is,
-  record_line e (ballot_at e seed i),
+  record_line e (generated_ballot e seed i),
   refl,
-  spells_its_ballot e (ballot_at e seed i) election (valid_ballot e seed i election small positive few),
+  spells_its_ballot e (generated_ballot e seed i) election (valid_ballot e seed i election small positive few),
 )
 
 withdraws : (e : Election) (seed tabs j : ℕ) → seed < 2 ^ 32 → IsTab tabs → 1 ≤ j → j < 2 ^ 32 → Says e (withdraw_line seed tabs j) (withdraw_said seed tabs j)

@@ -1,16 +1,11 @@
 -- The generated script is that of its parts.
 use Rattle.std.proofs.Common.{◌≡◌, ℕ, ◌/◌, List, [], ◌∷◌, ◌++◌, map, Some, None, append_assoc, refl, sym, ap, ◌∙◌}
-use Rattle.std.specs.Prelude.{codes, option_map}
-use Rattle.std.specs.List.{range_with_len, slice_get}
-use Rattle.std.proofs.lemmas.List.{map-append}
-use Rattle.std.proofs.lemmas.Option.{slice_get-map}
+use Rattle.store_spec.proofs.Common.{Casting, Election, Withdrawing, codes, map-append, open_text, option_map, range_with_len, slice_get-map}
+use Rattle.std.specs.List.{slice_get}
 use Rattle.script_lines.specs.Generated.{ballot_count, cast_line, generated, withdraw_line}
 use Rattle.script_lines.specs.Parts.{casting_parts, closing_parts, part_text, withdrawing_parts}
 use Rattle.script_lines.specs.declared.part.Part.{Part}
 use Rattle.script_lines.specs.declared.part.Part.TheVariants.{Cast, Withdraw}
-use Rattle.store_spec.specs.Election.{Election}
-use Rattle.store_spec.specs.ScriptLine.{open_text}
-use Rattle.store_spec.specs.ScriptLine.Work.{Casting, Withdrawing}
 
 mapped : {A B C : Type 0} (g : B → C) (f : A → B) (xs : List A) → map g (map f xs) ≡ map (λ x. g (f x)) xs
 mapped g f [] = refl

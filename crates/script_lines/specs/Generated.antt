@@ -16,8 +16,8 @@ abbrev pub spread : ℕ
 spread = 0xD1342543DE82EF95
 
 -- the number, the style, and the mark set in contest k of ballot i, counted from 1
-abbrev pub number_at : ℕ → ℕ → ℕ
-number_at seed i = (seed + i) * spread % 2 ^ 64
+abbrev pub generated_number : ℕ → ℕ → ℕ
+generated_number seed i = (seed + i) * spread % 2 ^ 64
 
 abbrev pub style_at : Election → ℕ → ℕ
 style_at e i = 1 + i % length e.styles
@@ -27,9 +27,9 @@ abbrev pub marks_at : Election → ℕ → ℕ → ℕ
 marks_at e i k =
     if is_on_style e (style_at e i) k then (if i % 7 == 0 then 0 else 2 ^ ((i + k) % choices_of e k)) else 0
 
-abbrev pub ballot_at : Election → ℕ → ℕ → Ballot
-ballot_at e seed i = record {
-  number = number_at seed i;
+abbrev pub generated_ballot : Election → ℕ → ℕ → Ballot
+generated_ballot e seed i = record {
+  number = generated_number seed i;
   style = style_at e i;
   marks = map (marks_at e i) (range_with_len 1 MARK_SETS);
 }
@@ -42,17 +42,17 @@ ballot_count e count = min count e.limit
 
 -- the ballots that are cast, and the numbers that are withdrawn
 abbrev pub cast_ballots : Election → ℕ → ℕ → List Ballot
-cast_ballots e seed count = map (ballot_at e seed) (range_with_len 1 (ballot_count e count))
+cast_ballots e seed count = map (generated_ballot e seed) (range_with_len 1 (ballot_count e count))
 
 abbrev pub withdrawn_numbers : Election → ℕ → ℕ → List ℕ
-withdrawn_numbers e seed count = map (λ j. number_at seed (10 * j)) (range_with_len 1 (ballot_count e count / 10))
+withdrawn_numbers e seed count = map (λ j. generated_number seed (10 * j)) (range_with_len 1 (ballot_count e count / 10))
 
 -- the lines that cast ballot i, and that withdraw the j-th tenth one
 abbrev pub cast_line : Election → ℕ → ℕ → ℕ → List ℕ
-cast_line e seed tabs i = item_text Casting (1 + i % tabs) (record_line e (ballot_at e seed i))
+cast_line e seed tabs i = item_text Casting (1 + i % tabs) (record_line e (generated_ballot e seed i))
 
 abbrev pub withdraw_line : ℕ → ℕ → ℕ → List ℕ
-withdraw_line seed tabs j = item_text Withdrawing (1 + j % tabs) (decimal (number_at seed (10 * j)))
+withdraw_line seed tabs j = item_text Withdrawing (1 + j % tabs) (decimal (generated_number seed (10 * j)))
 
 abbrev pub generated : Election → ℕ → ℕ → ℕ → List (List ℕ)
 generated e seed count tabs =
@@ -67,10 +67,10 @@ generated_text e seed count tabs = lines_text (generated e seed count tabs)
 -- ---- what the lines say
 
 abbrev pub cast_said : Election → ℕ → ℕ → ℕ → ScriptLine
-cast_said e seed tabs i = Cast (1 + i % tabs) (ballot_at e seed i)
+cast_said e seed tabs i = Cast (1 + i % tabs) (generated_ballot e seed i)
 
 abbrev pub withdraw_said : ℕ → ℕ → ℕ → ScriptLine
-withdraw_said seed tabs j = Withdraw (1 + j % tabs) (number_at seed (10 * j))
+withdraw_said seed tabs j = Withdraw (1 + j % tabs) (generated_number seed (10 * j))
 
 abbrev pub generated_script : Election → ℕ → ℕ → ℕ → List ScriptLine
 generated_script e seed count tabs =

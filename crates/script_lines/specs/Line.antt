@@ -2,12 +2,17 @@
 use Rattle.ballot_record.specs.Record.{ballot}
 use Rattle.std.specs.Prelude.{ℕ, List}
 use Rattle.ballot_record.specs.declared.record.Record.{Record}
+use Rattle.script_lines.specs.Words.{work}
+use Rattle.script_lines.specs.declared.line.Command.{Command}
+use Rattle.script_lines.specs.declared.line.Command.TheVariants as commands
 use Rattle.script_lines.specs.declared.line.Entry.{Entry}
 use Rattle.script_lines.specs.declared.line.Entry.TheVariants as entries
 use Rattle.script_lines.specs.declared.line.Line.{Line}
 use Rattle.script_lines.specs.declared.line.Line.TheVariants as lines
+use Rattle.script_lines.specs.declared.line.Said.{Said}
+use Rattle.script_lines.specs.declared.line.Said.TheVariants as said
 use Rattle.store_spec.specs.Election.{Election}
-use Rattle.store_spec.specs.ScriptLine.{Says, ScriptLine}
+use Rattle.store_spec.specs.ScriptLine.{IsMalformed, Says, ScriptLine}
 use Rattle.store_spec.specs.ScriptLine.ScriptLine.{Open, Cast, CastInvalid, Withdraw, Find, Close, Checkpoint, Tally, Export}
 use Rattle.store_spec.specs.ScriptLine.Work.{Casting, Withdrawing, Finding}
 
@@ -30,6 +35,17 @@ entry_line tab entries.Cast r = Cast tab (ballot r)
 entry_line tab (entries.Withdraw number) r = Withdraw tab number
 entry_line tab (entries.Find number) r = Find tab number
 
--- the bytes bring nothing for a list, or no valid ballot
-abbrev pub IsNoEntry : Election → List ℕ → Type 0
-IsNoEntry e bytes = (tab : ℕ) (entry : Entry) (r : Record) → ¬ Says e bytes (entry_line tab entry r)
+-- what a line says that brings nothing for a list
+abbrev pub command_line : Command → ScriptLine
+command_line (commands.Open w tabs) = Open (work w) tabs
+command_line (commands.CastInvalid tab) = CastInvalid tab
+command_line commands.Close = Close
+command_line commands.Checkpoint = Checkpoint
+command_line commands.Tally = Tally
+command_line commands.Export = Export
+
+-- the bytes say this, with the ballot where one is cast, or are malformed
+abbrev pub IsSaid : Election → List ℕ → Said → Record → Type 0
+IsSaid e bytes (said.Item tab entry) r = Says e bytes (entry_line tab entry r)
+IsSaid e bytes (said.Command command) r = Says e bytes (command_line command)
+IsSaid e bytes said.Malformed r = IsMalformed e bytes

@@ -32,8 +32,8 @@ part_text e seed tabs Checkpoint = codes "checkpoint"
 part_text e seed tabs Tally = codes "tally"
 
 -- what stands for contest k in the line of ballot i
-abbrev pub group_at : Election → ℕ → ℕ → List ℕ
-group_at e i k = group_text (choices_in e (marks_at e i k))
+abbrev pub generated_group : Election → ℕ → ℕ → List ℕ
+generated_group e i k = group_text (choices_in e (marks_at e i k))
 
 -- room for any line of the script, with its end
 abbrev pub line_room : ℕ

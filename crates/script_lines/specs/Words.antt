@@ -6,8 +6,8 @@ use Rattle.script_lines.specs.declared.words.Work.TheVariants as works
 use Rattle.store_spec.specs.BallotLine.{space}
 use Rattle.store_spec.specs.Election.{Election}
 use Rattle.store_spec.specs.ScriptLine as definition
-use Rattle.store_spec.specs.ScriptLine.{IsTab, Says, ScriptLine, item_text, open_text, work_text}
-use Rattle.store_spec.specs.ScriptLine.ScriptLine.{Open, Cast, CastInvalid, Withdraw, Find, Close, Checkpoint}
+use Rattle.store_spec.specs.ScriptLine.{IsTab, Says, ScriptLine, open_text, work_text}
+use Rattle.store_spec.specs.ScriptLine.ScriptLine.{Cast, CastInvalid, Withdraw, Find}
 use Rattle.store_spec.specs.ScriptLine.Work.{Casting, Withdrawing, Finding}
 
 -- a work of the program, as the definitions see it

@@ -3,8 +3,8 @@
 ghost use Rattle.std.specs.Prelude.{◌≡◌, ◌+◌, ◌-◌, ◌^◌, ◌<◌, ◌≤◌, ◌∷◌, ◌++◌, [], length, drop, map, slice_get, unwrap_or, is_some, IfOk, IfSome, OnOk, OnErr};
 ghost use Rattle.std.specs.List.{join_with_byte, range_with_len};
 ghost use Rattle.std.specs.Option.{option_to_list};
-ghost use Rattle.script_lines.specs.Generated.{ballot_count, cast_line, generated, marks_at, number_at, style_at, withdraw_line};
-ghost use Rattle.script_lines.specs.Parts.{group_at, line_room, part_text};
+ghost use Rattle.script_lines.specs.Generated.{ballot_count, cast_line, generated, generated_number, marks_at, style_at, withdraw_line};
+ghost use Rattle.script_lines.specs.Parts.{generated_group, line_room, part_text};
 ghost use Rattle.store_spec.specs.BallotLine.{choices_in, slash};
 ghost use Rattle.store_spec.specs.Election.{IsElection};
 ghost use Rattle.store_spec.specs.ScriptLine.{IsTab, open_text};
@@ -24,7 +24,7 @@ pub const LINE_ROOM: usize = 704;
 /// The number of ballot `i`.
 fn ballot_number(seed: u32, i: u64) -> u64
     requires { i < 2 ^ 63 }
-    ensures { result ≡ number_at seed i }
+    ensures { result ≡ generated_number seed i }
 {
     (u64::from(seed) + i).wrapping_mul(SPREAD)
 }
@@ -59,7 +59,7 @@ fn put_groups(i: u32, style: u8, election: &Election, line: &mut [u8], end: usiz
     requires room { 504 ≤ end }
     requires within { end ≤ length line.old }
     ensures text { drop result line.new
-        ≡ join_with_byte slash (map (group_at election.now i) (range_with_len 1 (length election.now.contests)))
+        ≡ join_with_byte slash (map (generated_group election.now i) (range_with_len 1 (length election.now.contests)))
         ++ drop end line.old }
     ensures start { (result ≤ end) × (end ≤ result + 504) }
 {

@@ -12,5 +12,6 @@ mod words;
 
 pub use generated::large_line;
 pub use generated_script::GeneratedScript;
-pub use line::{Entry, Line};
-pub use reading::{read_entry, read_script_line};
+pub use line::{Command, Entry, Line, Said};
+pub use reading::{read_said, read_script_line};
+pub use words::Work;

@@ -1,5 +1,6 @@
 //! What the lines of a session's script say.
 
+use crate::words::Work;
 use ballot_record::Record;
 
 /// What a line of a script says. Tabulators count from 1.
@@ -39,4 +40,32 @@ pub enum Entry {
     Withdraw { number: u64 },
     /// A number is looked for.
     Find { number: u64 },
+}
+
+/// What a line says that brings nothing for a list.
+#[derive(Clone, Copy, Debug, PartialEq, Eq)]
+pub enum Command {
+    /// A phase of this work opens, for so many tabulators.
+    Open { work: Work, tabs: u8 },
+    /// A record line that spells no valid ballot of the election is cast at one of them.
+    CastInvalid { tab: u8 },
+    /// The phase closes.
+    Close,
+    /// What is held goes to the medium.
+    Checkpoint,
+    /// What is held is counted.
+    Tally,
+    /// The ballots that are held are written.
+    Export,
+}
+
+/// What a line says, as it was read.
+#[derive(Clone, Copy, Debug, PartialEq, Eq)]
+pub enum Said {
+    /// Something for the list of a tabulator.
+    Item { tab: u8, entry: Entry },
+    /// Something else.
+    Command(Command),
+    /// Nothing: it is malformed.
+    Malformed,
 }

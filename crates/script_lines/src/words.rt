@@ -12,7 +12,7 @@ use ballot_record::take_number;
 pub const MAX_TABS: u64 = 64;
 
 /// What a phase does that is not closed.
-#[derive(Clone, Copy)]
+#[derive(Clone, Copy, Debug, PartialEq, Eq)]
 pub enum Work {
     /// Ballots are cast.
     Casting,

@@ -1,5 +1,6 @@
 -- A generated script that was handled as a session, and its result.
 use Rattle.std.proofs.Common.{◌≡◌, ◌<◌, ◌^◌, ℕ, List, [], ◌++◌, append-nil, length, map, None, Some, Result, Ok, Err, inr, refl, ap, sym, subst, ◌∙◌}
+use Rattle.store_spec.proofs.Common.{Ballot, DiskModel, Election, IsElection, IsTab, Plays, State, begun, last_reply, lines_of, summary_of, taken_lines}
 use Rattle.session_commands.specs.Large.{HasResult, LargeEnds}
 use Rattle.session_commands.specs.Session.{reported, run_status, with_report}
 use Rattle.run_outcome.specs.Status.{ended_as}
@@ -22,13 +23,6 @@ use Rattle.session_run.specs.Ends.{Begun, SessionEnds}
 use Rattle.session_run.specs.History.{Acknowledged, written_by}
 use Rattle.session_run.specs.declared.fault.RunFault.{RunFault}
 use Rattle.session_run.specs.declared.fault.RunFault.TheVariants as run
-use Rattle.store_spec.specs.Ballot.{Ballot}
-use Rattle.store_spec.specs.Disk.{DiskModel}
-use Rattle.store_spec.specs.Election.{Election, IsElection}
-use Rattle.store_spec.specs.Input.{lines_of, taken_lines}
-use Rattle.store_spec.specs.ScriptLine.{IsTab}
-use Rattle.store_spec.specs.Session.{Plays, State, begun, last_reply}
-use Rattle.store_spec.specs.Summary.{summary_of}
 
 -- no fault ends well
 fault_told : (fault : RunFault) → run_status fault ≡ status.Ok → ⊥

@@ -1,5 +1,6 @@
 -- The laws of `large`: the bytes of a disk decide how it ends, but for faults and want of memory.
 use Rattle.std.proofs.Common.{inl, inr, ⊎_elim, refl, arith, sym, subst, ◌∙◌}
+use Rattle.store_spec.proofs.Common.{Election, summary_of}
 use Rattle.large_options.specs.declared.options.Options.{Options}
 use Rattle.run_outcome.proofs.Laws.{Laws}
 use Rattle.run_outcome.specs.Row.{Content}
@@ -12,8 +13,6 @@ use Rattle.script_lines.specs.Generated.{generated_text}
 use Rattle.session_commands.proofs.SessionLaws.{SessionDecides, answer_decides, answer_settled, never_usage, one_session, settled_as}
 use Rattle.session_commands.specs.Large.{large_row}
 use Rattle.session_commands.specs.Session.{run_status}
-use Rattle.store_spec.specs.Election.{Election}
-use Rattle.store_spec.specs.Summary.{summary_of}
 
 -- its script is decided by the election and its options
 abbrev pub LargeDecides : Options → Election → Content → Status → Type 0

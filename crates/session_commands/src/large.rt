@@ -15,7 +15,7 @@ use ballot_record::Election;
 use crash_disk::Disk;
 use large_options::Options;
 use outside_io::{Sink, Turns};
-use phase_gate::{Report, Telling};
+use phase_gate::{Report, Writing};
 use run_outcome::Status;
 use script_lines::GeneratedScript;
 use session_run::run_session;
@@ -56,7 +56,7 @@ pub fn large<R: Threads + Sync, K: Sink, D: Disk, T: Turns>(
         out,
         disk,
         turns,
-        Telling::Summary,
+        Writing::Summary,
         report,
     ) {
         Ok(()) => Ok(()),

@@ -12,7 +12,7 @@ use crate::fault::status_of;
 use ballot_record::Election;
 use crash_disk::Disk;
 use outside_io::{Sink, Source, Turns};
-use phase_gate::{Report, Telling};
+use phase_gate::{Report, Writing};
 use run_outcome::Status;
 use session_run::run_session;
 use std::alloc::Global;
@@ -45,7 +45,7 @@ pub fn session<R: Threads + Sync, S: Source, K: Sink, D: Disk, T: Turns>(
         out,
         disk,
         turns,
-        Telling::All,
+        Writing::All,
         report,
     ) {
         Ok(()) => Ok(()),

@@ -1,16 +1,7 @@
 -- Where each ballot that is cast has a number of its own, all may be accepted.
 use Rattle.std.proofs.Common.{◌≡◌, ◌≢◌, suc, ◌+◌, List, [], ◌∷◌, ◌++◌, get_or, length, map, refl, sym, ap, subst, ◌∙◌, arith, length-append}
-use Rattle.std.specs.List.{All, AllPairs, Contains, filter, flat_map}
-use Rattle.std.specs.List.Sorted.{IsPermutation}
-use Rattle.std.proofs.lemmas.List.{get_or_append_left, get_or_default, get_or-append-add}
-use Rattle.std.proofs.lemmas.List.Elements.{All-cons, All-map, All-nil, Contains-append_left, Contains-append_right, All-weaker, Contains-get_or}
-use Rattle.std.proofs.lemmas.List.Kept.{AllPairs-cons}
-use Rattle.std.proofs.lemmas.List.Sorted.{Contains-permutation}
+use Rattle.store_spec.proofs.Common.{Accepted, All, All-cons, All-map, All-nil, All-weaker, AllPairs, AllPairs-cons, Ballot, BallotOutcome, CastLine, CastReply, Contains, Contains-append_left, Contains-append_right, Contains-get_or, Contains-permutation, Election, HasNumber, IsBallotSet, IsPermutation, IsRightReply, IsWithinLimit, MayBeCastBefore, accepted_in, filter, flat_map, get_or-append-add, get_or_append_left, get_or_default, is_accepted}
 use Rattle.ballot_record.proofs.BallotSets.{listing_of_set}
-use Rattle.store_spec.specs.Ballot.{Ballot, IsBallotSet, IsWithinLimit}
-use Rattle.store_spec.specs.BallotPhase.{BallotOutcome, CastLine, CastReply, HasNumber, IsRightReply, MayBeCastBefore, accepted_in, is_accepted}
-use Rattle.store_spec.specs.BallotPhase.CastReply.{Accepted}
-use Rattle.store_spec.specs.Election.{Election}
 use Rattle.session_laws.proofs.Lists.{pairs_back, pairs_front}
 
 -- a ballot that is accepted

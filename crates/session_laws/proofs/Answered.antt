@@ -1,14 +1,7 @@
 -- Each line does something in each state that a session can be in.
 use Rattle.std.proofs.Common.{◌≡◌, ℕ, ◌+◌, Bool, true, false, cond, inl, inr, List, [], ◌∷◌, map, Option, Some, None, refl, sym, ap, subst, ◌∙◌}
-use Rattle.std.specs.Prelude.{not, ◌==◌}
-use Rattle.std.specs.List.{list_any}
-use Rattle.store_spec.specs.Ballot.{Ballot, numbers_of}
-use Rattle.store_spec.specs.Election.{Election}
-use Rattle.store_spec.specs.ScriptLine.{ScriptLine}
-use Rattle.store_spec.specs.ScriptLine.ScriptLine.{Open, Cast, CastInvalid, Close, Checkpoint, Export, Find, Tally, Withdraw}
-use Rattle.store_spec.specs.Session.{Answers, ClosesWithdrawing, Does, Effect, Phase, Plays, State, ballots_without, cast_text, closing, in_phase, withdraw_text}
-use Rattle.store_spec.specs.Session.Phase.{Casts, Closed, Finds, Withdraws}
-use Rattle.store_spec.specs.WithdrawPhase.{WithdrawOutcome, listed, without}
+use Rattle.store_spec.proofs.Common.{Answers, Ballot, Cast, CastInvalid, Casts, Checkpoint, Close, Closed, ClosesWithdrawing, Does, Effect, Election, Export, Find, Finds, Open, Phase, Plays, ScriptLine, State, Tally, Withdraw, WithdrawOutcome, Withdraws, ballots_without, cast_text, closing, in_phase, list_any, listed, not, numbers_of, withdraw_text, without}
+use Rattle.std.specs.Prelude.{◌==◌}
 use Rattle.session_laws.specs.SessionStates.{IsSessionState}
 use Rattle.session_laws.proofs.Findings.{finding_closes, finding_effect, findings}
 use Rattle.session_laws.proofs.Kept.{line_kept}

@@ -1,20 +1,10 @@
 -- What a phase of casting makes of a set, where no two ballots that are cast have one number.
 use Rattle.std.proofs.Common.{◌≡◌, ◌≢◌, ◌≤◌, inl, inr, Some, Bool, true, false, List, ◌++◌, length, refl, sym, ap, subst, ◌∙◌, arith, length-append}
-use Rattle.std.specs.Prelude.{not}
-use Rattle.std.specs.List.{AllPairs, Contains, filter}
-use Rattle.std.specs.List.Sorted.{IsPermutation}
-use Rattle.std.proofs.lemmas.Bool.{cases_eq}
-use Rattle.std.proofs.lemmas.List.Elements.{All-contains, Contains-append_cases, Contains-append_left, Contains-append_right}
-use Rattle.std.proofs.lemmas.List.Kept.{AllPairs-filter}
-use Rattle.std.proofs.lemmas.List.Sorted.{Contains-permutation, IsPermutation-sym}
+use Rattle.store_spec.proofs.Common.{Accepted, All-contains, AllPairs, AllPairs-filter, Ballot, BallotOutcome, CastLine, CastReply, Conflict, Contains, Contains-append_cases, Contains-append_left, Contains-append_right, Contains-permutation, Duplicate, Election, Full, HasNumber, IsBallotSet, IsListing, IsPermutation, IsPermutation-sym, IsRightReply, accepted_in, cases_eq, filter, is_accepted, not, numbers_of}
 use Rattle.ballot_record.proofs.BallotNumbers.{ballot_with, contains_number}
 use Rattle.ballot_record.proofs.Lookups.{found_once}
-use Rattle.store_spec.specs.Ballot.{Ballot, IsBallotSet, IsListing, numbers_of}
-use Rattle.store_spec.specs.BallotPhase.{BallotOutcome, CastLine, CastReply, HasNumber, IsRightReply, accepted_in, is_accepted}
-use Rattle.store_spec.specs.BallotPhase.CastReply.{Accepted, Conflict, Duplicate, Full}
-use Rattle.store_spec.specs.Election.{Election}
 use Rattle.session_laws.specs.LargeRun.{GainsNew, new_to}
-use Rattle.session_laws.specs.NewBallots.{ballots_in}
+use Rattle.session_laws.specs.NewBallots.{ballots_cast}
 use Rattle.session_laws.proofs.AllAccepted.{DifferInNumber, Right}
 use Rattle.session_laws.proofs.Filling.{Among, from_image, left_in, no_more, pairs-append, passed_in, passes}
 use Rattle.session_laws.proofs.Growing.{any_contained, contained_any}
@@ -56,7 +46,7 @@ new_apart e set ballots is listing =
 
 -- ---- the phase
 
-module _ (e : Election) (set ballots : List Ballot) (lists : List (List CastLine)) (after : List Ballot) (is : IsBallotSet e set) (listing : IsListing e ballots) (outcome : BallotOutcome e set lists after) (all : IsPermutation (ballots_in lists) ballots) where
+module _ (e : Election) (set ballots : List Ballot) (lists : List (List CastLine)) (after : List Ballot) (is : IsBallotSet e set) (listing : IsListing e ballots) (outcome : BallotOutcome e set lists after) (all : IsPermutation (ballots_cast lists) ballots) where
   -- the set with what is new to it
   abbrev whole : List Ballot
   whole = set ++ new_to set ballots
@@ -68,13 +58,13 @@ module _ (e : Election) (set ballots : List Ballot) (lists : List (List CastLine
   -- the line of a ballot that is cast
   line_of_ballot : (b : Ballot) → Contains ballots b → (l : CastLine) × Contains (joined lists) l × (l.ballot ≡ b)
   line_of_ballot b at =
-      let here : Contains (ballots_in lists) b = Contains-permutation ballots (ballots_in lists) b (IsPermutation-sym (ballots_in lists) ballots all) at in
+      let here : Contains (ballots_cast lists) b = Contains-permutation ballots (ballots_cast lists) b (IsPermutation-sym (ballots_cast lists) ballots all) at in
       from_image (λ (l : CastLine). l.ballot) (joined lists) b (subst (λ (l : List Ballot). Contains l b) (ballots_in-joined lists) here)
 
   -- a line's ballot is cast
   ballot_of_line : (l : CastLine) → Contains (joined lists) l → Contains ballots l.ballot
   ballot_of_line l at =
-      Contains-permutation (ballots_in lists) ballots l.ballot all
+      Contains-permutation (ballots_cast lists) ballots l.ballot all
       (subst (λ (bs : List Ballot). Contains bs l.ballot) (sym (ballots_in-joined lists)) (Contains-map (λ (l : CastLine). l.ballot) (joined lists) l at))
 
   -- what is accepted is new

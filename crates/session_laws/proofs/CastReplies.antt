@@ -1,11 +1,6 @@
 -- What is replied at the close of a casting phase tells each reply.
 use Rattle.std.proofs.Common.{◌≡◌, ℕ, ◌+◌, if◌then◌else◌, ◌==◌, List, [], ◌∷◌, ◌++◌, get_or, map, refl, sym, ap, subst, ◌∙◌, append_assoc}
-use Rattle.std.specs.Fmt.{decimal}
-use Rattle.std.proofs.lemmas.List.{append_cancel_left}
-use Rattle.store_spec.specs.BallotLine.{space}
-use Rattle.store_spec.specs.BallotPhase.{CastLine, CastReply}
-use Rattle.store_spec.specs.BallotPhase.CastReply.{Accepted, Conflict, Duplicate, Full}
-use Rattle.store_spec.specs.Session.{all_reply_lines, cast_text, reply_line, reply_lines}
+use Rattle.store_spec.proofs.Common.{Accepted, CastLine, CastReply, Conflict, Duplicate, Full, all_reply_lines, append_cancel_left, cast_text, decimal, reply_line, reply_lines, space}
 
 -- the reply whose text begins with this letter
 named : ℕ → CastReply

@@ -1,17 +1,8 @@
 -- Closes of a phase that go one way.
 use Rattle.std.proofs.Common.{◌≡◌, ℕ, List, [], ◌∷◌, ◌++◌, map, refl, sym, ap, subst, ◌∙◌, arith}
-use Rattle.std.specs.List.{All}
-use Rattle.std.specs.List.Sorted.{IsPermutation}
-use Rattle.std.proofs.lemmas.List.Elements.{All-head, All-tail}
-use Rattle.std.proofs.lemmas.List.Sorted.{IsPermutation-sym, IsPermutation-trans, length_permutation}
+use Rattle.store_spec.proofs.Common.{Accepted, All, All-head, All-tail, Ballot, BallotOutcome, CastLine, CastReply, ClosesCasting, Effect, Election, HasNumber, IsBallotSet, IsPermutation, IsPermutation-sym, IsPermutation-trans, IsWithinLimit, accepted_in, ballots_without, cast_text, closing, example, length_permutation, listed, numbers_of, withdraw_text}
 use Rattle.ballot_record.proofs.BallotSets.{listing_of_set, same_in_order}
-use Rattle.store_spec.specs.Ballot.{Ballot, IsBallotSet, IsWithinLimit, numbers_of}
-use Rattle.store_spec.specs.BallotPhase.{BallotOutcome, CastLine, CastReply, HasNumber, accepted_in}
-use Rattle.store_spec.specs.BallotPhase.CastReply.{Accepted}
-use Rattle.store_spec.specs.Election.{Election, example}
-use Rattle.store_spec.specs.Session.{ClosesCasting, Effect, ballots_without, cast_text, closing, withdraw_text}
-use Rattle.store_spec.specs.WithdrawPhase.{listed}
-use Rattle.session_laws.specs.NewBallots.{AreNew, ballots_in}
+use Rattle.session_laws.specs.NewBallots.{AreNew, ballots_cast}
 use Rattle.session_laws.proofs.AllAccepted.{accepted, accepted_in-all, all_accepted, all_lists}
 use Rattle.session_laws.proofs.OnlyAccepted.{all_are_accepted}
 use Rattle.session_laws.proofs.Spelled.{ClosesCastingOnlySo, ClosesWithdrawingOnlySo}
@@ -42,7 +33,7 @@ lists_of [] = refl
 lists_of (ballots ∷ lists) = ap (λ first. first ∷ map (map (λ l. l.ballot)) (map (map accepted) lists)) (list_of ballots) ∙ ap (λ lists. ballots ∷ lists) (lists_of lists)
 
 -- the ballots of all lists, list by list
-ballots_in-map : (lines : List (List CastLine)) → ballots_in lines ≡ all_lists (map (map (λ l. l.ballot)) lines)
+ballots_in-map : (lines : List (List CastLine)) → ballots_cast lines ≡ all_lists (map (map (λ l. l.ballot)) lines)
 ballots_in-map [] = refl
 ballots_in-map (l ∷ lines) = ap (λ rest. map (λ l. l.ballot) l ++ rest) (ballots_in-map lines)
 
@@ -65,7 +56,7 @@ all_accepted_only : (set : List Ballot) (lists : List (List Ballot)) (after : Li
     → (other : Effect) → ClosesCasting example set lists other → other ≡ all_accepted_effect lists after
 all_accepted_only set lists after is few same other closes =
     let whole = set ++ all_lists lists in
-    let ballots : ballots_in closes.lines ≡ all_lists lists = ballots_in-map closes.lines ∙ ap all_lists closes.of_lists in
+    let ballots : ballots_cast closes.lines ≡ all_lists lists = ballots_in-map closes.lines ∙ ap all_lists closes.of_lists in
     let new : AreNew example set (all_lists lists) = record { listing = listing_of_set example whole after same is; room = omega (arith, length_permutation whole after same, few) } in
     let all = all_are_accepted example set closes.lines closes.after closes.outcome (subst (AreNew example set) (sym ballots) new) in
     let lines : closes.lines ≡ map (map accepted) lists = lists_told closes.lines all ∙ ap (map (map accepted)) closes.of_lists in

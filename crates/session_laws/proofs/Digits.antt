@@ -1,9 +1,8 @@
 -- The bytes of a decimal.
 use Rattle.std.proofs.Common.{ℕ, zero, suc, ◌+◌, ◌<◌, ◌≤◌, ◌/◌, ◌%◌, false, ltb, List, [], ◌∷◌, sym, subst, arith}
+use Rattle.store_spec.proofs.Common.{AllByRecursion, cond-true, cond_both, decimal, lt-ltb}
 use Rattle.std.specs.Prelude.{◌==◌}
-use Rattle.std.specs.Fmt.{decimal, digit_glyph, digits, digits_onto}
-use Rattle.std.specs.List.{AllByRecursion}
-use Rattle.std.proofs.lemmas.Bool.{cond-true, cond_both, lt-ltb}
+use Rattle.std.specs.Fmt.{digit_glyph, digits, digits_onto}
 
 -- a byte that is a digit
 abbrev pub IsDigit : ℕ → Type 0

@@ -1,7 +1,6 @@
 -- Effects with the same parts are the same.
 use Rattle.std.proofs.Common.{◌≡◌, ℕ, List, ap, ◌∙◌}
-use Rattle.store_spec.specs.Ballot.{Ballot}
-use Rattle.store_spec.specs.Session.{Effect, State}
+use Rattle.store_spec.proofs.Common.{Ballot, Effect, State}
 
 -- an effect is its reply, what it acknowledges, and the state after it
 pub same_effect : (a b : Effect) → a.reply ≡ b.reply → a.acknowledged ≡ b.acknowledged → a.next ≡ b.next → a ≡ b

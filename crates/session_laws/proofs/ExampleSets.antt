@@ -1,11 +1,6 @@
 -- The sets of the figures, and the close that leads to the first of them.
 use Rattle.std.proofs.Common.{ℕ, ◌^◌, ◌<◌, ◌≤◌, List, [], ◌∷◌, arith}
-use Rattle.std.specs.List.{AllByRecursion}
-use Rattle.std.proofs.lemmas.List.Elements.{All-from_recursion}
-use Rattle.std.proofs.lemmas.List.Sorted.{IsPermutation-append_comm, IsPermutation-append_left}
-use Rattle.store_spec.specs.Ballot.{Ballot, IsBallotSet, IsValid}
-use Rattle.store_spec.specs.Election.{example}
-use Rattle.store_spec.specs.Figures.{example_ballot}
+use Rattle.store_spec.proofs.Common.{All-from_recursion, AllByRecursion, Ballot, IsBallotSet, IsPermutation-append_comm, IsPermutation-append_left, IsValid, example, example_ballot}
 use Rattle.session_laws.specs.SessionFigures.{four, full, three}
 use Rattle.session_laws.proofs.Closing.{all_accepted_close, all_accepted_effect}
 use Rattle.session_laws.proofs.ExampleBallots.{spells_1, spells_9, spells_14, spells_22, valid}

@@ -1,12 +1,8 @@
 -- What distinct elements of a list leave of it, and what a filter and an image contain.
 use Rattle.std.proofs.Common.{◌≡◌, ◌≢◌, ◌≤◌, zero, suc, ◌⊎◌, inl, inr, Bool, true, List, [], ◌∷◌, ◌++◌, get_or, length, map, refl, sym, subst, ◌∙◌, ap, append-nil, arith, length-append}
-use Rattle.std.specs.Prelude.{not, remove}
-use Rattle.std.specs.List.{AllPairs, Contains, filter}
-use Rattle.std.specs.List.Sorted.{IsPermutation}
-use Rattle.std.proofs.lemmas.List.{nil_from_length}
-use Rattle.std.proofs.lemmas.List.Elements.{All-append, All-contains, All-contains_itself, All-filter, Contains-append_cases, Contains-get_or, filter_passes}
-use Rattle.std.proofs.lemmas.List.Kept.{AllPairs-cons}
-use Rattle.std.proofs.lemmas.List.Sorted.{Contains-permutation, IsPermutation-cons, IsPermutation-filter_both, IsPermutation-refl, IsPermutation-remove, IsPermutation-sym, IsPermutation-trans, length_permutation}
+use Rattle.store_spec.proofs.Common.{All-append, All-contains, All-contains_itself, All-filter, AllPairs, AllPairs-cons, Contains, Contains-append_cases, Contains-get_or, Contains-permutation, IsPermutation, IsPermutation-refl, IsPermutation-sym, IsPermutation-trans, filter, filter_passes, length_permutation, nil_from_length, not}
+use Rattle.std.specs.Prelude.{remove}
+use Rattle.std.proofs.lemmas.List.Sorted.{IsPermutation-cons, IsPermutation-filter_both, IsPermutation-remove}
 use Rattle.session_laws.proofs.Lists.{pairs_back, pairs_first}
 
 -- ---- distinct elements

@@ -1,10 +1,7 @@
 -- A phase of finding is closed in one way.
 use Rattle.std.proofs.Common.{◌≡◌, ℕ, Bool, true, false, List, [], ◌∷◌, map, refl, sym, ap, ◌∙◌}
-use Rattle.std.specs.Prelude.{IsTrue, ◌↔◌}
-use Rattle.std.specs.List.{All, Contains}
-use Rattle.std.proofs.lemmas.List.Elements.{All-cons, All-head, All-nil, All-tail}
-use Rattle.store_spec.specs.Ballot.{Ballot, numbers_of}
-use Rattle.store_spec.specs.Session.{ClosesFinding, Effect, closing, find_text}
+use Rattle.store_spec.proofs.Common.{All, All-cons, All-head, All-nil, All-tail, Ballot, ClosesFinding, Contains, Effect, IsTrue, closing, find_text, numbers_of}
+use Rattle.std.specs.Prelude.{◌↔◌}
 use Rattle.store_spec.specs.WithdrawPhase.{Finding}
 use Rattle.session_laws.proofs.Members.{Contains-has, has, has-Contains}
 

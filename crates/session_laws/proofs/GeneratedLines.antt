@@ -1,16 +1,11 @@
 -- A run of the generated script.
 use Rattle.std.proofs.Common.{ℕ, ◌+◌, ◌*◌, ◌^◌, ◌<◌, List, refl, subst, arith, mod-lt}
+use Rattle.store_spec.proofs.Common.{Ballot, Effect, Election, IsBallotSet, IsElection, IsTab, Plays, State, begun, lines_of, record_line, taken_lines}
 use Rattle.ballot_record.proofs.LineLaws.{spells_its_ballot}
 use Rattle.script_lines.proofs.GeneratedBallots.{all_apart, all_valid, valid_ballot}
 use Rattle.script_lines.proofs.Numbers.{some}
 use Rattle.script_lines.proofs.Saying.{read_again}
-use Rattle.script_lines.specs.Generated.{ballot_at, generated, generated_text, spread}
-use Rattle.store_spec.specs.Ballot.{Ballot, IsBallotSet}
-use Rattle.store_spec.specs.BallotLine.{record_line}
-use Rattle.store_spec.specs.Election.{Election, IsElection}
-use Rattle.store_spec.specs.Input.{lines_of, taken_lines}
-use Rattle.store_spec.specs.ScriptLine.{IsTab}
-use Rattle.store_spec.specs.Session.{Effect, Plays, State, begun}
+use Rattle.script_lines.specs.Generated.{generated, generated_ballot, generated_text, spread}
 use Rattle.session_laws.specs.LargeRun.{IsLargeRun}
 use Rattle.session_laws.proofs.LargePlays.{IsScript, large_run}
 
@@ -21,7 +16,7 @@ is_script e seed count tabs election small tab =
     record {
       tab = tab;
       casts = λ i from to.
-          ((omega arith, omega (arith, mod-lt i tab.0)), record_line e (ballot_at e seed i), refl, spells_its_ballot e (ballot_at e seed i) election (valid_ballot e seed i election small from (omega arith)));
+          ((omega arith, omega (arith, mod-lt i tab.0)), record_line e (generated_ballot e seed i), refl, spells_its_ballot e (generated_ballot e seed i) election (valid_ballot e seed i election small from (omega arith)));
       withdraws = λ j from to.
           ((omega arith, omega (arith, mod-lt j tab.0)), (some seed (10 * j) (omega arith) (omega arith), mod-lt ((seed + 10 * j) * spread) (omega arith)), refl);
       listing = record { valid = all_valid e seed count election small; distinct = all_apart e seed count election small };

@@ -1,17 +1,9 @@
 -- A casting phase that answers its ballots one after another: what is right so far stays right.
 use Rattle.std.proofs.Common.{◌≡◌, ◌≢◌, ℕ, ◌≤◌, ◌⊎◌, inl, inr, List, [], ◌++◌, length, sym, ap, subst, ◌∙◌, append-nil, arith, length-append, None}
-use Rattle.std.proofs.lemmas.Bool.{cases_eq}
-use Rattle.std.proofs.lemmas.List.{nil_from_length}
-use Rattle.std.proofs.lemmas.List.Elements.{Contains-append_left}
-use Rattle.std.proofs.lemmas.List.Sorted.{Contains-permutation, length_permutation, IsPermutation-sym}
-use Rattle.std.specs.List.{Any, Contains}
-use Rattle.std.specs.List.Sorted.{IsPermutation}
+use Rattle.store_spec.proofs.Common.{Accepted, Ballot, CastReply, Conflict, Contains, Contains-append_left, Contains-permutation, Duplicate, Election, Full, HasNumber, IsPermutation, IsPermutation-sym, IsRightReply, ballot_of, cases_eq, length_permutation, nil_from_length}
+use Rattle.std.specs.List.{Any}
 use Rattle.ballot_record.proofs.CellCases.{same_or_not}
 use Rattle.ballot_record.proofs.Lookups.{found_in, missing_from, option_cases}
-use Rattle.store_spec.specs.Ballot.{Ballot, ballot_of}
-use Rattle.store_spec.specs.BallotPhase.{CastReply, HasNumber, IsRightReply}
-use Rattle.store_spec.specs.BallotPhase.CastReply.{Accepted, Conflict, Duplicate, Full}
-use Rattle.store_spec.specs.Election.{Election}
 
 -- ---- of what stands in a list
 

@@ -1,19 +1,7 @@
 -- Each line leads from a state that a session can be in to such a state.
 use Rattle.std.proofs.Common.{◌≡◌, ℕ, ◌+◌, ◌-◌, ◌<◌, leb, inl, inr, List, [], ◌∷◌, ◌++◌, get_or, length, Option, Some, None, sym, subst, arith}
-use Rattle.std.specs.Prelude.{not, ◌==◌}
-use Rattle.std.specs.List.{All, list_any}
-use Rattle.std.proofs.lemmas.Bool.{cases_lt, cond_both}
-use Rattle.std.proofs.lemmas.List.{get_or_past}
-use Rattle.std.proofs.lemmas.List.Elements.{All-filter, All-get_or, All-nil, All-push, All-replicate, All-set}
-use Rattle.std.proofs.lemmas.List.Kept.{AllPairs-filter}
-use Rattle.std.proofs.lemmas.List.Sums.{count_by-le-length, length-filter}
-use Rattle.store_spec.specs.Ballot.{Ballot, IsBallotSet, IsValid, IsWithinLimit}
-use Rattle.store_spec.specs.Election.{Election}
-use Rattle.store_spec.specs.ScriptLine.{Says, ScriptLine, Work}
-use Rattle.store_spec.specs.ScriptLine.ScriptLine.{Open, Cast, CastInvalid, Close, Checkpoint, Export, Find, Tally, Withdraw}
-use Rattle.store_spec.specs.ScriptLine.Work.{Casting, Withdrawing, Finding}
-use Rattle.store_spec.specs.Session.{Answers, Does, Effect, Phase, Plays, State, ballots_without, begun, in_phase, opened, queued, queues, refusal, replies, stays}
-use Rattle.store_spec.specs.Session.Phase.{Casts, Closed, Finds, Withdraws}
+use Rattle.store_spec.proofs.Common.{All, All-filter, All-get_or, All-nil, All-push, All-replicate, All-set, AllPairs-filter, Answers, Ballot, Cast, CastInvalid, Casting, Casts, Checkpoint, Close, Closed, Does, Effect, Election, Export, Find, Finding, Finds, IsBallotSet, IsValid, IsWithinLimit, Open, Phase, Plays, Says, ScriptLine, State, Tally, Withdraw, Withdrawing, Withdraws, Work, ballots_without, begun, cases_lt, cond_both, count_by-le-length, get_or_past, in_phase, length-filter, list_any, not, opened, queued, queues, refusal, replies, stays}
+use Rattle.std.specs.Prelude.{◌==◌}
 use Rattle.session_laws.specs.SessionStates.{IsSessionState, OnlyValidWait}
 
 -- ---- parts of a state

@@ -1,25 +1,12 @@
 -- A large run, from its first line to its last.
 use Rattle.std.proofs.Common.{◌≡◌, ℕ, zero, suc, ◌+◌, ◌*◌, ◌/◌, ◌%◌, ◌<◌, ◌≤◌, List, [], ◌∷◌, ◌++◌, length, map, codes, refl, sym, ap, subst, ◌∙◌, append_assoc, append-nil, arith, mod-lt}
-use Rattle.std.specs.Prelude.{not, ◌==◌}
-use Rattle.std.specs.List.{AllByRecursion, list_any, range_with_len}
-use Rattle.std.specs.List.Sorted.{IsPermutation}
+use Rattle.store_spec.proofs.Common.{AllByRecursion, Ballot, Cast, CastLine, Casting, Casts, Checkpoint, ClosesCasting, ClosesWithdrawing, Effect, Election, IsBallotSet, IsListing, IsPermutation, IsPermutation-sym, IsTab, Plays, Says, State, Tally, Withdraw, Withdrawal, Withdrawing, Withdraws, acknowledged_in, ballots_without, begun, cast_text, counted, list_any, listed, not, open_text, range_with_len, summary_of, taken_lines, tally_text, withdraw_text, written}
+use Rattle.std.specs.Prelude.{◌==◌}
 use Rattle.std.proofs.lemmas.List.Elements.{filter_agree}
-use Rattle.std.proofs.lemmas.List.Sorted.{IsPermutation-sym, list_any-IsPermutation}
-use Rattle.script_lines.specs.Generated.{ballot_at, ballot_count, cast_ballots, cast_line, generated, number_at, withdraw_line, withdrawn_numbers}
-use Rattle.store_spec.specs.Ballot.{Ballot, IsBallotSet, IsListing}
-use Rattle.store_spec.specs.BallotPhase.{CastLine}
-use Rattle.store_spec.specs.Election.{Election}
-use Rattle.store_spec.specs.Input.{taken_lines}
-use Rattle.store_spec.specs.Report.{tally_text}
-use Rattle.store_spec.specs.ScriptLine.{IsTab, Says, open_text}
-use Rattle.store_spec.specs.ScriptLine.ScriptLine.{Cast, Checkpoint, Tally, Withdraw}
-use Rattle.store_spec.specs.ScriptLine.Work.{Casting, Withdrawing}
-use Rattle.store_spec.specs.Session.{ClosesCasting, ClosesWithdrawing, Effect, Plays, State, acknowledged_in, ballots_without, begun, cast_text, counted, withdraw_text, written}
-use Rattle.store_spec.specs.Session.Phase.{Casts, Withdraws}
-use Rattle.store_spec.specs.Summary.{summary_of}
-use Rattle.store_spec.specs.WithdrawPhase.{Withdrawal, listed}
+use Rattle.std.proofs.lemmas.List.Sorted.{list_any-IsPermutation}
+use Rattle.script_lines.specs.Generated.{ballot_count, cast_ballots, cast_line, generated, generated_ballot, generated_number, withdraw_line, withdrawn_numbers}
 use Rattle.session_laws.specs.LargeRun.{GainsNew, IsLargeRun, count_with}
-use Rattle.session_laws.specs.NewBallots.{ballots_in}
+use Rattle.session_laws.specs.NewBallots.{ballots_cast}
 use Rattle.session_laws.proofs.CastGains.{cast_gains}
 use Rattle.session_laws.proofs.Listed.{listed-map}
 use Rattle.session_laws.proofs.PlayedPhases.{led, played_phase, taken_does}
@@ -43,7 +30,7 @@ no_lines e n s [] end plays = record { none = refl; same = plays }
 no_lines e n s (effect ∷ effects) end plays = absurd plays
 
 -- the ballots of the lines of lists
-ballots_in-map : (lines : List (List CastLine)) → ballots_in lines ≡ items_of (map (map (λ l. l.ballot)) lines)
+ballots_in-map : (lines : List (List CastLine)) → ballots_cast lines ≡ items_of (map (map (λ l. l.ballot)) lines)
 ballots_in-map [] = refl
 ballots_in-map (l ∷ lines) = ap (λ ballots. map (λ l. l.ballot) l ++ ballots) (ballots_in-map lines)
 
@@ -88,8 +75,8 @@ last_lines e n set effects end plays =
 -- what the lines of a generated script say, and which ballots it casts
 pub record IsScript (e : Election) (seed count tabs : ℕ) : Type 0 where
   pub tab : IsTab tabs
-  pub casts : (i : ℕ) → 1 ≤ i → i ≤ ballot_count e count → Says e (cast_line e seed tabs i) (Cast (1 + i % tabs) (ballot_at e seed i))
-  pub withdraws : (j : ℕ) → 1 ≤ j → j ≤ ballot_count e count / 10 → Says e (withdraw_line seed tabs j) (Withdraw (1 + j % tabs) (number_at seed (10 * j)))
+  pub casts : (i : ℕ) → 1 ≤ i → i ≤ ballot_count e count → Says e (cast_line e seed tabs i) (Cast (1 + i % tabs) (generated_ballot e seed i))
+  pub withdraws : (j : ℕ) → 1 ≤ j → j ≤ ballot_count e count / 10 → Says e (withdraw_line seed tabs j) (Withdraw (1 + j % tabs) (generated_number seed (10 * j)))
   pub listing : IsListing e (cast_ballots e seed count)
 
 module _ (e : Election) (seed count tabs : ℕ) (is : IsScript e seed count tabs) where
@@ -105,16 +92,16 @@ module _ (e : Election) (seed count tabs : ℕ) (is : IsScript e seed count tabs
   tab_within i = omega (arith, mod-lt i is.tab.0)
 
   -- each ballot waits
-  ballots_wait : (set : List Ballot) → AllByRecursion (Waits e Casts set tabs (cast_line e seed tabs) (λ i. 1 + i % tabs) (ballot_at e seed)) casting
+  ballots_wait : (set : List Ballot) → AllByRecursion (Waits e Casts set tabs (cast_line e seed tabs) (λ i. 1 + i % tabs) (generated_ballot e seed)) casting
   ballots_wait set =
-      in_range (Waits e Casts set tabs (cast_line e seed tabs) (λ i. 1 + i % tabs) (ballot_at e seed)) 1 (ballot_count e count)
-      (λ i from to. record { some = omega arith; within = tab_within i; only = λ n lists effect answers. taken_does e n _ (cast_line e seed tabs i) (Cast (1 + i % tabs) (ballot_at e seed i)) (is.casts i from (omega arith)) effect answers })
+      in_range (Waits e Casts set tabs (cast_line e seed tabs) (λ i. 1 + i % tabs) (generated_ballot e seed)) 1 (ballot_count e count)
+      (λ i from to. record { some = omega arith; within = tab_within i; only = λ n lists effect answers. taken_does e n _ (cast_line e seed tabs i) (Cast (1 + i % tabs) (generated_ballot e seed i)) (is.casts i from (omega arith)) effect answers })
 
   -- so does each number that is withdrawn
-  numbers_wait : (set : List Ballot) → AllByRecursion (Waits e Withdraws set tabs (withdraw_line seed tabs) (λ j. 1 + j % tabs) (λ j. number_at seed (10 * j))) withdrawing
+  numbers_wait : (set : List Ballot) → AllByRecursion (Waits e Withdraws set tabs (withdraw_line seed tabs) (λ j. 1 + j % tabs) (λ j. generated_number seed (10 * j))) withdrawing
   numbers_wait set =
-      in_range (Waits e Withdraws set tabs (withdraw_line seed tabs) (λ j. 1 + j % tabs) (λ j. number_at seed (10 * j))) 1 (ballot_count e count / 10)
-      (λ j from to. record { some = omega arith; within = tab_within j; only = λ n lists effect answers. taken_does e n _ (withdraw_line seed tabs j) (Withdraw (1 + j % tabs) (number_at seed (10 * j))) (is.withdraws j from (omega arith)) effect answers })
+      in_range (Waits e Withdraws set tabs (withdraw_line seed tabs) (λ j. 1 + j % tabs) (λ j. generated_number seed (10 * j))) 1 (ballot_count e count / 10)
+      (λ j from to. record { some = omega arith; within = tab_within j; only = λ n lists effect answers. taken_does e n _ (withdraw_line seed tabs j) (Withdraw (1 + j % tabs) (generated_number seed (10 * j))) (is.withdraws j from (omega arith)) effect answers })
 
   -- what is withdrawn
   abbrev gone : List ℕ
@@ -129,7 +116,7 @@ module _ (e : Election) (seed count tabs : ℕ) (is : IsScript e seed count tabs
       → EndsWith (ballots_without set gone) (counted (codes "closed") (length (ballots_without set gone)) ++ reported e (ballots_without set gone)) effects end
   withdrawn n set effects end plays =
       let after = ballots_without set gone in
-      let phase = played_phase e Withdrawing Withdraws tabs is.tab refl set (withdraw_line seed tabs) (λ j. 1 + j % tabs) (λ j. number_at seed (10 * j)) withdrawing (numbers_wait set) (codes "checkpoint" ∷ codes "tally" ∷ []) n effects end plays in
+      let phase = played_phase e Withdrawing Withdraws tabs is.tab refl set (withdraw_line seed tabs) (λ j. 1 + j % tabs) (λ j. generated_number seed (10 * j)) withdrawing (numbers_wait set) (codes "checkpoint" ∷ codes "tally" ∷ []) n effects end plays in
       let closes : ClosesWithdrawing set phase.lists phase.close = phase.closes in
       let numbers : listed closes.lines ≡ items_of phase.lists = listed-map closes.lines ∙ ap items_of closes.of_lists in
       let same : closes.after ≡ after = closes.rest ∙ ap (ballots_without set) numbers ∙ sym (same_without set gone (items_of phase.lists) phase.all) in
@@ -150,9 +137,9 @@ module _ (e : Election) (seed count tabs : ℕ) (is : IsScript e seed count tabs
   cast_and_withdrawn : (before : List Ballot) → IsBallotSet e before → (effects : List Effect) (end : State)
       → Plays e 1 (begun before) (taken_lines (open_text Casting tabs ∷ (map (cast_line e seed tabs) casting ++ codes "close" ∷ withdrawing_lines))) effects end → IsLargeRun e seed count before effects end
   cast_and_withdrawn before legal effects end plays =
-      let phase = played_phase e Casting Casts tabs is.tab refl before (cast_line e seed tabs) (λ i. 1 + i % tabs) (ballot_at e seed) casting (ballots_wait before) withdrawing_lines 1 effects end plays in
+      let phase = played_phase e Casting Casts tabs is.tab refl before (cast_line e seed tabs) (λ i. 1 + i % tabs) (generated_ballot e seed) casting (ballots_wait before) withdrawing_lines 1 effects end plays in
       let closes : ClosesCasting e before phase.lists phase.close = phase.closes in
-      let all : IsPermutation (ballots_in closes.lines) (cast_ballots e seed count) =
+      let all : IsPermutation (ballots_cast closes.lines) (cast_ballots e seed count) =
       subst (λ (ballots : List Ballot). IsPermutation ballots (cast_ballots e seed count)) (sym (ballots_in-map closes.lines ∙ ap items_of closes.of_lists)) (IsPermutation-sym (cast_ballots e seed count) (items_of phase.lists) phase.all) in
       let gains : GainsNew e before (cast_ballots e seed count) closes.after = cast_gains e before (cast_ballots e seed count) closes.lines closes.after legal is.listing closes.outcome all in
       let after = ballots_without closes.after gone in

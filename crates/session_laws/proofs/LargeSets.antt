@@ -1,17 +1,9 @@
 -- The result of a large run, as a set.
 use Rattle.std.proofs.Common.{◌≡◌, ◌≢◌, ℕ, ◌+◌, ◌<◌, ◌≤◌, ◌↔◌, inl, inr, Bool, List, ◌++◌, length, sym, ap, subst, ◌∙◌, arith, length-append}
-use Rattle.std.specs.Prelude.{not, ◌==◌}
-use Rattle.std.specs.List.{All, AllPairs, Contains, list_any}
-use Rattle.std.specs.List.Sorted.{IsPermutation}
-use Rattle.std.proofs.lemmas.List.Elements.{All-contains, All-filter, Contains-append_cases, Contains-append_left, Contains-append_right, Contains-get_or}
-use Rattle.std.proofs.lemmas.List.Kept.{AllPairs-filter}
-use Rattle.std.proofs.lemmas.List.Sorted.{Contains-permutation, IsPermutation-sym, IsPermutation-trans}
-use Rattle.std.proofs.lemmas.List.Sums.{count_by-le-length, length-filter}
+use Rattle.store_spec.proofs.Common.{All, All-contains, All-filter, AllPairs, AllPairs-filter, Ballot, Contains, Contains-append_cases, Contains-append_left, Contains-append_right, Contains-get_or, Contains-permutation, Election, IsBallotSet, IsPermutation, IsPermutation-sym, IsPermutation-trans, IsValid, IsWithinLimit, ballots_without, count_by-le-length, length-filter, list_any, not}
+use Rattle.std.specs.Prelude.{◌==◌}
 use Rattle.ballot_record.proofs.BallotSets.{listing_from_set, same_in_order}
 use Rattle.script_lines.specs.Generated.{cast_ballots, withdrawn_numbers}
-use Rattle.store_spec.specs.Ballot.{Ballot, IsBallotSet, IsValid, IsWithinLimit}
-use Rattle.store_spec.specs.Election.{Election}
-use Rattle.store_spec.specs.Session.{ballots_without}
 use Rattle.session_laws.specs.LargeRun.{GainsNew, IsLargeSet, new_to}
 use Rattle.session_laws.proofs.Filling.{Among, all_of, left_in, passed_in, passes}
 

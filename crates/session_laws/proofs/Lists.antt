@@ -1,9 +1,6 @@
 -- What holds of each element and of each two, one after another.
 use Rattle.std.proofs.Common.{List, [], ◌∷◌, arith, suc, ◌≡◌, ◌+◌, ◌++◌, length, get_or, subst, refl, length-append, map, ap, ◌∙◌}
-use Rattle.std.proofs.lemmas.List.Elements.{All-from_recursion, All-cons, All-nil, All-weaker}
-use Rattle.std.proofs.lemmas.List.Kept.{AllPairs-cons}
-use Rattle.std.specs.List.{All, AllByRecursion, AllPairs, Contains}
-use Rattle.std.proofs.lemmas.List.{get_or_append_left, get_or-append-add, get_or-map, length-map}
+use Rattle.store_spec.proofs.Common.{All, All-cons, All-from_recursion, All-nil, All-weaker, AllByRecursion, AllPairs, AllPairs-cons, Contains, get_or-append-add, get_or-map, get_or_append_left, length-map}
 
 -- each element stands so to each later one
 abbrev pub Pairwise : {X : Type 0} → (X → X → Type 0) → List X → Type 0

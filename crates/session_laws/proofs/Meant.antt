@@ -1,22 +1,14 @@
 -- Each line says something or is malformed.
 use Rattle.std.proofs.Common.{◌≡◌, ◌≢◌, ℕ, ◌-◌, ◌^◌, ◌<◌, ◌≤◌, ◌⊎◌, inl, inr, List, [], ◌∷◌, ◌++◌, length, codes, refl, sym, ap, subst, ◌∙◌, arith, append_assoc}
-use Rattle.std.proofs.lemmas.Bool.{cases_eq}
-use Rattle.std.proofs.lemmas.List.{append_cancel_left}
-use Rattle.std.specs.Fmt.{decimal}
+use Rattle.store_spec.proofs.Common.{Ballot, Cast, CastInvalid, Casting, Checkpoint, Close, Election, Export, Find, Finding, IsLineOf, IsMalformed, IsNumber, IsRecordLine, IsTab, IsValid, Open, RecordLine, Says, ScriptLine, Tally, Withdraw, Withdrawing, Work, append_cancel_left, ballot_of_line, cases_eq, decimal, item_text, open_text, work_text}
 use Rattle.ballot_record.proofs.CellCases.{same_or_not, valid_or_not}
 use Rattle.ballot_record.proofs.LineLaws.{not_read, one_reading}
 use Rattle.ballot_record.proofs.LineWhole.{line_takes}
 use Rattle.ballot_record.proofs.Lookups.{option_cases}
-use Rattle.ballot_record.specs.LineReading.{digits_at, line_of}
+use Rattle.ballot_record.specs.LineReading.{digits_at, parsed_line}
 use Rattle.script_lines.proofs.Decimals.{lacks_number, lacks_space, more_behind, none_whole, tab_read, whole}
 use Rattle.script_lines.proofs.Forms.{one_item}
 use Rattle.script_lines.specs.Words.{IsNotUpTo, LacksTab}
-use Rattle.store_spec.specs.Ballot.{Ballot, IsValid}
-use Rattle.store_spec.specs.BallotLine.{IsLineOf, IsRecordLine, RecordLine, ballot_of_line}
-use Rattle.store_spec.specs.Election.{Election}
-use Rattle.store_spec.specs.ScriptLine.{IsMalformed, IsNumber, IsTab, Says, ScriptLine, Work, item_text, open_text, work_text}
-use Rattle.store_spec.specs.ScriptLine.ScriptLine.{Open, Cast, CastInvalid, Withdraw, Find, Close, Checkpoint, Tally, Export}
-use Rattle.store_spec.specs.ScriptLine.Work.{Casting, Withdrawing, Finding}
 
 -- ---- parts of a line
 
@@ -98,7 +90,7 @@ numbered_or_not w bytes =
 -- bytes are a record line, or not
 record_line_or_not : (e : Election) (rest : List ℕ) → IsRecordLine e rest ⊎ ¬ IsRecordLine e rest
 record_line_or_not e rest =
-    elim (option_cases (line_of e rest)) [
+    elim (option_cases (parsed_line e rest)) [
       | inl none ↦ inr (not_read e rest none)
       | inr some ↦ inl (some.0, line_takes e rest some.0 some.1)
     ]

@@ -1,7 +1,6 @@
 -- Whether a number is in a list.
 use Rattle.std.proofs.Common.{◌≡◌, ◌≢◌, ℕ, ◌==◌, Bool, true, false, List, ◌∷◌, get_or, refl, sym, subst, ◌∙◌, arith}
-use Rattle.std.specs.List.{Contains, list_any}
-use Rattle.std.proofs.lemmas.Bool.{eq-eqb, eqb-true, false≢true, ne_eqb}
+use Rattle.store_spec.proofs.Common.{Contains, eq-eqb, eqb-true, false≢true, list_any, ne_eqb}
 use Rattle.std.proofs.lemmas.List.Folds.{Any-from_list_any, list_any-from_Any}
 
 -- the test

@@ -1,11 +1,7 @@
 -- Only the close of a phase of casting or of withdrawing leaves a choice.
 use Rattle.std.proofs.Common.{◌≡◌, ℕ, List, Option, Some, None, codes, inl, inr, refl, sym, ap, subst, ◌∙◌}
+use Rattle.store_spec.proofs.Common.{Answers, Cast, CastInvalid, Casts, Checkpoint, Close, Closed, Does, Effect, Election, Export, Find, Finds, Open, Phase, Says, ScriptLine, State, Tally, Withdraw, Withdraws}
 use Rattle.script_lines.proofs.Meanings.{one_meaning}
-use Rattle.store_spec.specs.Election.{Election}
-use Rattle.store_spec.specs.ScriptLine.{Says, ScriptLine}
-use Rattle.store_spec.specs.ScriptLine.ScriptLine.{Open, Cast, CastInvalid, Close, Checkpoint, Export, Find, Tally, Withdraw}
-use Rattle.store_spec.specs.Session.{Answers, Does, Effect, Phase, State}
-use Rattle.store_spec.specs.Session.Phase.{Casts, Closed, Finds, Withdraws}
 use Rattle.session_laws.specs.SessionStates.{LeavesChoice}
 use Rattle.session_laws.proofs.Findings.{finding_only}
 

@@ -1,16 +1,8 @@
 -- Each phase of casting has an outcome: its ballots may be answered one after another.
 use Rattle.std.proofs.Common.{◌≡◌, ◌≢◌, ℕ, ◌<◌, ◌≤◌, inl, inr, List, [], ◌∷◌, ◌++◌, length, map, get_or, refl, sym, ap, subst, ◌∙◌, append_assoc, append-nil, arith, length-append}
-use Rattle.std.specs.List.{All, AllPairs, Any, Contains, filter}
-use Rattle.std.proofs.lemmas.Bool.{cases_lt}
-use Rattle.std.proofs.lemmas.List.Elements.{All-cons, All-head, All-nil, All-push, All-tail, All-weaker, Contains-append_left, Contains-get_or, Contains-push}
-use Rattle.std.proofs.lemmas.List.Kept.{AllPairs-cons}
-use Rattle.std.proofs.lemmas.List.Quantifiers.{all_pairs_push}
-use Rattle.std.proofs.lemmas.List.Sorted.{length_permutation}
+use Rattle.store_spec.proofs.Common.{Accepted, All, All-cons, All-head, All-nil, All-push, All-tail, All-weaker, AllPairs, AllPairs-cons, Ballot, BallotOutcome, CastLine, CastReply, Conflict, Contains, Contains-append_left, Contains-get_or, Contains-push, Duplicate, Election, Full, HasNumber, IsBallotSet, IsListing, IsRightReply, IsValid, IsWithinLimit, MayBeCastBefore, accepted_in, all_pairs_push, cases_lt, filter, is_accepted, length_permutation}
+use Rattle.std.specs.List.{Any}
 use Rattle.ballot_record.proofs.BallotSets.{in_order, in_order-IsPermutation, listing_from_set, set_of_listing}
-use Rattle.store_spec.specs.Ballot.{Ballot, IsBallotSet, IsListing, IsValid, IsWithinLimit}
-use Rattle.store_spec.specs.BallotPhase.{BallotOutcome, CastLine, CastReply, HasNumber, IsRightReply, MayBeCastBefore, accepted_in, is_accepted}
-use Rattle.store_spec.specs.BallotPhase.CastReply.{Accepted, Conflict, Duplicate, Full}
-use Rattle.store_spec.specs.Election.{Election}
 use Rattle.session_laws.proofs.Growing.{any_among, contained_any, number_or_not, right_in_order, same_ballot_or_not, stays_right}
 
 -- the ballots of a list that are accepted

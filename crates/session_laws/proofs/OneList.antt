@@ -1,22 +1,12 @@
 -- A phase of casting whose ballots wait in one list has one outcome.
 use Rattle.std.proofs.Common.{◌≡◌, ◌≢◌, ◌≤◌, inl, inr, List, [], ◌∷◌, ◌++◌, length, map, refl, sym, ap, subst, ◌∙◌, append_assoc, append-nil, arith, length-append, zero, suc, ◌⊎◌}
-use Rattle.std.specs.List.{All, AllPairs, Contains, filter}
-use Rattle.std.specs.List.Sorted.{IsPermutation}
-use Rattle.std.proofs.lemmas.List.{map-append}
-use Rattle.std.proofs.lemmas.List.Elements.{All-contains, All-head, Contains-append_cases, Contains-append_left, Contains-append_right, filter-append}
-use Rattle.std.proofs.lemmas.List.Sorted.{Contains-permutation, IsPermutation-sym, IsPermutation-trans, length_permutation}
+use Rattle.store_spec.proofs.Common.{Accepted, All, All-contains, All-head, AllPairs, Ballot, BallotOutcome, CastLine, CastReply, ClosesCasting, Conflict, Contains, Contains-append_cases, Contains-append_left, Contains-append_right, Contains-permutation, Duplicate, Effect, Election, Full, IsBallotSet, IsPermutation, IsPermutation-sym, IsPermutation-trans, IsRightReply, MayBeCastBefore, cast_text, closing, filter, filter-append, is_accepted, length_permutation, map-append, same_Some}
 use Rattle.ballot_record.proofs.BallotSets.{listing_of_set, same_in_order}
-use Rattle.store_spec.specs.Ballot.{Ballot, IsBallotSet}
-use Rattle.store_spec.specs.BallotPhase.{BallotOutcome, CastLine, CastReply, IsRightReply, MayBeCastBefore, is_accepted}
-use Rattle.store_spec.specs.BallotPhase.CastReply.{Accepted, Conflict, Duplicate, Full}
-use Rattle.store_spec.specs.Election.{Election}
-use Rattle.store_spec.specs.Session.{ClosesCasting, Effect, cast_text, closing}
 use Rattle.session_laws.proofs.AllAccepted.{Apart, DifferInNumber, Right, new_number}
 use Rattle.session_laws.proofs.CastReplies.{same_line}
 use Rattle.session_laws.proofs.Growing.{any_among, any_contained, contained_any}
 use Rattle.session_laws.proofs.Lists.{nothing_in, pairs_back, pairs_first, pairs_front}
 use Rattle.session_laws.proofs.OneByOne.{IsWhy, accepted_of, has_number}
-use Rattle.std.proofs.lemmas.Option.{same_Some}
 use Rattle.ballot_record.proofs.Lookups.{found_once}
 
 -- ---- one reply

@@ -1,14 +1,7 @@
 -- A phase of withdrawing whose numbers wait in one list has one outcome.
 use Rattle.std.proofs.Common.{◌≡◌, ℕ, suc, ◌+◌, ◌≤◌, ◌⊎◌, inl, inr, Bool, true, false, List, [], ◌∷◌, ◌++◌, map, refl, sym, ap, subst, ◌∙◌, append_assoc, append-nil, arith}
-use Rattle.std.specs.List.{All, AllPairs, Contains, filter}
-use Rattle.std.proofs.lemmas.Bool.{cases_eq}
-use Rattle.std.proofs.lemmas.List.{map-append}
-use Rattle.std.proofs.lemmas.List.Elements.{All-contains, All-head, Contains-append_right, filter-append}
-use Rattle.std.proofs.lemmas.List.Sums.{sum_by-append}
-use Rattle.store_spec.specs.Ballot.{Ballot, numbers_of}
-use Rattle.store_spec.specs.Session.{ClosesWithdrawing, Effect, ballots_without, closing, withdraw_text}
-use Rattle.store_spec.specs.WithdrawPhase.{IsRightWithdrawal, MayBeWithdrawnBefore, WithdrawOutcome, WithdrawReply, Withdrawal, is_withdrawn, listed}
-use Rattle.store_spec.specs.WithdrawPhase.WithdrawReply.{Absent, Gone, Withdrawn}
+use Rattle.store_spec.proofs.Common.{Absent, All, All-contains, All-head, AllPairs, Ballot, ClosesWithdrawing, Contains, Contains-append_right, Effect, IsRightWithdrawal, MayBeWithdrawnBefore, WithdrawOutcome, WithdrawReply, Withdrawal, ballots_without, cases_eq, closing, filter, filter-append, is_withdrawn, listed, map-append, numbers_of, sum_by-append, withdraw_text}
+use Rattle.store_spec.specs.WithdrawPhase.WithdrawReply.{Gone, Withdrawn}
 use Rattle.session_laws.proofs.Lists.{Contains-map, pairs_back, pairs_first}
 use Rattle.session_laws.proofs.Members.{Contains-has, has, has-Contains, has-first, has-none, has-other}
 use Rattle.session_laws.proofs.Withdrawals.{Right, answer, answers, other_answer, reply_to, times, times-first, times-other, withdrawn_of}

@@ -1,17 +1,9 @@
 -- Where all ballots that are cast are new, nothing else may come of it than that all are accepted.
 use Rattle.std.proofs.Common.{◌≡◌, ◌<◌, Bool, true, cond, List, [], ◌∷◌, ◌++◌, length, map, refl, sym, ap, subst, ◌∙◌, append_assoc, arith, length-append, append-nil}
-use Rattle.std.specs.Prelude.{not}
-use Rattle.std.specs.List.{All, Contains, filter, flat_map}
-use Rattle.std.specs.List.Sorted.{IsPermutation}
-use Rattle.std.proofs.lemmas.List.{map-append, nil_from_length}
-use Rattle.std.proofs.lemmas.List.Elements.{All-append, All-cons, All-contains, All-filter, All-head, All-nil, All-tail, filter-append, filter_passes}
-use Rattle.std.proofs.lemmas.List.Sorted.{Contains-permutation, IsPermutation-append_right, IsPermutation-filter_both, IsPermutation-map, IsPermutation-sym, IsPermutation-trans, length_permutation}
+use Rattle.store_spec.proofs.Common.{Accepted, All, All-append, All-cons, All-contains, All-filter, All-head, All-nil, All-tail, Ballot, BallotOutcome, CastLine, CastReply, Conflict, Contains, Contains-permutation, Duplicate, Election, Full, HasNumber, IsPermutation, IsPermutation-map, IsPermutation-sym, IsPermutation-trans, IsRightReply, accepted_in, filter, filter-append, filter_passes, flat_map, is_accepted, length_permutation, map-append, nil_from_length, not}
+use Rattle.std.proofs.lemmas.List.Sorted.{IsPermutation-append_right, IsPermutation-filter_both}
 use Rattle.ballot_record.proofs.BallotSets.{listing-IsPermutation, same_in_order}
-use Rattle.store_spec.specs.Ballot.{Ballot}
-use Rattle.store_spec.specs.BallotPhase.{BallotOutcome, CastLine, CastReply, HasNumber, IsRightReply, accepted_in, is_accepted}
-use Rattle.store_spec.specs.BallotPhase.CastReply.{Accepted, Conflict, Duplicate, Full}
-use Rattle.store_spec.specs.Election.{Election}
-use Rattle.session_laws.specs.NewBallots.{AreNew, ballots_in}
+use Rattle.session_laws.specs.NewBallots.{AreNew, ballots_cast}
 use Rattle.session_laws.proofs.AllAccepted.{Right, new_number}
 use Rattle.session_laws.proofs.Growing.{any_among, contained_any}
 use Rattle.session_laws.proofs.Lists.{Contains-map, nothing_in}
@@ -31,7 +23,7 @@ abbrev refuses : CastLine → Bool
 refuses l = not (is_accepted l.reply)
 
 -- their ballots
-pub ballots_in-joined : (lists : List (List CastLine)) → ballots_in lists ≡ map (λ l. l.ballot) (joined lists)
+pub ballots_in-joined : (lists : List (List CastLine)) → ballots_cast lists ≡ map (λ l. l.ballot) (joined lists)
 ballots_in-joined [] = refl
 ballots_in-joined (lines ∷ lists) = ap (λ rest. map (λ l. l.ballot) lines ++ rest) (ballots_in-joined lists) ∙ sym (map-append (λ l. l.ballot) lines (joined lists))
 
@@ -54,18 +46,18 @@ abbrev refused : List (List CastLine) → List CastLine
 refused lists = filter refuses (joined lists)
 
 -- the ballots of the lists are those that are accepted and those that are not
-parted : (set : List Ballot) (lists : List (List CastLine)) → IsPermutation (set ++ ballots_in lists) ((set ++ accepted_in lists) ++ map (λ l. l.ballot) (refused lists))
+parted : (set : List Ballot) (lists : List (List CastLine)) → IsPermutation (set ++ ballots_cast lists) ((set ++ accepted_in lists) ++ map (λ l. l.ballot) (refused lists))
 parted set lists =
     let lines = joined lists in
     let both : IsPermutation (map (λ l. l.ballot) lines) (map (λ l. l.ballot) (filter accepts lines ++ filter refuses lines)) =
     IsPermutation-map (λ l. l.ballot) lines (filter accepts lines ++ filter refuses lines) (IsPermutation-filter_both accepts refuses (λ l. refl) lines) in
     let parts : map (λ l. l.ballot) (filter accepts lines ++ filter refuses lines) ≡ accepted_in lists ++ map (λ l. l.ballot) (refused lists) =
     map-append (λ l. l.ballot) (filter accepts lines) (filter refuses lines) ∙ ap (λ first. first ++ map (λ l. l.ballot) (refused lists)) (sym (accepted_in-joined lists)) in
-    let here : IsPermutation (ballots_in lists) (accepted_in lists ++ map (λ l. l.ballot) (refused lists)) =
+    let here : IsPermutation (ballots_cast lists) (accepted_in lists ++ map (λ l. l.ballot) (refused lists)) =
     subst (λ (ballots : List Ballot). IsPermutation ballots (accepted_in lists ++ map (λ l. l.ballot) (refused lists))) (sym (ballots_in-joined lists))
     (subst (λ (ballots : List Ballot). IsPermutation (map (λ l. l.ballot) lines) ballots) parts both) in
-    subst (λ (ballots : List Ballot). IsPermutation (set ++ ballots_in lists) ballots) (sym (append_assoc set (accepted_in lists) (map (λ l. l.ballot) (refused lists))))
-    (IsPermutation-append_right set (ballots_in lists) (accepted_in lists ++ map (λ l. l.ballot) (refused lists)) here)
+    subst (λ (ballots : List Ballot). IsPermutation (set ++ ballots_cast lists) ballots) (sym (append_assoc set (accepted_in lists) (map (λ l. l.ballot) (refused lists))))
+    (IsPermutation-append_right set (ballots_cast lists) (accepted_in lists ++ map (λ l. l.ballot) (refused lists)) here)
 
 -- a reply that is right, and does not accept, needs the number in the set, or a full one
 refusal_wrong : (e : Election) (set now after : List Ballot) (b : Ballot) (reply : CastReply) → IsPermutation now after → ¬ HasNumber now b.number → length now < e.limit → IsRightReply e set after b reply → not (is_accepted reply) ≡ true → ⊥
@@ -81,17 +73,17 @@ some_within [] l at = omega (arith, at.1)
 some_within (m ∷ lines) l at = omega arith
 
 -- no line refuses
-nothing_refused : (e : Election) (set : List Ballot) (lists : List (List CastLine)) (after : List Ballot) → BallotOutcome e set lists after → AreNew e set (ballots_in lists) → refused lists ≡ []
+nothing_refused : (e : Election) (set : List Ballot) (lists : List (List CastLine)) (after : List Ballot) → BallotOutcome e set lists after → AreNew e set (ballots_cast lists) → refused lists ≡ []
 nothing_refused e set lists after outcome new =
     let now = set ++ accepted_in lists in
     let others = map (λ l. l.ballot) (refused lists) in
     let same = parted set lists in
-    let apart = (listing-IsPermutation e (set ++ ballots_in lists) (now ++ others) same new.listing).distinct in
+    let apart = (listing-IsPermutation e (set ++ ballots_cast lists) (now ++ others) same new.listing).distinct in
     nothing_in (refused lists) (λ l at.
     let refusing : not (is_accepted l.reply) ≡ true = All-contains (λ (l : CastLine). refuses l ≡ true) (refused lists) l (filter_passes refuses (joined lists)) at in
     let right : Right e set after l = All-contains (Right e set after) (refused lists) l (All-filter refuses (Right e set after) (joined lists) (all_joined (Right e set after) lists outcome.replies)) at in
     refusal_wrong e set now after l.ballot l.reply outcome.gains (new_number now others l.ballot apart (Contains-map (λ (l : CastLine). l.ballot) (refused lists) l at))
-    (omega (arith, new.room, length_permutation (set ++ ballots_in lists) (now ++ others) same, length-append now others, some_within (refused lists) l at)) right refusing)
+    (omega (arith, new.room, length_permutation (set ++ ballots_cast lists) (now ++ others) same, length-append now others, some_within (refused lists) l at)) right refusing)
 
 -- ---- so all are accepted
 
@@ -119,17 +111,17 @@ each_accepts (lines ∷ lists) none =
     (accepts_all lines (nil_from_length (filter refuses lines) (omega arith))) (each_accepts lists (nil_from_length (refused lists) (omega arith)))
 
 -- so all ballots are accepted
-pub all_are_accepted : (e : Election) (set : List Ballot) (lists : List (List CastLine)) (after : List Ballot) → BallotOutcome e set lists after → AreNew e set (ballots_in lists) → All (All (λ l. l.reply ≡ Accepted)) lists
+pub all_are_accepted : (e : Election) (set : List Ballot) (lists : List (List CastLine)) (after : List Ballot) → BallotOutcome e set lists after → AreNew e set (ballots_cast lists) → All (All (λ l. l.reply ≡ Accepted)) lists
 all_are_accepted e set lists after outcome new = each_accepts lists (nothing_refused e set lists after outcome new)
 
 -- ---- and the set gains them
 
 -- the set after the phase is the one before with all of them
-gained : (e : Election) (set : List Ballot) (lists : List (List CastLine)) (after : List Ballot) → BallotOutcome e set lists after → AreNew e set (ballots_in lists) → IsPermutation (set ++ ballots_in lists) after
+gained : (e : Election) (set : List Ballot) (lists : List (List CastLine)) (after : List Ballot) → BallotOutcome e set lists after → AreNew e set (ballots_cast lists) → IsPermutation (set ++ ballots_cast lists) after
 gained e set lists after outcome new =
     let now = set ++ accepted_in lists in
     let all : now ++ map (λ l. l.ballot) (refused lists) ≡ now = ap (λ lines. now ++ map (λ l. l.ballot) lines) (nothing_refused e set lists after outcome new) ∙ append-nil now in
-    IsPermutation-trans (set ++ ballots_in lists) now after (subst (IsPermutation (set ++ ballots_in lists)) all (parted set lists)) outcome.gains
+    IsPermutation-trans (set ++ ballots_cast lists) now after (subst (IsPermutation (set ++ ballots_cast lists)) all (parted set lists)) outcome.gains
 
 -- new ballots are new in any order
 new_in_order : (e : Election) (set xs ys : List Ballot) → IsPermutation xs ys → AreNew e set xs → AreNew e set ys
@@ -139,11 +131,11 @@ new_in_order e set xs ys same new =
 
 -- so the order does not matter
 pub same_set : (e : Election) (set : List Ballot) (lists others : List (List CastLine)) (x y : List Ballot) → BallotOutcome e set lists x → BallotOutcome e set others y
-    → AreNew e set (ballots_in lists) → IsPermutation (ballots_in lists) (ballots_in others) → x ≡ y
+    → AreNew e set (ballots_cast lists) → IsPermutation (ballots_cast lists) (ballots_cast others) → x ≡ y
 same_set e set lists others x y first second new same =
-    let one = set ++ ballots_in lists in
-    let other = set ++ ballots_in others in
+    let one = set ++ ballots_cast lists in
+    let other = set ++ ballots_cast others in
     same_in_order x y first.set.ascending second.set.ascending
     (IsPermutation-trans x one y (IsPermutation-sym one x (gained e set lists x first new))
-    (IsPermutation-trans one other y (IsPermutation-append_right set (ballots_in lists) (ballots_in others) same)
-    (gained e set others y second (new_in_order e set (ballots_in lists) (ballots_in others) same new))))
+    (IsPermutation-trans one other y (IsPermutation-append_right set (ballots_cast lists) (ballots_cast others) same)
+    (gained e set others y second (new_in_order e set (ballots_cast lists) (ballots_cast others) same new))))

@@ -1,18 +1,7 @@
 -- A phase from its opening to its close, as a part of a script.
 use Rattle.std.proofs.Common.{◌≡◌, ℕ, ◌+◌, leb, List, [], ◌∷◌, ◌++◌, length, map, replicate, Option, Some, None, codes, refl, ap, subst, ◌∙◌, arith}
-use Rattle.std.specs.List.{AllByRecursion}
-use Rattle.std.specs.List.Sorted.{IsPermutation}
-use Rattle.std.proofs.lemmas.Bool.{cond-true, le-leb}
-use Rattle.std.proofs.lemmas.Grind.{flat_map-append}
-use Rattle.std.proofs.lemmas.List.{length-replicate, map-append}
+use Rattle.store_spec.proofs.Common.{AllByRecursion, Answers, Ballot, Close, Does, Effect, Election, IsPermutation, IsTab, Open, Phase, Plays, Says, ScriptLine, State, Work, acknowledged_in, begun, cond-true, counted, flat_map-append, in_phase, le-leb, length-replicate, line_limit, map-append, open_text, opened, phase_text, replies, summary_of, taken_line, taken_lines, written}
 use Rattle.script_lines.proofs.Meanings.{short}
-use Rattle.store_spec.specs.Ballot.{Ballot}
-use Rattle.store_spec.specs.Election.{Election}
-use Rattle.store_spec.specs.Input.{line_limit, taken_line, taken_lines}
-use Rattle.store_spec.specs.ScriptLine.{IsTab, Says, ScriptLine, Work, open_text}
-use Rattle.store_spec.specs.ScriptLine.ScriptLine.{Close, Open}
-use Rattle.store_spec.specs.Session.{Answers, Does, Effect, Phase, Plays, State, acknowledged_in, begun, counted, in_phase, opened, phase_text, replies, written}
-use Rattle.store_spec.specs.Summary.{summary_of}
 use Rattle.session_laws.proofs.Spelled.{does_as_said}
 use Rattle.session_laws.proofs.Summaries.{summary-append}
 use Rattle.session_laws.proofs.Unheard.{opening_unheard}

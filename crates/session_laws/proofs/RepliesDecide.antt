@@ -1,18 +1,8 @@
 -- What is replied to a line decides what it does.
 use Rattle.std.proofs.Common.{◌≡◌, ℕ, ◌+◌, List, [], ◌∷◌, ◌++◌, map, Option, Some, None, inl, inr, refl, sym, ap, subst, ◌∙◌}
-use Rattle.std.specs.List.{flat_map}
-use Rattle.std.specs.List.Sorted.{IsPermutation}
-use Rattle.std.proofs.lemmas.List.Sorted.{IsPermutation-sym, IsPermutation-trans}
+use Rattle.store_spec.proofs.Common.{Answers, Ballot, Cast, CastInvalid, CastLine, Casts, Checkpoint, Close, Closed, ClosesCasting, ClosesWithdrawing, Does, Effect, Election, Export, Find, Finds, IsPermutation, IsPermutation-sym, IsPermutation-trans, Open, Phase, Plays, ScriptLine, State, Tally, Withdraw, Withdraws, accepted_in, ballots_without, begun, flat_map, listed}
 use Rattle.ballot_record.proofs.BallotSets.{same_in_order}
 use Rattle.script_lines.proofs.Meanings.{one_meaning}
-use Rattle.store_spec.specs.Ballot.{Ballot}
-use Rattle.store_spec.specs.BallotPhase.{CastLine, accepted_in}
-use Rattle.store_spec.specs.Election.{Election}
-use Rattle.store_spec.specs.ScriptLine.{ScriptLine}
-use Rattle.store_spec.specs.ScriptLine.ScriptLine.{Open, Cast, CastInvalid, Close, Checkpoint, Export, Find, Tally, Withdraw}
-use Rattle.store_spec.specs.Session.{Answers, ClosesCasting, ClosesWithdrawing, Does, Effect, Phase, Plays, State, ballots_without, begun}
-use Rattle.store_spec.specs.Session.Phase.{Casts, Closed, Finds, Withdraws}
-use Rattle.store_spec.specs.WithdrawPhase.{listed}
 use Rattle.session_laws.proofs.CastReplies.{lists_told}
 use Rattle.session_laws.proofs.Effects.{same_effect}
 use Rattle.session_laws.proofs.Listed.{listed-map}

@@ -1,17 +1,7 @@
 -- What lines of each form do, whatever numbers and ballots stand in them.
 use Rattle.std.proofs.Common.{◌≡◌, ℕ, List, [], ◌∷◌, Some, codes, refl, inl, inr, subst}
-use Rattle.std.specs.Prelude.{length}
-use Rattle.std.specs.Fmt.{decimal}
+use Rattle.store_spec.proofs.Common.{Answers, Ballot, Cast, Casting, Casts, Checkpoint, Close, Closed, ClosesCasting, ClosesWithdrawing, Does, Effect, Election, Export, Find, Finding, Finds, IsMalformed, IsNumber, IsTab, Open, Says, ScriptLine, Spells, State, Tally, Withdraw, Withdrawing, Withdraws, Work, begun, counted, decimal, example, export_text, in_phase, item_text, length, numbers_of, open_text, opened, phase_text, queues, refusal, replies, stays, tally_text, wrong_phase}
 use Rattle.script_lines.proofs.Meanings.{one_meaning}
-use Rattle.store_spec.specs.Ballot.{Ballot, numbers_of}
-use Rattle.store_spec.specs.BallotLine.{Spells}
-use Rattle.store_spec.specs.Election.{Election, example}
-use Rattle.store_spec.specs.Report.{export_text, tally_text}
-use Rattle.store_spec.specs.ScriptLine.{IsMalformed, IsNumber, IsTab, Says, ScriptLine, Work, item_text, open_text}
-use Rattle.store_spec.specs.ScriptLine.Work.{Casting, Withdrawing, Finding}
-use Rattle.store_spec.specs.ScriptLine.ScriptLine.{Open, Cast, Close, Checkpoint, Export, Tally, Withdraw, Find}
-use Rattle.store_spec.specs.Session.{Answers, ClosesCasting, ClosesWithdrawing, Does, Effect, State, begun, counted, in_phase, opened, phase_text, queues, refusal, replies, stays, wrong_phase}
-use Rattle.store_spec.specs.Session.Phase.{Casts, Closed, Withdraws, Finds}
 use Rattle.session_laws.proofs.Steps.{MayDo, Step}
 use Rattle.session_laws.proofs.Findings.{finding_closes, finding_effect, finding_only, findings}
 

@@ -1,9 +1,7 @@
 -- A figure as a list of steps: what one line does, and what the lines after it do.
 use Rattle.std.proofs.Common.{◌≡◌, ℕ, ◌+◌, List, [], ◌∷◌, ◌++◌, map, Option, Some, refl, ap, subst, ◌∙◌}
+use Rattle.store_spec.proofs.Common.{Answers, Ballot, Effect, Plays, State, acknowledged_in, begun, example, line_of, written}
 use Rattle.std.specs.Prelude.{flat_map}
-use Rattle.store_spec.specs.Ballot.{Ballot}
-use Rattle.store_spec.specs.Election.{example}
-use Rattle.store_spec.specs.Session.{Answers, Effect, Plays, State, acknowledged_in, begun, line_of, written}
 use Rattle.session_laws.specs.SessionFigures.{PlaysOnlySo, PlaysOut}
 
 -- what line number n may do in a state of a session of the example election

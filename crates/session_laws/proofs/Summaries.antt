@@ -1,16 +1,7 @@
 -- The summary of texts that are put one behind the other, and of single lines.
 use Rattle.std.proofs.Common.{◌≡◌, ℕ, Bool, true, false, cond, eqb, List, [], ◌∷◌, ◌++◌, ◌||◌, refl, sym, ap, subst, ◌∙◌, arith, append_assoc, append-nil}
-use Rattle.std.specs.Fmt.{decimal}
-use Rattle.std.specs.List.{AllByRecursion, filter, list_any}
-use Rattle.std.proofs.lemmas.Bool.{ne_eqb}
-use Rattle.std.proofs.lemmas.Grind.{flat_map-append}
-use Rattle.std.proofs.lemmas.List.Elements.{filter-append}
-use Rattle.std.proofs.lemmas.List.Folds.{list_any-append}
+use Rattle.store_spec.proofs.Common.{AllByRecursion, begun_with, continued, decimal, filter, filter-append, flat_map-append, is_in_summary, line_end, line_of, lines_of, lines_text, list_any, list_any-append, ne_eqb, summary_of}
 use Rattle.outside_io.proofs.EndedLines.{IsWhole, ended_lines-append, lines_of-append}
-use Rattle.store_spec.specs.Input.{begun_with, continued, line_end, lines_of}
-use Rattle.store_spec.specs.Report.{lines_text}
-use Rattle.store_spec.specs.Session.{line_of}
-use Rattle.store_spec.specs.Summary.{is_in_summary, summary_of}
 use Rattle.session_laws.proofs.Digits.{AreDigits, IsDigit, decimal_digits}
 
 -- ---- whole texts

@@ -1,19 +1,9 @@
 -- Replies that are not in the summary, and those that are.
 use Rattle.std.proofs.Common.{◌≡◌, ℕ, ◌+◌, true, false, List, [], ◌∷◌, ◌++◌, length, map, codes, refl, sym, ap, ◌∙◌, append_assoc}
-use Rattle.std.specs.Fmt.{decimal}
-use Rattle.std.specs.List.{flat_map, range_with_len}
+use Rattle.store_spec.proofs.Common.{Absent, Accepted, Ballot, CastReply, Casting, Conflict, Duplicate, Election, Finding, Full, WithdrawReply, Withdrawing, Work, all_reply_lines, cast_text, choice_line, choices_of, closing, counted, decimal, flat_map, is_in_summary, line_of, opened, overvotes, phase_text, range_with_len, reply_line, reply_lines, summary_of, tally_text, undervotes, votes, withdraw_text}
 use Rattle.outside_io.proofs.EndedLines.{IsWhole}
-use Rattle.store_spec.specs.Ballot.{Ballot}
-use Rattle.store_spec.specs.BallotPhase.{CastReply}
-use Rattle.store_spec.specs.BallotPhase.CastReply.{Accepted, Conflict, Duplicate, Full}
-use Rattle.store_spec.specs.Election.{Election, choices_of}
-use Rattle.store_spec.specs.Report.{choice_line, contest_line, contest_lines, overvotes, tally_lines, tally_text, undervotes, votes}
-use Rattle.store_spec.specs.ScriptLine.{Work}
-use Rattle.store_spec.specs.ScriptLine.Work.{Casting, Withdrawing, Finding}
-use Rattle.store_spec.specs.Session.{all_reply_lines, cast_text, closing, counted, line_of, opened, phase_text, reply_line, reply_lines, withdraw_text}
-use Rattle.store_spec.specs.Summary.{is_in_summary, summary_of}
-use Rattle.store_spec.specs.WithdrawPhase.{WithdrawReply}
-use Rattle.store_spec.specs.WithdrawPhase.WithdrawReply.{Absent, Gone, Withdrawn}
+use Rattle.store_spec.specs.Report.{contest_line, contest_lines, tally_lines}
+use Rattle.store_spec.specs.WithdrawPhase.WithdrawReply.{Gone, Withdrawn}
 use Rattle.session_laws.proofs.Digits.{AreDigits, decimal_digits}
 use Rattle.session_laws.proofs.Summaries.{AreKept, IsOneLine, all_kept, decimal_one_line, digit_first, ended_whole, one_line-append, summary-append, summary_kept, summary_left_out, whole-append}
 

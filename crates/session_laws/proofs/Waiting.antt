@@ -1,14 +1,6 @@
 -- What waits in the lists of a phase.
 use Rattle.std.proofs.Common.{◌≡◌, ℕ, zero, suc, ◌+◌, ◌-◌, ◌<◌, ◌≤◌, leb, List, [], ◌∷◌, ◌++◌, get_or, length, map, set, replicate, refl, sym, ap, subst, ◌∙◌, append_assoc, append-nil, arith}
-use Rattle.std.specs.List.{AllByRecursion, flat_map}
-use Rattle.std.specs.List.Sorted.{IsPermutation}
-use Rattle.std.proofs.lemmas.Bool.{cond-true, le-leb}
-use Rattle.std.proofs.lemmas.List.{length-set}
-use Rattle.std.proofs.lemmas.List.Sorted.{IsPermutation-append_comm, IsPermutation-append_left, IsPermutation-append_right, IsPermutation-refl, IsPermutation-trans}
-use Rattle.store_spec.specs.Ballot.{Ballot}
-use Rattle.store_spec.specs.Election.{Election}
-use Rattle.store_spec.specs.Input.{taken_line, taken_lines}
-use Rattle.store_spec.specs.Session.{Answers, Effect, Phase, Plays, State, acknowledged_in, in_phase, queued, queues, refusal, replies, stays, written}
+use Rattle.store_spec.proofs.Common.{AllByRecursion, Answers, Ballot, Effect, Election, IsPermutation, IsPermutation-append_comm, IsPermutation-append_left, IsPermutation-append_right, IsPermutation-refl, IsPermutation-trans, Phase, Plays, State, acknowledged_in, cond-true, flat_map, in_phase, le-leb, length-set, queued, queues, refusal, replies, stays, taken_line, taken_lines, written}
 
 -- the items of lists, list by list
 abbrev pub items_of : {X : Type 0} → List (List X) → List X

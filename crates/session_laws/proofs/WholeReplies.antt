@@ -1,18 +1,8 @@
 -- The replies to a script are whole lines, so their summary is that of each, one behind the other.
 use Rattle.std.proofs.Common.{◌≡◌, ℕ, ◌+◌, leb, inl, inr, List, [], ◌∷◌, ◌++◌, length, map, codes, Option, Some, None, refl, sym, ap, subst, ◌∙◌}
-use Rattle.std.specs.Fmt.{decimal}
-use Rattle.std.specs.List.{flat_map}
-use Rattle.std.proofs.lemmas.Bool.{cond_both}
-use Rattle.std.proofs.lemmas.Grind.{flat_map-append}
+use Rattle.store_spec.proofs.Common.{Answers, Ballot, Cast, CastInvalid, Casts, Checkpoint, Close, Closed, Does, Effect, Election, Export, Find, Finds, Open, Phase, Plays, ScriptLine, State, Tally, Withdraw, Withdraws, all_reply_lines, cast_text, closing, cond_both, counted, decimal, find_text, flat_map, flat_map-append, in_phase, line_of, lines_text, opened, phase_text, queued, queues, refusal, replies, stays, summary_of, withdraw_text, written, wrong_phase}
 use Rattle.outside_io.proofs.EndedLines.{IsWhole}
-use Rattle.store_spec.specs.Ballot.{Ballot}
-use Rattle.store_spec.specs.Election.{Election}
-use Rattle.store_spec.specs.Report.{export_lines, lines_text, tally_lines}
-use Rattle.store_spec.specs.ScriptLine.{ScriptLine}
-use Rattle.store_spec.specs.ScriptLine.ScriptLine.{Open, Cast, CastInvalid, Close, Checkpoint, Export, Find, Tally, Withdraw}
-use Rattle.store_spec.specs.Session.{Answers, Does, Effect, Phase, Plays, State, all_reply_lines, cast_text, closing, counted, find_text, in_phase, line_of, opened, phase_text, queued, queues, refusal, replies, stays, withdraw_text, written, wrong_phase}
-use Rattle.store_spec.specs.Session.Phase.{Casts, Closed, Finds, Withdraws}
-use Rattle.store_spec.specs.Summary.{summary_of}
+use Rattle.store_spec.specs.Report.{export_lines, tally_lines}
 use Rattle.session_laws.proofs.Summaries.{ended-behind, ended_whole, summary-append, whole-append}
 
 -- ---- replies

@@ -1,14 +1,8 @@
 -- Each phase of withdrawing has an outcome: its numbers may be answered one after another.
 use Rattle.std.proofs.Common.{◌≡◌, ◌≢◌, ℕ, ◌+◌, ◌==◌, inl, inr, Bool, true, false, cond, ◌||◌, List, [], ◌∷◌, ◌++◌, map, refl, sym, ap, subst, ◌∙◌, arith}
+use Rattle.store_spec.proofs.Common.{Absent, All, All-cons, All-nil, All-weaker, AllPairs, AllPairs-cons, Contains, IsRightWithdrawal, MayBeWithdrawnBefore, WithdrawOutcome, WithdrawReply, Withdrawal, cases_eq, eq-eqb, filter, flat_map, is_withdrawn, list_any-append, listed, ne_eqb, sum_by-append, sum_by-cons, withdrawn_in, without}
 use Rattle.std.specs.Prelude.{count_by}
-use Rattle.std.specs.List.{All, AllPairs, Contains, filter, flat_map}
-use Rattle.std.proofs.lemmas.Bool.{cases_eq, eq-eqb, ne_eqb}
-use Rattle.std.proofs.lemmas.List.Elements.{All-cons, All-nil, All-weaker}
-use Rattle.std.proofs.lemmas.List.Folds.{list_any-append}
-use Rattle.std.proofs.lemmas.List.Kept.{AllPairs-cons}
-use Rattle.std.proofs.lemmas.List.Sums.{sum_by-append, sum_by-cons}
-use Rattle.store_spec.specs.WithdrawPhase.{IsRightWithdrawal, MayBeWithdrawnBefore, WithdrawOutcome, WithdrawReply, Withdrawal, is_withdrawn, listed, withdrawn_in, without}
-use Rattle.store_spec.specs.WithdrawPhase.WithdrawReply.{Withdrawn, Gone, Absent}
+use Rattle.store_spec.specs.WithdrawPhase.WithdrawReply.{Withdrawn, Gone}
 use Rattle.session_laws.proofs.Listed.{listed-map}
 use Rattle.session_laws.proofs.Members.{Contains-has, has, has-Contains, has-first, has-none, has-other}
 

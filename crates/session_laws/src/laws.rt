@@ -2,7 +2,7 @@
 
 pub mod large;
 
-ghost use Rattle.session_laws.specs.NewBallots.{AreNew, ballots_in};
+ghost use Rattle.session_laws.specs.NewBallots.{AreNew, ballots_cast};
 ghost use Rattle.session_laws.specs.SessionStates.{IsSessionState, LeavesChoice};
 ghost use Rattle.std.specs.Prelude.{◌≡◌, ℕ, List, [], ◌∷◌, ◌++◌, Option, map, All, IsPermutation, codes};
 ghost use Rattle.store_spec.specs.Ballot.{Ballot, IsBallotSet, IsWithinLimit};
@@ -60,10 +60,10 @@ pub fn every_line_is_answered()
 /// does not depend on who cast them, nor in which order.
 pub fn new_ballots_are_accepted()
     ensures all { (e : Election) (set after : List Ballot) (lists : List (List CastLine))
-        → BallotOutcome e set lists after → AreNew e set (ballots_in lists)
+        → BallotOutcome e set lists after → AreNew e set (ballots_cast lists)
         → All (All (λ l. l.reply ≡ Accepted)) lists }
     ensures same_set { (e : Election) (set x y : List Ballot) (lists others : List (List CastLine))
         → BallotOutcome e set lists x → BallotOutcome e set others y
-        → AreNew e set (ballots_in lists) → IsPermutation (ballots_in lists) (ballots_in others)
+        → AreNew e set (ballots_cast lists) → IsPermutation (ballots_cast lists) (ballots_cast others)
         → x ≡ y }
 {}

@@ -1,10 +1,7 @@
 -- One more checkpoint of a session.
 use Rattle.std.proofs.Common.{◌≡◌, ℕ, ◌+◌, ◌<◌, ◌≤◌, List, [], ◌∷◌, ◌++◌, map, length, Option, Some, None, refl, arith, ap, sym, subst, ◌∙◌, ◌⊎◌, inl, inr, ⊎_elim}
-use Rattle.std.proofs.lemmas.Bool.{cases_lt}
-use Rattle.std.proofs.lemmas.List.{append-nil, map-append}
-use Rattle.std.proofs.lemmas.List.Elements.{All-push}
-use Rattle.std.proofs.lemmas.List.FromFn.{length-map-range_with_len}
-use Rattle.std.specs.Prelude.{All, IfSome, is_some}
+use Rattle.store_spec.proofs.Common.{All-push, Ballot, DiskModel, EachCrashImage, Election, HoldsAcknowledged, HoldsOneOf, HoldsSet, IfSome, IsElection, IsMediumOf, LeavesMediumOf, LeavesOnly, Rose, after_calls, append-nil, cases_lt, inside_next, is_some, last_count, leaves_now, length-map-range_with_len, map-append}
+use Rattle.std.specs.Prelude.{All}
 use Rattle.image_builder.proofs.Held.{medium_holds}
 use Rattle.any_store.specs.Beside.{further_calls}
 use Rattle.any_store.specs.Checkpointed.{Attempted, Checkpointed, FailsCheckpoint, HoldsEither, IsMediumNow, IsUncalled}
@@ -15,12 +12,6 @@ use Rattle.any_store.specs.Disks.StoreDisks.{Alone, Parted}
 use Rattle.session_run.proofs.Rows.{a_row, column_then, no_row}
 use Rattle.session_run.proofs.Stops.{acknowledged_more, acknowledged_tried, first_of, marks_more, marks_stay, marks_within, second_of}
 use Rattle.session_run.specs.History.{Acknowledged, AreAcknowledged, AreMarks, AreTried, FailsOnOne, Tried, column, latest}
-use Rattle.store_spec.specs.Ballot.{Ballot}
-use Rattle.store_spec.specs.Disk.{DiskModel, EachCrashImage, LeavesOnly, after_calls, inside_next, leaves_now}
-use Rattle.store_spec.specs.Election.{Election, IsElection}
-use Rattle.store_spec.specs.Fault.{Rose, last_count}
-use Rattle.store_spec.specs.Medium.{HoldsSet, IsMediumOf}
-use Rattle.store_spec.specs.Stop.{HoldsAcknowledged, HoldsOneOf, LeavesMediumOf}
 
 pub latest_more : (set : List Ballot) (sets : List (List Ballot)) (next : List Ballot)
     → latest set (sets ++ next ∷ []) ≡ next

@@ -1,6 +1,6 @@
 -- How a run of a session begins: the medium is recovered, or it is refused.
 use Rattle.std.proofs.Common.{◌≡◌, ℕ, ◌<◌, ◌≤◌, List, [], length, Option, Some, None, Result, Ok, Err, refl, arith, ap, sym, subst, ◌∙◌, inl, inr, ⊎_elim, append-nil}
-use Rattle.std.specs.Prelude.{IfSome, IsErrAnd, IsErrOf, is_some}
+use Rattle.store_spec.proofs.Common.{Ballot, CountsFaultIf, DiskModel, Election, HoldsSet, HoldsTheSame, IfSome, IsBallotSet, IsErrAnd, IsErrOf, IsMediumOf, IsSettled, IsWithinLimit, LeavesOnlyOnceSynced, State, SyncsFirst, after_calls, begun, is_some, last_count, leaves_now}
 use Rattle.body_store.specs.Contents.{Contents, IsStored}
 use Rattle.crash_disk.proofs.Moments.{started, syncs_first}
 use Rattle.outside_io.specs.Outside.{Input, Output}
@@ -15,15 +15,9 @@ use Rattle.recovery.specs.declared.fault.RecoverFault.TheVariants as recover
 use Rattle.session_run.proofs.SoFar.{SoFar}
 use Rattle.session_run.proofs.Stops.{first_of}
 use Rattle.session_run.specs.Ends.{HasBegun, SessionEnds}
-use Rattle.session_run.specs.Faults.{recover_fault}
+use Rattle.session_run.specs.Faults.{run_fault}
 use Rattle.session_run.specs.History.{Acknowledged, HoldsOnceSynced, LosesNothing}
 use Rattle.session_run.specs.declared.fault.RunFault.{RunFault}
-use Rattle.store_spec.specs.Ballot.{Ballot, IsBallotSet, IsWithinLimit}
-use Rattle.store_spec.specs.Disk.{DiskModel, IsSettled, LeavesOnlyOnceSynced, SyncsFirst, after_calls, leaves_now}
-use Rattle.store_spec.specs.Election.{Election}
-use Rattle.store_spec.specs.Fault.{CountsFaultIf, last_count}
-use Rattle.store_spec.specs.Medium.{HoldsSet, HoldsTheSame, IsMediumOf}
-use Rattle.store_spec.specs.Session.{State, begun}
 
 -- the answer that was made of a fault
 pub answer_is : (r : Result (Unit {0}) RunFault) (fault : RunFault) → IsErrAnd r (λ f. f ≡ fault) → r ≡ Err fault
@@ -78,10 +72,10 @@ module _ {D : Type 0} (model : DiskModel D) (e : Election) where
         (run.each below m low high image left (Some set) held);
   }
 
-  module _ {S K : Type 0} (tell : List ℕ → List ℕ) (script : Input S) (before : Around K D)
+  module _ {S K : Type 0} (write : List ℕ → List ℕ) (script : Input S) (before : Around K D)
       (none_marked : before.marks ≡ []) (none_held : before.held ≡ 0) where
     -- there was no memory before anything was done
-    pub no_memory : SessionEnds model tell e (Err (recover_fault recover.Memory)) script script before before
+    pub no_memory : SessionEnds model write e (Err (run_fault recover.Memory)) script script before before
     no_memory = inl (
       recover.Memory,
       refl,
@@ -115,7 +109,7 @@ module _ {D : Type 0} (model : DiskModel D) (e : Election) where
         after (HoldsTheSame e bytes))
         → (model.calls after < last_count → model.calls before.disk < model.calls after) → CountsFaultIf (why ≡ recover.DiskFault) (model.faults before.disk)
         (model.faults after)
-        → SessionEnds model tell e (Err (recover_fault why)) script script before
+        → SessionEnds model write e (Err (run_fault why)) script script before
         (record { sink = before.sink; disk = after; marks = before.marks; others = before.others; held = before.held })
     refused why after reason same unharmed told any_moment called fault = inl (
       why,
@@ -198,10 +192,10 @@ has_begun model e closed state before after held read own stored is none count t
     }
 
 -- and no line was handled yet
-pub begins : {K D : Type 0} (model : StoreModel D) (tell : List ℕ → List ℕ) (e : Election) (set : List Ballot)
+pub begins : {K D : Type 0} (model : StoreModel D) (write : List ℕ → List ℕ) (e : Election) (set : List Ballot)
     (state : State) (before now : Around K D) → HasBegun model e set state before now
-    → SoFar model tell e set [] state 0 before now
-begins {K} model tell e set state before now starts = record {
+    → SoFar model write e set [] state 0 before now
+begins {K} model write e set state before now starts = record {
   effects = [];
   plays = starts.state_is;
   counted = refl;

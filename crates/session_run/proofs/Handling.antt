@@ -1,6 +1,6 @@
 -- A line is handled: the room for a row is taken before it, and the row of its mark added behind it.
 use Rattle.std.proofs.Common.{◌≡◌, ℕ, List, Result, length, map, ap, sym, subst, ◌∙◌}
-use Rattle.std.proofs.lemmas.List.{length-map}
+use Rattle.store_spec.proofs.Common.{Election, State, length-map}
 use Rattle.any_store.specs.Beside.{AreRows}
 use Rattle.any_store.specs.Disks.{StoreModel}
 use Rattle.outside_io.specs.Outside.{Output}
@@ -11,19 +11,17 @@ use Rattle.phase_gate.specs.declared.fault.SessionFault.{SessionFault}
 use Rattle.phase_gate.specs.declared.report.Report.{Report}
 use Rattle.session_run.proofs.Marks.{one_more}
 use Rattle.session_run.proofs.Rows.{as_many, line_ends_then}
-use Rattle.store_spec.specs.Election.{Election}
-use Rattle.store_spec.specs.Session.{State}
 
 -- The report at first, with the room, behind the line, and with the row.
-module _ {K D : Type 0} (model : StoreModel D) (tell : List ℕ → List ℕ) (e : Election) (n : ℕ) (s : State)
+module _ {K D : Type 0} (model : StoreModel D) (write : List ℕ → List ℕ) (e : Election) (n : ℕ) (s : State)
     (bytes : List ℕ) (sink sunk : Output K) (disk now : D) (old mid new : Report) (r : Result State SessionFault)
     (first : mid.marks ≡ old.marks) (mid_others : mid.others.items ≡ old.others.items) (mid_held : mid.held ≡ old.held)
     (new_others : new.others ≡ mid.others)
-    (ends : LineEnds model tell e n s bytes r (around sink disk mid) (around sunk now new))
+    (ends : LineEnds model write e n s bytes r (around sink disk mid) (around sunk now new))
     (are : AreRows model.disks old.begun old.marks.items (rows_of old)) where
   -- a mark more was made, or none, and there is no row for it yet
   more : IsOneMore mid.marks.items new.marks.items
-  more = one_more model tell e n s bytes (around sink disk mid) (around sunk now new) r ends
+  more = one_more model write e n s bytes (around sink disk mid) (around sunk now new) r ends
 
   many : length new.others.items ≡ length old.marks.items
   many =
@@ -69,8 +67,8 @@ module _ {K D : Type 0} (model : StoreModel D) (tell : List ℕ → List ℕ) (e
       held = last_held i;
     }
 
-    pub ended : LineEnds model tell e n s bytes r (around sink disk old) (around sunk now last)
-    ended = line_ends_then model tell e n s bytes last.begun (around sink disk old) (around sink disk mid)
+    pub ended : LineEnds model write e n s bytes r (around sink disk old) (around sunk now last)
+    ended = line_ends_then model write e n s bytes last.begun (around sink disk old) (around sink disk mid)
         (around sunk now new) (around sunk now last) r was is
         (subst (λ marks. AddsRow model.disks now last.begun mid.marks.items marks.items (rows_of mid) (rows_of last))
         last_marks adds_there) ends

@@ -1,20 +1,17 @@
 -- A line makes a mark more, or none.
 use Rattle.std.proofs.Common.{◌≡◌, ℕ, ◌≤◌, List, [], ◌∷◌, inl, inr, refl, sym, ◌∙◌, ap, subst, arith, ⊎_elim, Result, Ok, Err}
-use Rattle.std.proofs.lemmas.List.Elements.{All-append, All-nil}
-use Rattle.std.specs.Prelude.{All, OnOk, slice_index_or}
+use Rattle.store_spec.proofs.Common.{All-append, All-nil, Ballot, Election, OnOk, State}
+use Rattle.std.specs.Prelude.{All, slice_index_or}
 use Rattle.any_store.proofs.Each.{each_both, each_then, first_then}
 use Rattle.phase_gate.specs.Around.{Around}
 use Rattle.phase_gate.specs.Beside.{IsOneMore}
 use Rattle.phase_gate.specs.Checkpointed.{Acknowledges}
 use Rattle.any_store.specs.Disks.{AreSteady, StoreDisks, StoreModel, first_of}
 use Rattle.any_store.specs.Disks.StoreDisks.{Alone, Parted}
-use Rattle.phase_gate.specs.LineEnds.{IsHalfTold, LineEnds, state_left}
+use Rattle.phase_gate.specs.LineEnds.{IsHalfWritten, LineEnds, state_left}
 use Rattle.phase_gate.specs.declared.fault.SessionFault.{SessionFault}
 use Rattle.phase_gate.specs.declared.fault.SessionFault.TheVariants.{DiskFault, WriteFault, Memory}
 use Rattle.session_run.specs.History.{Stands, Stood}
-use Rattle.store_spec.specs.Ballot.{Ballot}
-use Rattle.store_spec.specs.Election.{Election}
-use Rattle.store_spec.specs.Session.{State}
 
 module _ {D : Type 0} (disks : StoreDisks D) (e : Election) (old new : D) (marks now : List ℕ) where
   one_acknowledged : (sets : List (List Ballot)) → Acknowledges disks e sets old new marks now → IsOneMore marks now
@@ -22,15 +19,15 @@ module _ {D : Type 0} (disks : StoreDisks D) (e : Election) (old new : D) (marks
   one_acknowledged (set ∷ []) one = inr ((first_of disks).calls new, one.1)
   one_acknowledged (set ∷ next ∷ sets) none = absurd none
 
-module _ {K D : Type 0} (model : StoreModel D) (tell : List ℕ → List ℕ) (e : Election) (n : ℕ) (s : State) (bytes : List ℕ) (before after : Around K D) where
-  pub one_more : (r : Result State SessionFault) → LineEnds model tell e n s bytes r before after → IsOneMore before.marks after.marks
+module _ {K D : Type 0} (model : StoreModel D) (write : List ℕ → List ℕ) (e : Election) (n : ℕ) (s : State) (bytes : List ℕ) (before after : Around K D) where
+  pub one_more : (r : Result State SessionFault) → LineEnds model write e n s bytes r before after → IsOneMore before.marks after.marks
   one_more (Ok next) done = one_acknowledged model.disks e before.disk after.disk before.marks after.marks done.effect.acknowledged done.done.acknowledged
   one_more (Err DiskFault) failed = inl failed.marks
   one_more (Err WriteFault) half = one_acknowledged model.disks e before.disk after.disk before.marks after.marks half.0.effect.acknowledged half.0.done.acknowledged
   one_more (Err Memory) either =
       ⊎_elim
       (λ (same : after ≡ before). inl (ap (λ a. a.marks) same))
-      (λ (half : IsHalfTold model tell e n s bytes before after × (after.sink.faults ≡ before.sink.faults)).
+      (λ (half : IsHalfWritten model write e n s bytes before after × (after.sink.faults ≡ before.sink.faults)).
       one_acknowledged model.disks e before.disk after.disk before.marks after.marks half.0.effect.acknowledged half.0.done.acknowledged)
       either
 
@@ -90,12 +87,12 @@ module _ {D : Type 0} (disks : StoreDisks D) where
   pub stood_now : (leads_to : D → D → Type 0) → ((d : D) → leads_to d d) → (start now : D) (marks : List ℕ) → leads_to start now → Stands disks start now marks → Stood disks leads_to start now marks
   stood_now leads_to itself start now marks leads stands = record { mid = now; before = leads; stands = stands; after = itself now }
 
-module _ {K D : Type 0} (model : StoreModel D) (tell : List ℕ → List ℕ) (e : Election) (n : ℕ) (s : State) (bytes : List ℕ) (before after : Around K D) (all : All (λ mark. mark ≤ (first_of model.disks).calls before.disk) before.marks) where
-  pub handled : (r : Result State SessionFault) → LineEnds model tell e n s bytes r before after → OnOk r (Stands model.disks before.disk after.disk after.marks)
+module _ {K D : Type 0} (model : StoreModel D) (write : List ℕ → List ℕ) (e : Election) (n : ℕ) (s : State) (bytes : List ℕ) (before after : Around K D) (all : All (λ mark. mark ≤ (first_of model.disks).calls before.disk) before.marks) where
+  pub handled : (r : Result State SessionFault) → LineEnds model write e n s bytes r before after → OnOk r (Stands model.disks before.disk after.disk after.marks)
   handled (Ok next) done = stands_acknowledged model.disks e before.disk after.disk before.marks after.marks all done.effect.acknowledged done.done.acknowledged
   handled (Err why) ends = tt
 
-  half : IsHalfTold model tell e n s bytes before after → Stands model.disks before.disk after.disk after.marks
+  half : IsHalfWritten model write e n s bytes before after → Stands model.disks before.disk after.disk after.marks
   half told = stands_acknowledged model.disks e before.disk after.disk before.marks after.marks all told.effect.acknowledged told.done.acknowledged
 
   module _ (leads_to : D → D → Type 0) (itself : (d : D) → leads_to d d) (leads : leads_to before.disk after.disk) where
@@ -110,11 +107,11 @@ module _ {K D : Type 0} (model : StoreModel D) (tell : List ℕ → List ℕ) (e
       after = leads;
     }
 
-    pub line_stood : (r : Result State SessionFault) → LineEnds model tell e n s bytes r before after → Stood model.disks leads_to before.disk after.disk after.marks
+    pub line_stood : (r : Result State SessionFault) → LineEnds model write e n s bytes r before after → Stood model.disks leads_to before.disk after.disk after.marks
     line_stood (Ok next) done = still (handled (Ok next) done)
     line_stood (Err DiskFault) failed = unmade failed.marks
     line_stood (Err WriteFault) told = still (half told.0)
-    line_stood (Err Memory) either = ⊎_elim (λ (same : after ≡ before). unmade (ap (λ a. a.marks) same)) (λ (told : IsHalfTold model tell e n s bytes before after × (after.sink.faults ≡ before.sink.faults)). still (half told.0)) either
+    line_stood (Err Memory) either = ⊎_elim (λ (same : after ≡ before). unmade (ap (λ a. a.marks) same)) (λ (told : IsHalfWritten model write e n s bytes before after × (after.sink.faults ≡ before.sink.faults)). still (half told.0)) either
 
 -- what holds where a session goes on
 pub on_left : {S : Type 0} (state : S → State) (P : Type 0) (r : Result S SessionFault) → OnOk (state_left state r) P → OnOk r P

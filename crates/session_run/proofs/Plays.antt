@@ -1,7 +1,6 @@
 -- Lines are played one after another.
 use Rattle.std.proofs.Common.{◌≡◌, ℕ, ◌+◌, List, [], ◌∷◌, ◌++◌, length, Option, arith, subst, refl}
-use Rattle.store_spec.specs.Election.{Election}
-use Rattle.store_spec.specs.Session.{AnswersBy, Closes, Effect, PlaysBy, State}
+use Rattle.store_spec.proofs.Common.{AnswersBy, Closes, Effect, Election, PlaysBy, State}
 
 pub one_more : (closes : Closes) (e : Election) (n : ℕ) (s : State) (lines : List (Option (List ℕ))) (effects : List Effect)
     (state : State) (line : Option (List ℕ)) (effect : Effect)

@@ -1,40 +1,38 @@
 -- A line whose item waits: nothing is told of it.
-use Rattle.std.proofs.Common.{◌≡◌, ℕ, ◌+◌, Bool, true, false, List, [], length, Some, refl, ap, sym, subst, ◌∙◌}
+use Rattle.std.proofs.Common.{◌≡◌, ℕ, ◌+◌, List, [], length, Option, None, Some, refl, ap, sym, subst, ◌∙◌}
+use Rattle.store_spec.proofs.Common.{AnswersBy, Effect, Election, State, replies}
 use Rattle.outside_io.specs.Stream.{TakesAll}
 use Rattle.phase_gate.specs.Around.{Around}
 use Rattle.any_store.specs.Disks.{StoreModel}
-use Rattle.phase_gate.specs.Gate.{IsQueued}
+use Rattle.phase_gate.specs.InnerSession.{IsQueued}
 use Rattle.phase_gate.specs.LineEnds.{IsHandled}
-use Rattle.phase_gate.specs.Telling.{told_by}
-use Rattle.phase_gate.specs.declared.telling.Telling.{Telling}
-use Rattle.phase_gate.specs.declared.telling.Telling.TheVariants.{All, Summary}
+use Rattle.phase_gate.specs.Writing.{written_of}
+use Rattle.phase_gate.specs.declared.writing.Writing.{Writing}
+use Rattle.phase_gate.specs.declared.writing.Writing.TheVariants.{All, Summary}
+use Rattle.script_lines.specs.declared.line.Said.{Said}
 use Rattle.session_run.proofs.Beginning.{takes_none}
-use Rattle.store_spec.specs.Election.{Election}
-use Rattle.store_spec.specs.Session.{AnswersBy, Effect, State, replies}
 
 -- what a line did that was queued
-pub was_queued : (waits : Bool) (Did : Effect → Type 0) (old new : State) → waits ≡ true
-    → IsQueued waits Did old new → Did (replies [] new)
-was_queued true Did old new is did = did
-was_queued false Did old new is did = absurd (cc)
+pub was_queued : (left : Option Said) (Did : Effect → Type 0) (Is : Said → Type 0) (old new : State) → left ≡ None
+    → IsQueued left Did Is old new → Did (replies [] new)
+was_queued left Did Is old new is did = subst (λ left. IsQueued left Did Is old new) is did
 
--- a line that was not has done nothing
-pub not_queued : (waits : Bool) (Did : Effect → Type 0) (old new : State) → waits ≡ false
-    → IsQueued waits Did old new → new ≡ old
-not_queued true Did old new is did = absurd (cc)
-not_queued false Did old new is did = did
+-- a line that was not says this, and has done nothing
+pub not_queued : (left : Option Said) (said : Said) (Did : Effect → Type 0) (Is : Said → Type 0) (old new : State) → left ≡ Some said
+    → IsQueued left Did Is old new → Is said × (new ≡ old)
+not_queued left said Did Is old new is did = subst (λ left. IsQueued left Did Is old new) is did
 
 -- nothing is told of no reply
-pub told_nothing : (telling : Telling) → told_by telling [] ≡ []
+pub told_nothing : (writing : Writing) → written_of writing [] ≡ []
 told_nothing All = refl
 told_nothing Summary = refl
 
 -- such a line was handled
-pub queued_is : {K D : Type 0} (model : StoreModel D) (tell : List ℕ → List ℕ) (e : Election) (state next : State)
-    (index : ℕ) (now : Around K D) (bytes : List ℕ) → tell [] ≡ []
+pub queued_is : {K D : Type 0} (model : StoreModel D) (write : List ℕ → List ℕ) (e : Election) (state next : State)
+    (index : ℕ) (now : Around K D) (bytes : List ℕ) → write [] ≡ []
     → AnswersBy (model.closes e) e (index + 1) state (Some bytes) (replies [] next) → next.set ≡ state.set
-    → now.held ≡ length state.set → IsHandled model tell e (index + 1) state bytes next now now
-queued_is model tell e state next index now bytes none_told answers same held = record {
+    → now.held ≡ length state.set → IsHandled model write e (index + 1) state bytes next now now
+queued_is model write e state next index now bytes none_told answers same held = record {
   effect = replies [] next;
   answers = answers;
   next_state = refl;

@@ -1,21 +1,16 @@
 -- Rows beside marks: a line adds one, or none.
 use Rattle.std.proofs.Common.{◌≡◌, ℕ, zero, suc, ◌≤◌, List, [], ◌∷◌, ◌++◌, get_or, map, length, Option, inl, inr, refl, ap, sym, subst, ◌∙◌, arith, length-append, Result, Ok, Err}
-use Rattle.std.proofs.lemmas.List.{length-map, map-append}
-use Rattle.std.proofs.lemmas.List.Elements.{All-push}
-use Rattle.std.proofs.lemmas.List.FromFn.{get_or-map-range_with_len, length-map-range_with_len}
+use Rattle.store_spec.proofs.Common.{All-push, DiskModel, Election, State, get_or-map-range_with_len, length-map, length-map-range_with_len, map-append}
 use Rattle.std.specs.Prelude.{All}
 use Rattle.any_store.specs.Beside.{AreRows, calls_beside, further_calls, row_beside}
 use Rattle.any_store.specs.Disks.{StoreDisks, StoreModel}
 use Rattle.any_store.specs.Disks.StoreDisks.{Alone, Parted}
 use Rattle.phase_gate.specs.Around.{Around, with_rows}
 use Rattle.phase_gate.specs.Beside.{AddsRow}
-use Rattle.phase_gate.specs.LineEnds.{IsHalfTold, LineEnds}
+use Rattle.phase_gate.specs.LineEnds.{IsHalfWritten, LineEnds}
 use Rattle.phase_gate.specs.declared.fault.SessionFault.{SessionFault}
 use Rattle.phase_gate.specs.declared.fault.SessionFault.TheVariants.{DiskFault, WriteFault, Memory}
 use Rattle.session_run.specs.History.{column}
-use Rattle.store_spec.specs.Disk.{DiskModel}
-use Rattle.store_spec.specs.Election.{Election}
-use Rattle.store_spec.specs.Session.{State}
 
 -- one more is not the same
 not_one_more : (x : ℕ) (xs now : List ℕ) → now ≡ xs → now ≡ xs ++ x ∷ [] → ⊥
@@ -74,11 +69,11 @@ column_then more models now marks rows (suc k) within =
     (get_or-map-range_with_len (λ i. (models i).calls now) 1 more k (suc k) 0 (omega (arith, within)) (omega arith))
 
 -- a line, with the row behind it
-module _ {K D : Type 0} (model : StoreModel D) (tell : List ℕ → List ℕ) (e : Election) (n : ℕ) (s : State)
+module _ {K D : Type 0} (model : StoreModel D) (write : List ℕ → List ℕ) (e : Election) (n : ℕ) (s : State)
     (bytes : List ℕ) (begun : Option (ℕ × ℕ)) (before after : Around K D) (rows : List (List ℕ))
     (adds : AddsRow model.disks after.disk begun before.marks after.marks before.others rows) where
-  half : IsHalfTold model tell e n s bytes before after
-      → IsHalfTold model tell e n s bytes before (with_rows after rows)
+  half : IsHalfWritten model write e n s bytes before after
+      → IsHalfWritten model write e n s bytes before (with_rows after rows)
   half told = record {
     effect = told.effect;
     answers = told.answers;
@@ -86,8 +81,8 @@ module _ {K D : Type 0} (model : StoreModel D) (tell : List ℕ → List ℕ) (e
     taken = told.taken;
   }
 
-  pub line_with_row : (r : Result State SessionFault) → LineEnds model tell e n s bytes r before after
-      → LineEnds model tell e n s bytes r before (with_rows after rows)
+  pub line_with_row : (r : Result State SessionFault) → LineEnds model write e n s bytes r before after
+      → LineEnds model write e n s bytes r before (with_rows after rows)
   line_with_row (Ok next) did = record {
     effect = did.effect;
     answers = did.answers;
@@ -119,12 +114,12 @@ module _ {K D : Type 0} (model : StoreModel D) (tell : List ℕ → List ℕ) (e
       })
 
 -- the same, where what was before and after is told otherwise
-pub line_ends_then : {K D : Type 0} (model : StoreModel D) (tell : List ℕ → List ℕ) (e : Election) (n : ℕ) (s : State)
+pub line_ends_then : {K D : Type 0} (model : StoreModel D) (write : List ℕ → List ℕ) (e : Election) (n : ℕ) (s : State)
     (bytes : List ℕ) (begun : Option (ℕ × ℕ)) (before mid after now : Around K D) (r : Result State SessionFault)
     → mid ≡ before → now ≡ with_rows after now.others
     → AddsRow model.disks after.disk begun mid.marks after.marks mid.others now.others
-    → LineEnds model tell e n s bytes r mid after → LineEnds model tell e n s bytes r before now
-line_ends_then {K} {D} model tell e n s bytes begun before mid after now r was is adds ends =
-    subst (λ (a : Around K D). LineEnds model tell e n s bytes r a now) was
-    (subst (λ (a : Around K D). LineEnds model tell e n s bytes r mid a) (sym is)
-    (line_with_row model tell e n s bytes begun mid after now.others adds r ends))
+    → LineEnds model write e n s bytes r mid after → LineEnds model write e n s bytes r before now
+line_ends_then {K} {D} model write e n s bytes begun before mid after now r was is adds ends =
+    subst (λ (a : Around K D). LineEnds model write e n s bytes r a now) was
+    (subst (λ (a : Around K D). LineEnds model write e n s bytes r mid a) (sym is)
+    (line_with_row model write e n s bytes begun mid after now.others adds r ends))

@@ -1,8 +1,7 @@
 -- A session so far.
 use Rattle.std.proofs.Common.{◌≡◌, ℕ, ◌+◌, List, [], ◌∷◌, ◌++◌, length, Option, Some, None, arith, ap, sym, subst, ◌∙◌, ⊎_elim, length-append}
+use Rattle.store_spec.proofs.Common.{AnswersBy, Ballot, Cast, CastInvalid, Casting, Checkpoint, Close, Closes, Effect, Election, Export, Find, Finding, IsElection, Open, PlaysBy, Says, ScriptLine, State, Tally, Withdraw, Withdrawing, acknowledged_in, append-nil, append_assoc, begun, flat_map-append}
 use Rattle.std.specs.Option.{option_map}
-use Rattle.std.proofs.lemmas.Grind.{flat_map-append}
-use Rattle.std.proofs.lemmas.List.{append-nil, append_assoc}
 use Rattle.outside_io.specs.Stream.{TakesAll}
 use Rattle.phase_gate.specs.Around.{Around}
 use Rattle.any_store.specs.Disks.{StoreModel}
@@ -11,20 +10,14 @@ use Rattle.phase_gate.specs.LineEnds.{IsHandled}
 use Rattle.session_run.proofs.Acknowledging.{acknowledged_then}
 use Rattle.session_run.proofs.Plays.{one_more}
 use Rattle.session_run.specs.History.{AreAcknowledged, written_by}
-use Rattle.store_spec.specs.Ballot.{Ballot}
-use Rattle.store_spec.specs.Election.{Election, IsElection}
-use Rattle.store_spec.specs.ScriptLine.{Says, ScriptLine}
-use Rattle.store_spec.specs.ScriptLine.ScriptLine.{Open, Cast, CastInvalid, Withdraw, Find, Close, Checkpoint, Tally, Export}
-use Rattle.store_spec.specs.ScriptLine.Work.{Casting, Withdrawing, Finding}
-use Rattle.store_spec.specs.Session.{AnswersBy, Closes, Effect, PlaysBy, State, acknowledged_in, begun}
 
 -- these lines were handled, one after another, and their replies written
-pub record SoFar {K D : Type 0} (model : StoreModel D) (tell : List ℕ → List ℕ) (e : Election) (set : List Ballot)
+pub record SoFar {K D : Type 0} (model : StoreModel D) (write : List ℕ → List ℕ) (e : Election) (set : List Ballot)
     (lines : List (Option (List ℕ))) (state : State) (index : ℕ) (before now : Around K D) : Type 0 where
   pub effects : List Effect
   pub plays : PlaysBy (model.closes e) e 1 (begun set) lines effects state
   pub counted : index ≡ length lines
-  pub taken : TakesAll before.sink.taken (written_by tell effects) now.sink.taken
+  pub taken : TakesAll before.sink.taken (written_by write effects) now.sink.taken
   pub acknowledged : AreAcknowledged model.disks e set (acknowledged_in effects) before.disk now.disk now.marks now.others
   pub held : now.held ≡ length state.set
   pub no_fault : now.sink.faults ≡ before.sink.faults
@@ -67,14 +60,14 @@ answers_handed closes e n s _ _ effect (whole bytes) answers = answers
 answers_handed closes e n s _ _ effect wide answers = answers_wide closes e n s effect answers
 
 -- one line more
-pub handled_more : {K D : Type 0} (model : StoreModel D) (tell : List ℕ → List ℕ) (e : Election) (set : List Ballot)
+pub handled_more : {K D : Type 0} (model : StoreModel D) (write : List ℕ → List ℕ) (e : Election) (set : List Ballot)
     (lines : List (Option (List ℕ))) (state next : State) (index : ℕ) (before mid now : Around K D)
     (line : Option (List ℕ)) (bytes : List ℕ) (begun_with : Option (ℕ × ℕ))
-    → IsElection e → IsHanded line bytes → SoFar model tell e set lines state index before mid
-    → IsHandled model tell e (index + 1) state bytes next mid now
+    → IsElection e → IsHanded line bytes → SoFar model write e set lines state index before mid
+    → IsHandled model write e (index + 1) state bytes next mid now
     → AddsRow model.disks now.disk begun_with mid.marks now.marks mid.others now.others
-    → SoFar model tell e set (lines ++ line ∷ []) next (index + 1) before now
-handled_more model tell e set lines state next index before mid now line bytes begun_with election handed so_far did adds =
+    → SoFar model write e set (lines ++ line ∷ []) next (index + 1) before now
+handled_more model write e set lines state next index before mid now line bytes begun_with election handed so_far did adds =
     let effect = did.effect in
     let is : index + 1 ≡ 1 + length lines = omega (arith, so_far.counted) in
     let answers = subst (λ n. AnswersBy (model.closes e) e n state line effect) is
@@ -86,7 +79,7 @@ handled_more model tell e set lines state next index before mid now line bytes b
       counted = omega (arith, so_far.counted, length-append lines (line ∷ []));
       taken = subst (λ bytes. TakesAll before.sink.taken bytes now.sink.taken)
           (sym (written_more so_far.effects effect)) (taken_then before.sink.taken mid.sink.taken now.sink.taken
-          (written_by tell so_far.effects) (tell effect.reply) so_far.taken did.taken);
+          (written_by write so_far.effects) (write effect.reply) so_far.taken did.taken);
       acknowledged = subst (λ sets. AreAcknowledged model.disks e set sets before.disk now.disk now.marks now.others)
           (sym (acknowledged_more so_far.effects effect))
           (acknowledged_then e election set before.disk mid.disk now.disk model.disks (acknowledged_in so_far.effects)
@@ -97,9 +90,9 @@ handled_more model tell e set lines state next index before mid now line bytes b
     }
   where
     written_more : (effects : List Effect) (effect : Effect)
-        → written_by tell (effects ++ effect ∷ []) ≡ written_by tell effects ++ tell effect.reply
-    written_more effects effect = flat_map-append (λ (x : Effect). tell x.reply) effects (effect ∷ []) ∙ ap
-        (λ l. written_by tell effects ++ l) (append-nil (tell effect.reply))
+        → written_by write (effects ++ effect ∷ []) ≡ written_by write effects ++ write effect.reply
+    written_more effects effect = flat_map-append (λ (x : Effect). write x.reply) effects (effect ∷ []) ∙ ap
+        (λ l. written_by write effects ++ l) (append-nil (write effect.reply))
 
     acknowledged_more : (effects : List Effect) (effect : Effect)
         → acknowledged_in (effects ++ effect ∷ []) ≡ acknowledged_in effects ++ effect.acknowledged

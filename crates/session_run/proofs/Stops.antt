@@ -1,13 +1,7 @@
 -- What a stop at any moment of a session leaves, checkpoint after checkpoint.
 use Rattle.std.proofs.Common.{ℕ, ◌<◌, ◌≤◌, List, [], ◌∷◌, ◌++◌, zero, suc, refl, arith, sym, subst, ⊎_elim}
-use Rattle.std.proofs.lemmas.Bool.{cases_lt}
-use Rattle.std.specs.Prelude.{Any}
+use Rattle.store_spec.proofs.Common.{Any, Ballot, Election, HoldsAcknowledged, HoldsOneOf, HoldsSet, LeavesMediumOf, after_calls, cases_lt}
 use Rattle.session_run.specs.History.{AreMarks, latest}
-use Rattle.store_spec.specs.Ballot.{Ballot}
-use Rattle.store_spec.specs.Disk.{after_calls}
-use Rattle.store_spec.specs.Election.{Election}
-use Rattle.store_spec.specs.Medium.{HoldsSet}
-use Rattle.store_spec.specs.Stop.{HoldsAcknowledged, HoldsOneOf, LeavesMediumOf}
 
 -- ---- one of two sets
 

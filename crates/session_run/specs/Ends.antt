@@ -10,7 +10,7 @@ use Rattle.any_store.specs.Disks.{OnEach, StoreModel, one_store, share_of}
 use Rattle.recovery.specs.Refused.{IsRefusedMedium, IsUnchangedAt, IsUnharmedAt}
 use Rattle.recovery.specs.declared.fault.RecoverFault.{RecoverFault}
 use Rattle.recovery.specs.declared.fault.RecoverFault.TheVariants as recover
-use Rattle.session_run.specs.Faults.{recover_fault}
+use Rattle.session_run.specs.Faults.{run_fault}
 use Rattle.session_run.specs.History.{AreAcknowledged, AreTried, FailsOnOne, HoldsOnceSynced, LosesNothing, Wrote, latest, written_by}
 use Rattle.session_run.specs.declared.fault.RunFault.{RunFault}
 use Rattle.session_run.specs.declared.fault.RunFault.TheVariants.{TooLong, ReadFault, DiskFault, WriteFault, Memory}
@@ -52,8 +52,8 @@ pub record NotBegun {S K D : Type 0} (model : DiskModel D) (e : Election) (why :
 -- ---- a session
 
 -- how much of the script was read, and which lines were taken of it, where it tells
-abbrev pub OfScript : {S : Type 0} → Input S → Input S → (List ℕ → List ℕ → Type 0) → Type 0
-OfScript old new Taken = IfTold old.left new.left Taken
+abbrev pub OfSource : {S : Type 0} → Input S → Input S → (List ℕ → List ℕ → Type 0) → Type 0
+OfSource old new Taken = IfTold old.left new.left Taken
 
 -- The reading stopped of itself: these are the first lines, and no more was read than the limit and one byte.
 abbrev pub StopsBehind : List (Option (List ℕ)) → List ℕ → List ℕ → Type 0
@@ -64,73 +64,73 @@ StopsBehind lines text left = ReadFirst text left lines × GivesAtMost (script_l
 pub data ComesNext {S : Type 0} (closes : Closes) (e : Election) (lines : List (Option (List ℕ))) (state : State) (old new : Input S)
     (reply : List ℕ) (more : List (List Ballot)) (held : ℕ) : Type 0 where
   to_line : (line : Option (List ℕ)) (effect : Effect)
-      → OfScript old new (StopsBehind (lines ++ line ∷ []))
+      → OfSource old new (StopsBehind (lines ++ line ∷ []))
       → AnswersBy closes e (length lines + 1) state line effect
       → reply ≡ effect.reply → more ≡ effect.acknowledged → held ≡ length effect.next.set
       → ComesNext closes e lines state old new reply more held
-  to_end : OfScript old new (λ text left. ReadLines ReadOut text left lines)
+  to_end : OfSource old new (λ text left. ReadLines ReadOut text left lines)
       → reply ≡ last_reply state.phase → more ≡ [] → held ≡ length state.set
       → ComesNext closes e lines state old new reply more held
 
 -- of what is told of the reply that comes next a part was written
-pub record IsInterrupted {S K D : Type 0} (model : StoreModel D) (tell : List ℕ → List ℕ) (e : Election)
+pub record IsInterrupted {S K D : Type 0} (model : StoreModel D) (write : List ℕ → List ℕ) (e : Election)
     (set : List Ballot) (lines : List (Option (List ℕ))) (effects : List Effect) (state : State) (old new : Input S)
     (before after : Around K D) : Type 0 where
   pub reply : List ℕ
   pub more : List (List Ballot)
   pub next : ComesNext (model.closes e) e lines state old new reply more after.held
   pub count : ℕ
-  pub wrote : Wrote model tell e set effects (take count (tell reply)) more before after
+  pub wrote : Wrote model write e set effects (take count (write reply)) more before after
 
 -- the next line is a checkpoint, and nothing is written of it
-pub record IsAtCheckpoint {S K D : Type 0} (tell : List ℕ → List ℕ) (e : Election) (lines : List (Option (List ℕ)))
+pub record IsAtCheckpoint {S K D : Type 0} (write : List ℕ → List ℕ) (e : Election) (lines : List (Option (List ℕ)))
     (effects : List Effect) (state : State) (old new : Input S) (before after : Around K D) : Type 0 where
   pub line : List ℕ
-  pub read : OfScript old new (StopsBehind (lines ++ Some line ∷ []))
+  pub read : OfSource old new (StopsBehind (lines ++ Some line ∷ []))
   pub says : Says e line Checkpoint
   pub closed : state.phase ≡ Closed
-  pub taken : TakesAll before.sink.taken (written_by tell effects) after.sink.taken
+  pub taken : TakesAll before.sink.taken (written_by write effects) after.sink.taken
   pub held : after.held ≡ length state.set
 
 -- the next line is a checkpoint, and one of the disks failed at it
-pub record IsDiskFailed {S K D : Type 0} (model : StoreModel D) (tell : List ℕ → List ℕ) (e : Election)
+pub record IsDiskFailed {S K D : Type 0} (model : StoreModel D) (write : List ℕ → List ℕ) (e : Election)
     (set : List Ballot) (lines : List (Option (List ℕ))) (effects : List Effect) (state : State) (old new : Input S)
     (before after : Around K D) : Type 0 where
-  pub stops : IsAtCheckpoint tell e lines effects state old new before after
+  pub stops : IsAtCheckpoint write e lines effects state old new before after
   pub tried : AreTried model.disks e set before.disk after.disk after.marks after.others (acknowledged_in effects) state.set
   pub rose : FailsOnOne model.disks e (latest set (acknowledged_in effects)) state.set before.disk after.disk
 
--- how the handling of lines ended, once these were handled, where `tell` says what is told of a reply
+-- how the handling of lines ended, once these were handled, where `write` says what is written of a reply
 abbrev pub HandlingEnds : {S K D : Type 0} → StoreModel D → (List ℕ → List ℕ) → Election → List Ballot
     → List (Option (List ℕ)) → List Effect → State → Result (Unit {0}) RunFault → Input S → Input S → Around K D
     → Around K D → Type 0
-HandlingEnds model tell e set lines effects state (Ok done) old new before after =
-    OfScript old new (λ text left. ReadLines ReadOut text left lines)
-    × Wrote model tell e set effects (tell (last_reply state.phase)) [] before after
+HandlingEnds model write e set lines effects state (Ok done) old new before after =
+    OfSource old new (λ text left. ReadLines ReadOut text left lines)
+    × Wrote model write e set effects (write (last_reply state.phase)) [] before after
     × (after.held ≡ length state.set) × (new.faults ≡ old.faults) × (after.sink.faults ≡ before.sink.faults)
-HandlingEnds model tell e set lines effects state (Err TooLong) old new before after =
-    OfScript old new (λ text left. ReadLines TooMuch text left lines)
-    × Wrote model tell e set effects [] [] before after
+HandlingEnds model write e set lines effects state (Err TooLong) old new before after =
+    OfSource old new (λ text left. ReadLines TooMuch text left lines)
+    × Wrote model write e set effects [] [] before after
     × (after.held ≡ length state.set) × (new.faults ≡ old.faults) × (after.sink.faults ≡ before.sink.faults)
-HandlingEnds model tell e set lines effects state (Err ReadFault) old new before after =
-    OfScript old new (λ text left. ReadLines Faulted text left lines)
-    × Wrote model tell e set effects [] [] before after
+HandlingEnds model write e set lines effects state (Err ReadFault) old new before after =
+    OfSource old new (λ text left. ReadLines Faulted text left lines)
+    × Wrote model write e set effects [] [] before after
     × (after.held ≡ length state.set) × Rose old.faults new.faults × (after.sink.faults ≡ before.sink.faults)
-HandlingEnds model tell e set lines effects state (Err DiskFault) old new before after =
-    IsDiskFailed model tell e set lines effects state old new before after
+HandlingEnds model write e set lines effects state (Err DiskFault) old new before after =
+    IsDiskFailed model write e set lines effects state old new before after
     × (new.faults ≡ old.faults) × (after.sink.faults ≡ before.sink.faults)
-HandlingEnds model tell e set lines effects state (Err WriteFault) old new before after =
-    IsInterrupted model tell e set lines effects state old new before after
+HandlingEnds model write e set lines effects state (Err WriteFault) old new before after =
+    IsInterrupted model write e set lines effects state old new before after
     × (new.faults ≡ old.faults) × Rose before.sink.faults after.sink.faults
-HandlingEnds model tell e set lines effects state (Err Memory) old new before after =
-    ((OfScript old new (StopsBehind lines) × Wrote model tell e set effects [] [] before after
+HandlingEnds model write e set lines effects state (Err Memory) old new before after =
+    ((OfSource old new (StopsBehind lines) × Wrote model write e set effects [] [] before after
     × (after.held ≡ length state.set))
-    ⊎ IsInterrupted model tell e set lines effects state old new before after)
+    ⊎ IsInterrupted model write e set lines effects state old new before after)
     × (new.faults ≡ old.faults) × (after.sink.faults ≡ before.sink.faults)
-HandlingEnds model tell e set lines effects state (Err other) old new before after = ⊥
+HandlingEnds model write e set lines effects state (Err other) old new before after = ⊥
 
 -- A session began with the set that the disks held, each its share, and handled lines one after another.
-pub record Begun {S K D : Type 0} (model : StoreModel D) (tell : List ℕ → List ℕ) (e : Election)
+pub record Begun {S K D : Type 0} (model : StoreModel D) (write : List ℕ → List ℕ) (e : Election)
     (answer : Result (Unit {0}) RunFault) (old new : Input S) (before after : Around K D) : Type 0 where
   pub set : List Ballot
   pub held : OnEach model.disks (λ model share. IfSome (model.seen before.disk)
@@ -141,13 +141,13 @@ pub record Begun {S K D : Type 0} (model : StoreModel D) (tell : List ℕ → Li
   pub effects : List Effect
   pub state : State
   pub plays : PlaysBy (model.closes e) e 1 (begun set) lines effects state
-  pub ends : HandlingEnds model tell e set lines effects state answer old new before after
+  pub ends : HandlingEnds model write e set lines effects state answer old new before after
 
 -- It began with this set.
 abbrev pub BegunWith : {S K D : Type 0} → StoreModel D → (List ℕ → List ℕ) → Election → List Ballot
     → Result (Unit {0}) RunFault → Input S → Input S → Around K D → Around K D → Type 0
-BegunWith model tell e set answer old new before after =
-    (one : Begun model tell e answer old new before after) × (one.set ≡ set)
+BegunWith model write e set answer old new before after =
+    (one : Begun model write e answer old new before after) × (one.set ≡ set)
 
 -- ---- a session that has just begun
 
@@ -166,16 +166,16 @@ pub record HasBegun {K D : Type 0} (model : StoreModel D) (e : Election) (set : 
 -- Whatever medium and set it began with, it was handled as a run promises.
 abbrev pub GoesOn : {S K D : Type 0} → StoreModel D → (List ℕ → List ℕ) → Election → State
     → Result (Unit {0}) RunFault → Input S → Input S → Around K D → Around K D → Type 0
-GoesOn {K} {D} model tell e state answer old new now after = (set : List Ballot) (before : Around K D)
-    → HasBegun model e set state before now → BegunWith model tell e set answer old new before after
+GoesOn {K} {D} model write e state answer old new now after = (set : List Ballot) (before : Around K D)
+    → HasBegun model e set state before now → BegunWith model write e set answer old new before after
 
 -- ---- both
 
--- All that a run of a session promises under an election, where `tell` says what it tells of a reply: the medium was
+-- All that a run of a session promises under an election, where `write` says what it writes of a reply: the medium was
 -- refused, or a session began.
 abbrev pub SessionEnds : {S K D : Type 0} → DiskModel D → (List ℕ → List ℕ) → Election → Result (Unit {0}) RunFault
     → Input S → Input S → Around K D → Around K D → Type 0
-SessionEnds model tell e (Ok done) old new before after = Begun (one_store model) tell e (Ok done) old new before after
-SessionEnds model tell e (Err fault) old new before after =
-    ((why : RecoverFault) × (fault ≡ recover_fault why) × NotBegun model e why old new before after)
-    ⊎ Begun (one_store model) tell e (Err fault) old new before after
+SessionEnds model write e (Ok done) old new before after = Begun (one_store model) write e (Ok done) old new before after
+SessionEnds model write e (Err fault) old new before after =
+    ((why : RecoverFault) × (fault ≡ run_fault why) × NotBegun model e why old new before after)
+    ⊎ Begun (one_store model) write e (Err fault) old new before after

@@ -8,12 +8,12 @@ use Rattle.recovery.specs.declared.fault.RecoverFault.TheVariants as recover
 use Rattle.session_run.specs.declared.fault.RunFault.{RunFault}
 use Rattle.session_run.specs.declared.fault.RunFault.TheVariants.{NoStore, OtherElection, Damaged, TooLong, ReadFault, DiskFault, WriteFault, Memory}
 
-abbrev pub recover_fault : RecoverFault → RunFault
-recover_fault recover.NoStore = NoStore
-recover_fault (recover.OtherElection header) = OtherElection header
-recover_fault (recover.Damaged cell) = Damaged cell
-recover_fault recover.DiskFault = DiskFault
-recover_fault recover.Memory = Memory
+abbrev pub run_fault : RecoverFault → RunFault
+run_fault recover.NoStore = NoStore
+run_fault (recover.OtherElection header) = OtherElection header
+run_fault (recover.Damaged cell) = Damaged cell
+run_fault recover.DiskFault = DiskFault
+run_fault recover.Memory = Memory
 
 abbrev pub session_fault : SessionFault → RunFault
 session_fault session.DiskFault = DiskFault

@@ -122,15 +122,15 @@ FailsOnOne (Alone model) e last tried before after = Rose (model.faults before) 
 FailsOnOne (Parted more models parts) e last tried before after =
     (i : ℕ) × FailedAlone more models parts e last tried before after i
 
--- what is written for lines, where `tell` says what is told of a reply
+-- what is written for lines, where `write` says what is written of a reply
 abbrev pub written_by : (List ℕ → List ℕ) → List Effect → List ℕ
-written_by tell effects = flat_map (λ effect. tell effect.reply) effects
+written_by write effects = flat_map (λ effect. write effect.reply) effects
 
 -- What is told of the replies to lines was written, and then this, and with what the lines acknowledged these sets were
 -- acknowledged too.
-pub record Wrote {K D : Type 0} (model : StoreModel D) (tell : List ℕ → List ℕ) (e : Election) (set : List Ballot)
+pub record Wrote {K D : Type 0} (model : StoreModel D) (write : List ℕ → List ℕ) (e : Election) (set : List Ballot)
     (effects : List Effect) (rest : List ℕ) (more : List (List Ballot)) (before after : Around K D) : Type 0 where
-  pub taken : TakesAll before.sink.taken (written_by tell effects ++ rest) after.sink.taken
+  pub taken : TakesAll before.sink.taken (written_by write effects ++ rest) after.sink.taken
   pub acknowledged : AreAcknowledged model.disks e set (acknowledged_in effects ++ more) before.disk after.disk
       after.marks after.others
 

@@ -28,9 +28,9 @@ pub enum RunFault {
 
 impl From<RecoverFault> for RunFault {
     ghost use Rattle.std.specs.Prelude.{◌≡◌};
-    ghost use Rattle.session_run.specs.Faults.{recover_fault};
+    ghost use Rattle.session_run.specs.Faults.{run_fault};
 
-    ghost from_gives = { λ why fault. fault ≡ recover_fault why };
+    ghost from_gives = { λ why fault. fault ≡ run_fault why };
 
     fn from(why: RecoverFault) -> Self {
         match why {

@@ -11,15 +11,16 @@ ghost use Rattle.any_store.specs.Disks.StoreDisks.{Alone};
 ghost use Rattle.phase_gate.specs.LineEnds.{LineEnds, state_left};
 ghost use Rattle.phase_gate.specs.Replies.{ClosesBy, PlaysPhases, words_of};
 ghost use Rattle.phase_gate.specs.Standing.{MayWait};
-ghost use Rattle.phase_gate.specs.Telling.{told_by};
-ghost use Rattle.phase_gate.specs.Work.{AreOf, phase_of};
+ghost use Rattle.phase_gate.specs.Writing.{written_of};
+ghost use Rattle.phase_gate.specs.Waiting.{AreListsOf, phase_of};
+ghost use Rattle.script_lines.specs.Line.{IsSaid};
 ghost use Rattle.session_run.specs.Ends.{GoesOn, SessionEnds};
 ghost use Rattle.session_run.specs.History.{Stands, Stood};
 ghost use Rattle.store_spec.specs.Ballot.{Ballot};
 ghost use Rattle.store_spec.specs.Disk.{disk_model};
 ghost use Rattle.store_spec.specs.Election.{IsElection};
 ghost use Rattle.store_spec.specs.Input.{script_limit};
-ghost use Rattle.store_spec.specs.Session.{Phase as phases, closing, of_one_store};
+ghost use Rattle.store_spec.specs.Session.{closing, of_one_store};
 
 use crate::fault::RunFault;
 use any_store::{Disks, Store};
@@ -28,8 +29,9 @@ use body_store::Closed;
 use crash_disk::Disk;
 use image_builder::Scratch;
 use outside_io::{Lines, Memory, NextLine, Sink, Source, Turns};
-use phase_gate::{Replies, Report, Session, SessionFault, Telling, Work, play_phase};
+use phase_gate::{Replies, Report, Session, SessionFault, Waiting, Writing, play_phase};
 use recovery::recover;
+use script_lines::Said;
 use std::alloc::Global;
 use std::thread::Threads;
 
@@ -44,14 +46,14 @@ pub fn run_session<R: Threads + Sync, S: Source, K: Sink, D: Disk, T: Turns>(
     out: &mut K,
     disk: &mut D,
     turns: &T,
-    telling: Telling,
+    writing: Writing,
     report: &mut Report,
 ) -> Result<(), RunFault>
     requires election { IsElection election.now }
     requires marks { report.old.marks.items ≡ [] }
     requires others { report.old.others.items ≡ [] }
     requires held { report.old.held ≡ 0 }
-    ensures ends { SessionEnds (disk_model D.seen D.calls D.may_leave D.faults) (told_by telling)
+    ensures ends { SessionEnds (disk_model D.seen D.calls D.may_leave D.faults) (written_of writing)
         election.now result
         (input S.left S.faults script.old) (input S.left S.faults script.new)
         (around (output K.taken K.faults out.old) disk.old report.old)
@@ -64,7 +66,7 @@ pub fn run_session<R: Threads + Sync, S: Source, K: Sink, D: Disk, T: Turns>(
     let mut lines = Lines::new(alloc)?;
     let closed = recover(alloc, disk, election, &mut scratch)?;
     report.held = closed.len() as u32;
-    let session = Session::telling(alloc, closed, telling);
+    let session = Session::writing(alloc, closed, writing);
     play(
         rt,
         alloc,
@@ -100,7 +102,7 @@ pub fn play<R: Threads + Sync, S: Source, K: Sink, D: Disk, T: Turns>(
     requires not_ended { lines.old.ended ≡ false }
     requires marks { report.old.marks.items ≡ [] }
     requires others { AreBeside report.old.begun report.old.marks.items report.old.others.items }
-    ensures ends { GoesOn (one_store (disk_model D.seen D.calls D.may_leave D.faults)) (told_by session.telling)
+    ensures ends { GoesOn (one_store (disk_model D.seen D.calls D.may_leave D.faults)) (written_of session.writing)
         session.election session.state result
         (input S.left S.faults script.old) (input S.left S.faults script.new)
         (around (output K.taken K.faults out.old) disk.old report.old)
@@ -112,14 +114,13 @@ pub fn play<R: Threads + Sync, S: Source, K: Sink, D: Disk, T: Turns>(
     ensures leads { D.leads_to disk.old disk.new }
     ensures fails { IsErrOf result RunFault.DiskFault → D.fails_to disk.old disk.new }
 {
-    let phases = |store: Closed, work: Work| -> Result<(Closed, Replies), Memory>
-        requires waiting { MayWait store.election (phase_of work) }
-        requires lists { AreOf store.election work }
-        requires open { ¬ (phase_of work ≡ phases.Closed) }
+    let phases = |store: Closed, waiting: Waiting| -> Result<(Closed, Replies), Memory>
+        requires waiting { MayWait store.election (phase_of waiting) }
+        requires lists { AreListsOf store.election waiting }
         ensures election { IfOk result (λ played. played.0.election ≡ store.election) }
         ensures closes { IfOk result (λ played. ClosesBy (of_one_store store.election) store.ballots
-            (phase_of work) (closing (words_of played.1) played.0.ballots)) }
-    { play_phase(rt, alloc, store, work, turns) };
+            (phase_of waiting) (closing (words_of played.1) played.0.ballots)) }
+    { play_phase(rt, alloc, store, waiting, turns) };
     play_by(
         rt, alloc, session, lines, script, out, disk, &phases, scratch, report,
     )
@@ -145,7 +146,7 @@ where
     K: Sink,
     Y: Store,
     M: Disks<Y>,
-    F: Fn(Y, Work) -> Result<(Y, Replies), Memory>,
+    F: Fn(Y, Waiting) -> Result<(Y, Replies), Memory>,
     requires plays { PlaysPhases Y.election Y.ballots Y.closes F.pre F.post play.now }
     requires election { IsElection session.election }
     requires media { (set : List Ballot) × AreMedia M.disks session.election set disks.old }
@@ -154,7 +155,7 @@ where
     requires not_ended { lines.old.ended ≡ false }
     requires marks { report.old.marks.items ≡ [] }
     requires others { AreRows M.disks report.old.begun report.old.marks.items (rows_of report.old) }
-    ensures ends { GoesOn (store_model Y.closes M.disks) (told_by session.telling)
+    ensures ends { GoesOn (store_model Y.closes M.disks) (written_of session.writing)
         session.election session.state result
         (input S.left S.faults script.old) (input S.left S.faults script.new)
         (around (output K.taken K.faults out.old) disks.old report.old)
@@ -176,21 +177,24 @@ where
         };
         index += 1;
         // Nearly all lines bring what waits for the close of a phase. A session is moved for the others alone.
-        if !session.queue(line, &mut ballot)? {
+        if let Some(said) = session.queue(line, &mut ballot)? {
             session = handle(
-                rt, alloc, session, line, index, disks, out, play, scratch, report,
+                rt, alloc, session, line, said, &ballot, index, disks, out, play, scratch, report,
             )?;
         }
     }
 }
 
-/// Handles a line that does not wait for the close of a phase. The room for the list of a mark is taken before it, and
-/// the list of a mark that it made is added behind it, also where the line is refused: no disk was called since.
+/// Handles a line that says this and does not wait for the close of a phase. The room for the list of a mark is taken
+/// before it, and the list of a mark that it made is added behind it, also where the line is refused: no disk was called
+/// since.
 fn handle<R, K, Y, M, F>(
     rt: &R,
     alloc: Global,
     session: Session<Y>,
     line: &[u8],
+    said: Said,
+    ballot: &Record,
     index: u64,
     disks: &mut M,
     out: &mut K,
@@ -203,18 +207,19 @@ where
     K: Sink,
     Y: Store,
     M: Disks<Y>,
-    F: Fn(Y, Work) -> Result<(Y, Replies), Memory>,
+    F: Fn(Y, Waiting) -> Result<(Y, Replies), Memory>,
     requires plays { PlaysPhases Y.election Y.ballots Y.closes F.pre F.post play.now }
+    requires said { IsSaid session.election line.now said ballot.now }
     requires media { (set : List Ballot) × AreMedia M.disks session.election set disks.old }
     requires marks { All (λ mark. mark ≤ (first_of M.disks).calls disks.old) report.old.marks.items }
     requires others { AreRows M.disks report.old.begun report.old.marks.items (rows_of report.old) }
     ensures ends { LineEnds (store_model Y.closes M.disks)
-        (told_by session.telling) session.election index session.state line.now
+        (written_of session.writing) session.election index session.state line.now
         (state_left (λ session. session.state) result)
         (around (output K.taken K.faults out.old) disks.old report.old)
         (around (output K.taken K.faults out.new) disks.new report.new) }
     ensures election { IfOk result (λ next. next.election ≡ session.election) }
-    ensures telling { IfOk result (λ next. next.telling ≡ session.telling) }
+    ensures writing { IfOk result (λ next. next.writing ≡ session.writing) }
     ensures rows { AddsRow M.disks disks.new report.new.begun report.old.marks.items report.new.marks.items
         (rows_of report.old) (rows_of report.new) }
     ensures begun { report.new.begun ≡ report.old.begun }
@@ -224,7 +229,9 @@ where
     ensures fails { IsErrOf result SessionFault.DiskFault → M.fails_to disks.old disks.new }
 {
     let list = report.room(alloc, disks.width(report.begun))?;
-    let answer = session.line_by(rt, alloc, line, index, disks, out, play, scratch, report);
+    let answer = session.line_by(
+        rt, alloc, line, said, ballot, index, disks, out, play, scratch, report,
+    );
     report.complete::<Y, M>(disks, list);
     answer
 }

@@ -1,20 +1,13 @@
 -- What the casting invariant says of single numbers, and of the cells once all are at rest.
 use Rattle.std.proofs.Common.{◌≡◌, ◌≢◌, ℕ, ◌+◌, ◌<◌, ◌≤◌, Some, List, [], ◌∷◌, ◌++◌, length, get_or, take, drop, refl, sym, ap, ◌∙◌, subst, arith}
+use Rattle.store_spec.proofs.Common.{All, All-append, All-contains, All-head, AreInOrder, CastInvariant, CastView, Contains, EachOnce, HasMet, HasRoom, HasRoomFor, HoldSame, HoldsOther, IsClaimed, IsPermutation-sym, IsTried, Probing, Rest, Table, accepted_of, claim_place, claim_word, count_of, get_or-drop, get_or_default, hands_of, layout_of, length-append, numbers_in, slice_get, sum_by-append}
 use Rattle.probe_order.proofs.ClaimOrder.{within}
-use Rattle.std.proofs.lemmas.List.{get_or-drop, get_or_default, length-append}
-use Rattle.std.proofs.lemmas.List.Elements.{All-append, All-contains, All-head}
-use Rattle.std.proofs.lemmas.List.Sums.{sum_by-append}
-use Rattle.std.specs.List.{All, Contains}
-use Rattle.std.specs.Prelude.{slice_get}
 use Rattle.layout_def.proofs.LaidOut.{ordered_is_layout_of}
-use Rattle.store_spec.specs.CastInvariant.{AreInOrder, CastInvariant, EachOnce, HasMet, HasRoomFor, HoldSame, HoldsOther, IsClaimed, IsTried, accepted_of, count_of, hands_of}
-use Rattle.store_spec.specs.CastStep.{CastView, Table, claim_place, claim_word}
-use Rattle.store_spec.specs.CastStep.CastState.{Rest, Probing}
-use Rattle.store_spec.specs.Layout.{HasRoom, layout_of}
 use Rattle.step_core.proofs.CastClaims.{nowhere}
 use Rattle.step_core.proofs.CastHands.{all_count, cells_size, claims_size, counts_few, is_some}
 use Rattle.step_core.proofs.CastOpening.{rest_hands}
 use Rattle.step_core.proofs.CastRows.{probing_is}
+use Rattle.step_core.proofs.SameNumbers.{hold, weigh}
 use Rattle.step_core.proofs.Sets.{at_place, contains-flat_map, counted, distinct_once, is_one, is_one-zero, stands_counted}
 
 -- ---- the same numbers
@@ -22,18 +15,18 @@ use Rattle.step_core.proofs.Sets.{at_place, contains-flat_map, counted, distinct
 -- what stands in one of two lists with the same numbers stands in the other
 pub same-contains : (xs ys : List ℕ) (v : ℕ) → HoldSame xs ys → v ≢ 0 → Contains xs v → Contains ys v
 same-contains xs ys v same some c =
-    stands_counted v ys (omega (arith, counted v xs c, same (is_one v) (is_one-zero v some)))
+    stands_counted v ys (omega (arith, counted v xs c, weigh same (is_one v) (is_one-zero v some)))
 
 pub same-back : (xs ys : List ℕ) → HoldSame xs ys → HoldSame ys xs
-same-back xs ys same weight none = sym (same weight none)
+same-back xs ys same = record { reordered = IsPermutation-sym (numbers_in xs) (numbers_in ys) same.reordered }
 
 -- cells and hands hold the base and what is accepted
 pub cells_and_hands : (t : Table) (base words : List ℕ) (views : List CastView) → CastInvariant t base words views → HoldSame (take t.cells words ++ hands_of views) (base ++ accepted_of views)
-cells_and_hands t base words views h weight none =
+cells_and_hands t base words views h = hold (λ weight none.
     let claims = drop t.cells words in
     let claimed = sum_by-append weight base claims in
     let accepted = sum_by-append weight base (accepted_of views) in
-    omega (arith, h.owned weight none, h.claimed.accepted weight none)
+    omega (arith, weigh h.owned weight none, weigh h.claimed.accepted weight none))
 
 -- what is of the base or accepted is so once
 pub accepted_once : (t : Table) (base words : List ℕ) (views : List CastView) → CastInvariant t base words views → EachOnce (base ++ accepted_of views)
@@ -42,11 +35,11 @@ accepted_once t base words views h v some =
     let weight = is_one v in
     let claimed = sum_by-append weight base claims in
     let accepted = sum_by-append weight base (accepted_of views) in
-    omega (arith, h.claimed.once v some, h.claimed.accepted weight (is_one-zero v some))
+    omega (arith, h.claimed.once v some, weigh h.claimed.accepted weight (is_one-zero v some))
 
 pub stands_once : (t : Table) (base words : List ℕ) (views : List CastView) (v : ℕ) → CastInvariant t base words views → v ≢ 0 → count_of v (take t.cells words ++ hands_of views) ≤ 1
 stands_once t base words views v h some =
-    omega (arith, cells_and_hands t base words views h (is_one v) (is_one-zero v some), accepted_once t base words views h v some)
+    omega (arith, weigh (cells_and_hands t base words views h) (is_one v) (is_one-zero v some), accepted_once t base words views h v some)
 
 -- ---- what a number has met
 
@@ -96,7 +89,7 @@ full_for t base words views id view x h stands c =
       λ a.
           let claimed = (accepted_claimed t base words views x h a).1 in
           (others claimed.0 claimed.1).other (get_or_default claims claimed.0 0 x claimed.1 ∙ claimed.2),
-      omega (arith, all_count claims filled, all_count (accepted_of views) h.claimed.some, h.claimed.accepted is_some refl, claims_size t base words views h),
+      omega (arith, all_count claims filled, all_count (accepted_of views) h.claimed.some, weigh h.claimed.accepted is_some refl, claims_size t base words views h),
     )
 
 -- ---- at rest
@@ -106,10 +99,10 @@ rest_layout t base words views room h rest =
     let cells = take t.cells words in
     let numbers = base ++ accepted_of views in
     let some : All (λ v. v ≢ 0) numbers = All-append (λ v. v ≢ 0) base (accepted_of views) room.some h.claimed.some in
-    let same : HoldSame cells numbers = λ weight none.
-    omega (arith, cells_and_hands t base words views h weight none, sum_by-append weight cells (hands_of views), rest_hands weight none views rest) in
+    let same : HoldSame cells numbers = hold (λ weight none.
+    omega (arith, weigh (cells_and_hands t base words views h) weight none, sum_by-append weight cells (hands_of views), rest_hands weight none views rest)) in
     let fits : length numbers ≤ length base + t.claims =
-    omega (arith, length-append base (accepted_of views), all_count (accepted_of views) h.claimed.some, h.claimed.accepted is_some refl, counts_few (drop t.cells words), claims_size t base words views h) in
+    omega (arith, length-append base (accepted_of views), all_count (accepted_of views) h.claimed.some, weigh h.claimed.accepted is_some refl, counts_few (drop t.cells words), claims_size t base words views h) in
     let enough : HasRoom t.home room.homes t.cells numbers = record {
       distinct = distinct_once numbers (accepted_once t base words views h) some;
       some = some;

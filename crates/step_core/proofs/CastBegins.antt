@@ -1,9 +1,7 @@
 -- The claim word at which a number began stays the same from step to step.
 use Rattle.std.proofs.Common.{ℕ}
+use Rattle.store_spec.proofs.Common.{CastNote, CastRow, CastState, Table, cast_act, claim_met, claim_passed, claim_won, claims_full, displaces, left_by, look_passes, look_ready, lost_passes, lost_ready, takes_empty, word_of}
 use Rattle.step_core.specs.CastTables.{BeginsAt, LeadsTo}
-use Rattle.store_spec.specs.Act.{left_by, word_of}
-use Rattle.store_spec.specs.CastStep.{CastNote, CastRow, CastState, Table, cast_act}
-use Rattle.store_spec.specs.CastStep.CastRow.{claim_won, claim_met, claim_passed, claims_full, look_passes, look_ready, takes_empty, displaces, lost_passes, lost_ready}
 
 begins_in : (t : Table) (from : CastState) (word f left : ℕ) (new : CastState) (note : CastNote) (first : ℕ) → CastRow t from word f left new note → BeginsAt t from first → BeginsAt t new first
 begins_in t _ _ _ _ _ _ first (claim_won x k) h = tt

@@ -1,18 +1,10 @@
 -- Claim words: a number is claimed in one word and once, and those that are tried or were met stay what they were.
 -- Nothing here asks for the cells.
 use Rattle.std.proofs.Common.{◌≡◌, ◌≢◌, ℕ, ◌+◌, ◌<◌, ◌≤◌, ⊎_elim, Some, List, [], ◌∷◌, ◌++◌, length, get_or, set, sym, ap, ◌∙◌, subst, arith}
+use Rattle.store_spec.proofs.Common.{All, All-push, All-set, All-weaker, AreClaimed, AreInOrder, Carrying, CastState, CastView, Contains, EachOnce, HasMet, HoldsOther, IsClaimed, IsProbing, IsTried, Probing, Ready, Rest, accepted_of, cases_eq, cases_lt, cases_order, claim_place, count_of, get_or-set_other, get_or-set_same, get_or_default, get_or_from_slice_get, slice_get, sum_by, sum_by-append, sum_by-set, sum_by_push}
 use Rattle.probe_order.proofs.ClaimOrder.{once, reached, within}
-use Rattle.std.proofs.lemmas.Bool.{cases_eq, cases_lt, cases_order}
-use Rattle.std.proofs.lemmas.List.{get_or_default, get_or-set_other, get_or-set_same}
-use Rattle.std.proofs.lemmas.List.Elements.{All-push, All-set, All-weaker}
-use Rattle.std.proofs.lemmas.List.Sums.{sum_by-append, sum_by-set, sum_by_push}
-use Rattle.std.proofs.lemmas.Option.{get_or_from_slice_get}
-use Rattle.std.specs.List.{All, Contains, sum_by}
-use Rattle.std.specs.Prelude.{slice_get}
+use Rattle.step_core.proofs.SameNumbers.{hold, weigh}
 use Rattle.step_core.proofs.Sets.{All-flat_map, All-from_flat_map, at_place, contains-set, none_counted, stands_within, sum_by-flat_map, is_one, is_one-other, is_one-same, is_one-zero}
-use Rattle.store_spec.specs.CastInvariant.{AreClaimed, AreInOrder, EachOnce, HasMet, HoldsOther, IsClaimed, IsProbing, IsTried, accepted_of, count_of}
-use Rattle.store_spec.specs.CastStep.{CastState, CastView, claim_place}
-use Rattle.store_spec.specs.CastStep.CastState.{Rest, Probing, Carrying, Ready}
 
 -- ---- the accepted numbers, where one view changes
 
@@ -31,10 +23,10 @@ accepted-set weight views id view now stands =
 pub claimed_still : (count : ℕ) (base claims : List ℕ) (views : List CastView) (id : ℕ) (view now : CastView) → slice_get views id ≡ Some view → AreClaimed count base claims views → now.accepted ≡ view.accepted → IsProbing count base claims now.state → HasMet claims now → AreClaimed count base claims (set views id now)
 claimed_still count base claims views id view now stands h same probing met = record {
   once = h.once;
-  accepted = λ weight zero_weighs_none.
+  accepted = hold (λ weight zero_weighs_none.
       let change = accepted-set weight views id view now stands in
       let kept = ap (sum_by weight) same in
-      omega (arith, h.accepted weight zero_weighs_none);
+      omega (arith, weigh h.accepted weight zero_weighs_none));
   some =
       let P : ℕ → Type 0 = λ x. x ≢ 0 in
       let each = All-from_flat_map P (λ (v : CastView). v.accepted) views h.some in
@@ -190,12 +182,12 @@ module _ (claims base : List ℕ) (x k : ℕ) (tried : IsTried (length claims) b
       let met_own : HasMet after won = met_same after view won (at_place (HasMet after) views id view stands met_all) taken full in
       record {
         once = once_now h.once;
-        accepted = λ weight zero_weighs_none.
+        accepted = hold (λ weight zero_weighs_none.
             let change = accepted-set weight views id view won stands in
             let gained = ap (sum_by weight) accepted ∙ sum_by_push weight view.accepted x in
             let put = sum_by-set weight claims (claim_place x k (length claims)) x 0 there in
             let was : weight (get_or claims (claim_place x k (length claims)) 0) ≡ 0 = ap weight free ∙ zero_weighs_none in
-            omega (arith, h.accepted weight zero_weighs_none);
+            omega (arith, weigh h.accepted weight zero_weighs_none));
         some = All-flat_map P (λ (v : CastView). v.accepted) (set views id won) (All-set (λ (v : CastView). All P v.accepted) views id won own each);
         in_order = in_order_now;
         probing = All-set (λ v. IsProbing (length claims) base after v.state) views id won probing probing_all;

@@ -1,16 +1,9 @@
 -- Numbers in hand: how they weigh, that their places are cells, and that no cell holds them.
 use Rattle.std.proofs.Common.{◌≡◌, ◌≢◌, ◌==◌, ℕ, zero, suc, ◌+◌, ◌<◌, ◌≤◌, ⊎_elim, Some, List, [], ◌∷◌, cond, length, get_or, set, take, drop, refl, ap, ◌∙◌, arith}
-use Rattle.std.proofs.lemmas.Bool.{cases_eq, cases_lt, cond-true, cond-false, eq-eqb, ne_eqb}
-use Rattle.std.proofs.lemmas.List.{get_or-map, get_or-take, get_or_past, length-drop, length-map, length-take-le, map-set}
-use Rattle.std.proofs.lemmas.List.Elements.{All-head, All-tail}
-use Rattle.std.proofs.lemmas.List.Sums.{get_or-le-sum_by, sum_by-append, sum_by-cons, sum_by-le, sum_by-set, sum_by-take-le}
-use Rattle.std.proofs.lemmas.Option.{get_or_from_slice_get}
-use Rattle.std.specs.List.{All, Contains, sum_by}
-use Rattle.std.specs.Prelude.{slice_get}
+use Rattle.store_spec.proofs.Common.{All, All-head, All-tail, CastInvariant, CastView, Contains, HasRoomFor, MayStand, Table, cases_eq, cases_lt, cond-false, cond-true, eq-eqb, get_or-le-sum_by, get_or-map, get_or-take, get_or_from_slice_get, get_or_past, hands_of, in_hand, length-drop, length-map, length-take-le, map-set, ne_eqb, slice_get, sum_by, sum_by-append, sum_by-cons, sum_by-set}
+use Rattle.std.proofs.lemmas.List.Sums.{sum_by-le, sum_by-take-le}
+use Rattle.step_core.proofs.SameNumbers.{weigh}
 use Rattle.step_core.proofs.Sets.{counted, is_one, is_one-same, is_one-zero, stands_within}
-use Rattle.store_spec.specs.CastInvariant.{CastInvariant, HasRoomFor, hands_of, in_hand}
-use Rattle.store_spec.specs.CastStep.{CastView, Table}
-use Rattle.store_spec.specs.Layout.{MayStand}
 
 hand_at : (views : List CastView) (id : ℕ) (view : CastView) → slice_get views id ≡ Some view → get_or (hands_of views) id 0 ≡ in_hand view.state
 hand_at views id view stands =
@@ -96,7 +89,7 @@ hand_fits t base words views id view v place room h stands holds some may =
     let in_hands = get_or-le-sum_by is_some (hands_of views) id 0 (hands_within views id view stands) in
     let own = ap is_some (hand_at views id view stands ∙ holds) in
     let all = sum_by-append is_some cells (hands_of views) in
-    let owned = h.owned is_some refl in
+    let owned = weigh h.owned is_some refl in
     let held = sum_by-append is_some base claims in
     omega (arith, counts_few base, counts_few claims, some-one v some)
 
@@ -108,6 +101,6 @@ hand_nowhere t base words views id view v h stands holds some c =
     let in_hands = get_or-le-sum_by (is_one v) (hands_of views) id 0 (hands_within views id view stands) in
     let own = ap (is_one v) (hand_at views id view stands ∙ holds) in
     let all = sum_by-append (is_one v) cells (hands_of views) in
-    let owned = h.owned (is_one v) (is_one-zero v some) in
+    let owned = weigh h.owned (is_one v) (is_one-zero v some) in
     let once = h.claimed.once v some in
     omega (arith, is_one-same v)

@@ -1,11 +1,8 @@
 -- The rows of the table, by what is found and what is left of it.
 use Rattle.std.proofs.Common.{◌≡◌, ◌≢◌, if◌then◌else◌, ◌==◌, ℕ, ◌+◌, ◌<◌, ◌≤◌, ⊎_elim, refl, sym, subst, arith}
-use Rattle.std.proofs.lemmas.Bool.{cases_lt, cond-false, cond-true, eq-eqb, ne_eqb}
+use Rattle.store_spec.proofs.Common.{Carrying, CastNote, CastRow, CastState, Claimed, Placed, Probing, Ready, Rest, Table, Taken, cases_lt, claim_met, claim_passed, claim_won, claim_word, claims_full, cond-false, cond-true, displaces, eq-eqb, look_passes, look_ready, lost_passes, lost_ready, ne_eqb, takes_empty}
 use Rattle.step_core.specs.CastTables.{LeadsTo}
-use Rattle.store_spec.specs.CastStep.{CastNote, CastRow, CastState, Table, claim_word}
-use Rattle.store_spec.specs.CastStep.CastNote.{Quiet, Claimed, Taken, Full, Placed}
-use Rattle.store_spec.specs.CastStep.CastRow.{claim_won, claim_met, claim_passed, claims_full, look_passes, look_ready, takes_empty, displaces, lost_passes, lost_ready}
-use Rattle.store_spec.specs.CastStep.CastState.{Rest, Probing, Carrying, Ready}
+use Rattle.store_spec.specs.CastStep.CastNote.{Quiet, Full}
 
 -- a word that is not the wanted one is left as it is
 left_lost : (t : Table) (from : CastState) (word want put f : ℕ) (new : CastState) (note : CastNote) → f ≢ want → CastRow t from word f f new note → CastRow t from word f (if f == want then put else f) new note

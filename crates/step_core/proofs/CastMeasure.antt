@@ -1,9 +1,6 @@
 -- The measure of a tabulator falls at each of its steps.
 use Rattle.std.proofs.Common.{ℕ, ◌<◌, ◌≤◌, inl, inr, refl, arith}
-use Rattle.store_spec.specs.CastStep.{CastNote, CastRow, CastState, Table, cast_measure}
-use Rattle.store_spec.specs.CastStep.CastRow.{claim_won, claim_met, claim_passed, claims_full, look_passes, look_ready, takes_empty, displaces, lost_passes, lost_ready}
-use Rattle.store_spec.specs.CastStep.CastState.{Rest, Probing, Carrying, Ready}
-use Rattle.store_spec.specs.Measure.{Falls}
+use Rattle.store_spec.proofs.Common.{Carrying, CastNote, CastRow, CastState, Falls, Probing, Ready, Rest, Table, cast_measure, claim_met, claim_passed, claim_won, claims_full, displaces, look_passes, look_ready, lost_passes, lost_ready, takes_empty}
 
 -- what a step needs of its state: a claim word is left to try, the place is a cell, and the word seen is less than the
 -- number and than any other word that is found there

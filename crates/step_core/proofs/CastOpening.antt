@@ -1,25 +1,16 @@
 -- The casting invariant at the opening, and where seats are made and taken in.
 use Rattle.std.proofs.Common.{◌≡◌, ◌≢◌, ℕ, ◌+◌, ◌<◌, ◌≤◌, ⊎_elim, inl, inr, Some, List, [], ◌∷◌, ◌++◌, length, set, take, drop, replicate, refl, sym, ap, ◌∙◌, subst, arith}
-use Rattle.std.proofs.lemmas.Bool.{cases_lt}
-use Rattle.std.proofs.lemmas.List.{drop_at, map-append, get_or-set_other, length-set, length-append, length-replicate, take_at}
-use Rattle.std.proofs.lemmas.List.Elements.{All-append, All-nil, All-push, All-replicate, All-set, All-weaker}
+use Rattle.store_spec.proofs.Common.{All, All-append, All-nil, All-push, All-replicate, All-set, All-weaker, AreClaimed, ArePlaced, CastInvariant, CastView, EachOnce, HasMet, HasRoom, HasSeen, HoldSame, HoldsOther, IsClaimed, IsHand, IsOrdered, IsProbing, Rest, Table, ascending, cases_lt, claim_place, drop_at, fresh_cast_view, get_or-set_other, get_or_from_slice_get, hands_of, in_hand, joined_cast_view, laid_out, layout_of, length-append, length-replicate, length-set, map-append, put_in_order, slice_get, slice_get-get_or, sum_by, sum_by-append, sum_by-cons, sum_by-le, sum_by-set, sum_by_push, take_at}
 use Rattle.std.proofs.lemmas.List.Folds.{sum_by-replicate}
-use Rattle.std.proofs.lemmas.List.Sums.{sum_by-append, sum_by-cons, sum_by-le, sum_by-set, sum_by_push}
-use Rattle.std.proofs.lemmas.Option.{get_or_from_slice_get, slice_get-get_or}
-use Rattle.std.specs.List.{All, sum_by}
-use Rattle.std.specs.Prelude.{slice_get}
 use Rattle.layout_def.proofs.LaidOut.{AreHomed, empty_cell, homed_ascending, laid_out_is, place_of_next}
 use Rattle.layout_def.proofs.Ascending.{IsRising, ascending_distinct, length-ascending, put_first, put_later}
 use Rattle.layout_def.proofs.Placing.{placed_at}
-use Rattle.store_spec.specs.CastInvariant.{AreClaimed, ArePlaced, CastInvariant, EachOnce, HasMet, HasSeen, HoldSame, HoldsOther, IsClaimed, IsHand, IsProbing, hands_of, in_hand}
-use Rattle.store_spec.specs.CastStep.{CastView, Table, claim_place, fresh_cast_view, joined_view}
-use Rattle.store_spec.specs.CastStep.CastState.{Rest}
-use Rattle.store_spec.specs.Layout.{HasRoom, IsOrdered, ascending, laid_out, layout_of, put_in_order}
 use Rattle.step_core.proofs.CastClaims.{accepted-set}
 use Rattle.step_core.proofs.CastHands.{hands-set}
+use Rattle.step_core.proofs.SameNumbers.{WeighSame, hold, weigh}
 use Rattle.step_core.proofs.Sets.{at_place, stands_within, All-flat_map, All-from_flat_map, is_one, is_one-zero, sum_by-flat_map, sum_by-map}
 
--- ---- a layout holds its numbers, each as often
+-- ---- a layout weighs what its numbers weigh
 
 weighs_put : (weight : ℕ → ℕ) (v : ℕ) (xs : List ℕ) → sum_by weight (put_in_order v xs) ≡ weight v + sum_by weight xs
 weighs_put weight v [] = sum_by-cons weight v []
@@ -48,8 +39,8 @@ weighs_laid_out weight none home homes count (v ∷ greater) rising homed room =
     let was = ap weight first.empty in
     omega (arith, weighs_laid_out weight none home homes count greater rising.1 more (omega arith), sum_by-cons weight v greater)
 
-pub layout_holds : (home : ℕ → ℕ) (homes count : ℕ) (numbers : List ℕ) → HasRoom home homes count numbers → HoldSame (layout_of home count numbers) numbers
-layout_holds home homes count numbers h weight none =
+pub layout_weighs : (home : ℕ → ℕ) (homes count : ℕ) (numbers : List ℕ) → HasRoom home homes count numbers → WeighSame (layout_of home count numbers) numbers
+layout_weighs home homes count numbers h weight none =
     weighs_laid_out weight none home homes count (ascending numbers)
     (ascending_distinct numbers h.distinct) (homed_ascending home homes count numbers h)
     (let enough = h.room in omega (arith, length-ascending numbers))
@@ -87,7 +78,7 @@ opening_idle t base cells views ordered size same once idle =
       once = λ v some.
           let all = sum_by-append (is_one v) base (replicate t.claims 0) in
           omega (arith, once v some, free (is_one v) (is_one-zero v some));
-      accepted = λ weight none. no_accepted weight ∙ sym (free weight none);
+      accepted = hold (λ weight none. no_accepted weight ∙ sym (free weight none));
       some = All-flat_map (λ x. x ≢ 0) (λ (view : CastView). view.accepted) views
           (λ k d within. let own = idle k d within in subst (All (λ x. x ≢ 0)) (sym own.no_accepted) (All-nil (λ x. x ≢ 0)));
       in_order = λ x tries before some lt fits holds.
@@ -102,13 +93,13 @@ opening_idle t base cells views ordered size same once idle =
         hands = λ k d within. let own = idle k d within in subst (IsHand t.home cells) (sym own.rests) tt;
         seen = λ k d within. let own = idle k d within in subst (HasSeen cells) (sym own.rests) tt;
       });
-      owned = λ weight none.
+      owned = hold (λ weight none.
           let left = sum_by-append weight (take t.cells words) (hands_of views) in
           let right = sum_by-append weight base (drop t.cells words) in
           let hands = rest_hands weight none views (λ k d within. let own = idle k d within in own.rests) in
           let cells_are = ap (sum_by weight) front in
           let claims_are = ap (sum_by weight) back in
-          omega (arith, same weight none, free weight none);
+          omega (arith, weigh same weight none, free weight none));
       claimed = subst (λ (c : List ℕ). AreClaimed t.claims base c views) (sym back) claimed;
     }
 
@@ -139,18 +130,18 @@ seat_made t base words views h =
         hands = All-push (λ view. IsHand t.home cells view.state) views fresh_cast_view h.placed.hands tt;
         seen = All-push (λ view. HasSeen cells view.state) views fresh_cast_view h.placed.seen tt;
       };
-      owned = λ weight none.
+      owned = hold (λ weight none.
           let hands = ap (sum_by weight) (map-append (λ (view : CastView). in_hand view.state) views (fresh_cast_view ∷ [])) ∙ sum_by_push weight (hands_of views) 0 in
           let before = sum_by-append weight cells (hands_of views) in
           let after = sum_by-append weight cells (hands_of all) in
-          omega (arith, h.owned weight none);
+          omega (arith, weigh h.owned weight none));
       claimed = record {
         once = h.claimed.once;
-        accepted = λ weight none.
+        accepted = hold (λ weight none.
             let before = sum_by-flat_map weight (λ (view : CastView). view.accepted) views in
             let after = sum_by-flat_map weight (λ (view : CastView). view.accepted) all in
             let more = sum_by_push (λ (view : CastView). sum_by weight view.accepted) views fresh_cast_view in
-            omega (arith, h.claimed.accepted weight none);
+            omega (arith, weigh h.claimed.accepted weight none));
         some = All-flat_map (λ x. x ≢ 0) (λ (view : CastView). view.accepted) all
             (All-push (λ view. All (λ x. x ≢ 0) view.accepted) views fresh_cast_view
             (All-from_flat_map (λ x. x ≢ 0) (λ (view : CastView). view.accepted) views h.claimed.some) (All-nil (λ x. x ≢ 0)));
@@ -161,11 +152,11 @@ seat_made t base words views h =
     }
 
 -- two tabulators at rest: the one takes in the other's lists, and the other is as new
-pub seat_taken_in : (t : Table) (base words : List ℕ) (views : List CastView) (id other : ℕ) (view gone : CastView) → CastInvariant t base words views → id ≢ other → slice_get views id ≡ Some view → slice_get views other ≡ Some gone → view.state ≡ Rest → gone.state ≡ Rest → CastInvariant t base words (set (set views id (joined_view view gone)) other fresh_cast_view)
+pub seat_taken_in : (t : Table) (base words : List ℕ) (views : List CastView) (id other : ℕ) (view gone : CastView) → CastInvariant t base words views → id ≢ other → slice_get views id ≡ Some view → slice_get views other ≡ Some gone → view.state ≡ Rest → gone.state ≡ Rest → CastInvariant t base words (set (set views id (joined_cast_view view gone)) other fresh_cast_view)
 seat_taken_in t base words views id other view gone h apart stands stands_too rests rests_too =
     let cells = take t.cells words in
     let claims = drop t.cells words in
-    let both = joined_view view gone in
+    let both = joined_cast_view view gone in
     let first = set views id both in
     let now = set first other fresh_cast_view in
     let within_other = stands_within views other gone stands_too in
@@ -185,21 +176,21 @@ seat_taken_in t base words views id other view gone h apart stands stands_too re
         hands = two (λ v. IsHand t.home cells v.state) h.placed.hands tt tt;
         seen = two (λ v. HasSeen cells v.state) h.placed.seen tt tt;
       };
-      owned = λ weight none.
+      owned = hold (λ weight none.
           let one = hands-set weight views id view both stands in
           let two_now = hands-set weight first other gone fresh_cast_view stays in
           let hand = ap weight (ap in_hand rests) in
           let hand_too = ap weight (ap in_hand rests_too) in
           let before = sum_by-append weight cells (hands_of views) in
           let after = sum_by-append weight cells (hands_of now) in
-          omega (arith, h.owned weight none);
+          omega (arith, weigh h.owned weight none));
       claimed = record {
         once = h.claimed.once;
-        accepted = λ weight none.
+        accepted = hold (λ weight none.
             let one = accepted-set weight views id view both stands in
             let two_now = accepted-set weight first other gone fresh_cast_view stays in
             let all = sum_by-append weight view.accepted gone.accepted in
-            omega (arith, h.claimed.accepted weight none);
+            omega (arith, weigh h.claimed.accepted weight none));
         some = All-flat_map P (λ (v : CastView). v.accepted) now
             (two (λ v. All P v.accepted) each
             (All-append P view.accepted gone.accepted (at_place (λ (v : CastView). All P v.accepted) views id view stands each) (at_place (λ (v : CastView). All P v.accepted) views other gone stands_too each))

@@ -1,16 +1,9 @@
 -- Cells and hands: the cells stay ordered and the hands placed where one view changes, and where a number takes a cell
 -- from a lower one. Nothing here asks for the claim words.
 use Rattle.std.proofs.Common.{◌≡◌, ◌≢◌, ℕ, ◌<◌, ◌≤◌, ⊎_elim, List, length, get_or, set, ap, ◌∙◌, arith}
+use Rattle.store_spec.proofs.Common.{All, All-set, All-weaker, ArePlaced, Carrying, CastState, CastView, HasSeen, IsHand, MayStand, Probing, Ready, Rest, cases_eq, get_or-set_other, get_or-set_same}
 use Rattle.layout_def.proofs.StandsStill.{stands_still}
-use Rattle.std.proofs.lemmas.Bool.{cases_eq}
-use Rattle.std.proofs.lemmas.List.{get_or-set_other, get_or-set_same}
-use Rattle.std.proofs.lemmas.List.Elements.{All-set, All-weaker}
-use Rattle.std.specs.List.{All}
 use Rattle.layout_def.proofs.Displaced.{displaced_ordered}
-use Rattle.store_spec.specs.CastInvariant.{ArePlaced, HasSeen, IsHand}
-use Rattle.store_spec.specs.CastStep.{CastState, CastView}
-use Rattle.store_spec.specs.CastStep.CastState.{Rest, Probing, Carrying, Ready}
-use Rattle.store_spec.specs.Layout.{MayStand}
 
 -- the cells stay as they are
 pub placed_still : (home : ℕ → ℕ) (cells : List ℕ) (views : List CastView) (id : ℕ) (now : CastView) → ArePlaced home cells views → IsHand home cells now.state → HasSeen cells now.state → ArePlaced home cells (set views id now)

@@ -1,23 +1,16 @@
 -- Each row of the table keeps the casting invariant.
 use Rattle.std.proofs.Common.{◌≡◌, ◌≢◌, ℕ, ◌+◌, ◌<◌, Some, List, [], ◌∷◌, ◌++◌, length, get_or, set, take, drop, refl, sym, ap, ◌∙◌, subst, arith}
+use Rattle.store_spec.proofs.Common.{AreClaimed, AreInOrder, ArePlaced, Carrying, CastInvariant, CastNote, CastRow, CastState, CastView, Claimed, HasMet, HasRoomFor, HasSeen, HoldsOther, IsHand, IsProbing, IsTried, MayStand, Placed, Probing, Ready, Rest, Table, Taken, cast_view_after, claim_met, claim_passed, claim_place, claim_won, claim_word, claims_full, displaces, get_or-drop, get_or-take, hands_of, in_hand, length-set, look_passes, look_ready, lost_passes, lost_ready, set-get_or, slice_get, sum_by, sum_by-append, sum_by-set, take-set-lt, takes_empty}
 use Rattle.probe_order.proofs.ClaimOrder.{within}
-use Rattle.std.proofs.lemmas.List.{drop-set-add, drop-set-lt, get_or-drop, get_or-take, length-set, set-get_or, take-set-le}
-use Rattle.std.proofs.lemmas.List.Sums.{sum_by-append, sum_by-set}
-use Rattle.std.proofs.Math.Seq.{take-set-lt}
-use Rattle.std.specs.List.{sum_by}
-use Rattle.std.specs.Prelude.{slice_get}
-use Rattle.step_core.specs.CastKept.{IsKept}
+use Rattle.std.proofs.lemmas.List.{drop-set-add, drop-set-lt, take-set-le}
+use Rattle.step_core.specs.CastKept.{KeepsInvariant}
 use Rattle.step_core.proofs.CastClaims.{claimed_still, claimed_won, met_claimed, met_full, met_same, met_taken, tried_all, tried_more}
 use Rattle.step_core.proofs.CastHands.{cells_size, claims_size, hand_fits, hands-set}
 use Rattle.step_core.proofs.CastPlaces.{placed_over, placed_still}
+use Rattle.step_core.proofs.SameNumbers.{hold, weigh}
 use Rattle.step_core.proofs.Sets.{at_place}
 use Rattle.layout_def.proofs.Displaced.{displaced_stands_on, passes_greater, stands_at_home}
-use Rattle.store_spec.specs.CastInvariant.{AreClaimed, AreInOrder, ArePlaced, CastInvariant, HasMet, HasRoomFor, HasSeen, HoldsOther, IsHand, IsProbing, IsTried, hands_of, in_hand}
-use Rattle.store_spec.specs.CastStep.{CastNote, CastRow, CastState, CastView, Table, claim_place, claim_word, cast_view_after}
-use Rattle.store_spec.specs.CastStep.CastNote.{Quiet, Claimed, Taken, Full, Placed}
-use Rattle.store_spec.specs.CastStep.CastRow.{claim_won, claim_met, claim_passed, claims_full, look_passes, look_ready, takes_empty, displaces, lost_passes, lost_ready}
-use Rattle.store_spec.specs.CastStep.CastState.{Rest, Probing, Carrying, Ready}
-use Rattle.store_spec.specs.Layout.{MayStand}
+use Rattle.store_spec.specs.CastStep.CastNote.{Quiet, Full}
 
 -- ---- the whole invariant from its parts
 
@@ -26,12 +19,12 @@ pub whole_still : (t : Table) (base words : List ℕ) (views : List CastView) (i
 whole_still t base words views id view now h stands hand seen same accepted probing met = record {
   size = h.size;
   placed = placed_still t.home (take t.cells words) views id now h.placed hand seen;
-  owned = λ weight none.
+  owned = hold (λ weight none.
       let change = hands-set weight views id view now stands in
       let kept = ap weight same in
       let before = sum_by-append weight (take t.cells words) (hands_of views) in
       let after = sum_by-append weight (take t.cells words) (hands_of (set views id now)) in
-      omega (arith, h.owned weight none);
+      omega (arith, weigh h.owned weight none));
   claimed = claimed_still t.claims base (drop t.cells words) views id view now stands h.claimed accepted probing met;
 }
 
@@ -48,7 +41,7 @@ whole_cell t base words views id place view now v f h stands inside may found le
       size = length-set words place v ∙ h.size;
       placed = subst (λ (c : List ℕ). ArePlaced t.home c (set views id now)) (sym front)
           (placed_over t.home cells views id place v now h.placed may in_cells (let is = word in omega arith) hand seen);
-      owned = λ weight none.
+      owned = hold (λ weight none.
           let change = hands-set weight views id view now stands in
           let put = sum_by-set weight cells place v 0 in_cells in
           let was = ap weight word in
@@ -58,7 +51,7 @@ whole_cell t base words views id place view now v f h stands inside may found le
           let after = sum_by-append weight (take t.cells (set words place v)) (hands_of (set views id now)) in
           let moved = ap (sum_by weight) front in
           let claims = ap (λ (c : List ℕ). sum_by weight (base ++ c)) back in
-          omega (arith, h.owned weight none);
+          omega (arith, weigh h.owned weight none));
       claimed = subst (λ (c : List ℕ). AreClaimed t.claims base c (set views id now)) (sym back)
           (claimed_still t.claims base (drop t.cells words) views id view now stands h.claimed accepted probing met);
     }
@@ -92,7 +85,7 @@ whole_claim t base words views id view now x k h stands tried free empty takes a
     record {
       size = length-set words (claim_word t x k) x ∙ h.size;
       placed = subst (λ (c : List ℕ). ArePlaced t.home c (set views id now)) (sym front) (placed_still t.home cells views id now h.placed hand seen);
-      owned = λ weight none.
+      owned = hold (λ weight none.
           let change = hands-set weight views id view now stands in
           let put = sum_by-set weight claims place x 0 inside in
           let was = ap weight word in
@@ -104,7 +97,7 @@ whole_claim t base words views id view now x k h stands tried free empty takes a
           let held = sum_by-append weight base claims in
           let claimed = sum_by-append weight base (drop t.cells (set words (claim_word t x k) x)) in
           let moved = ap (sum_by weight) back in
-          omega (arith, h.owned weight none);
+          omega (arith, weigh h.owned weight none));
       claimed = subst (λ (c : List ℕ). AreClaimed t.claims base c (set views id now)) (sym back) won;
     }
 
@@ -134,7 +127,7 @@ unchanged words word found is = ap (set words word) (sym is) ∙ set-get_or word
 
 -- ---- the rows
 
-pub keeps_claim_won : (t : Table) (x k : ℕ) → IsKept t (Probing x k) (claim_word t x k) 0 x (Carrying x (t.home x)) Claimed
+pub keeps_claim_won : (t : Table) (x k : ℕ) → KeepsInvariant t (Probing x k) (claim_word t x k) 0 x (Carrying x (t.home x)) Claimed
 keeps_claim_won t x k base words views id view room h stands from found =
     let tried = probing_is t base words views id view (Probing x k) h stands from in
     whole_claim t base words views id view (cast_view_after view x (Carrying x (t.home x)) Claimed) x k h stands tried found (ap in_hand from) refl refl refl refl
@@ -151,7 +144,7 @@ other_found t words x k found is some other =
     let word = claim_found t words x k found is in
     record { some = λ e. some (sym word ∙ e); other = λ e. other (sym word ∙ e) }
 
-pub keeps_claim_met : (t : Table) (x k : ℕ) → IsKept t (Probing x k) (claim_word t x k) x x Rest Taken
+pub keeps_claim_met : (t : Table) (x k : ℕ) → KeepsInvariant t (Probing x k) (claim_word t x k) x x Rest Taken
 keeps_claim_met t x k base words views id view room h stands from found =
     let claims = drop t.cells words in
     let tried = probing_is t base words views id view (Probing x k) h stands from in
@@ -163,7 +156,7 @@ keeps_claim_met t x k base words views id view room h stands from found =
     (whole_still t base words views id view now h stands tt tt (sym (ap in_hand from)) refl tt
     (met_taken claims view now x (met_is t base words views id view h stands) claimed refl refl))
 
-pub keeps_claim_passed : (t : Table) (x k f : ℕ) → f ≢ 0 → f ≢ x → k + 1 < t.claims → IsKept t (Probing x k) (claim_word t x k) f f (Probing x (k + 1)) Quiet
+pub keeps_claim_passed : (t : Table) (x k f : ℕ) → f ≢ 0 → f ≢ x → k + 1 < t.claims → KeepsInvariant t (Probing x k) (claim_word t x k) f f (Probing x (k + 1)) Quiet
 keeps_claim_passed t x k f some other more base words views id view room h stands from found =
     let claims = drop t.cells words in
     let tried = probing_is t base words views id view (Probing x k) h stands from in
@@ -173,7 +166,7 @@ keeps_claim_passed t x k f some other more base words views id view room h stand
     (tried_more t.claims base claims x k tried (other_found t words x k f found some other) more)
     (met_same claims view now (met_is t base words views id view h stands) refl refl))
 
-pub keeps_claims_full : (t : Table) (x k f : ℕ) → f ≢ 0 → f ≢ x → k + 1 ≡ t.claims → IsKept t (Probing x k) (claim_word t x k) f f Rest Full
+pub keeps_claims_full : (t : Table) (x k f : ℕ) → f ≢ 0 → f ≢ x → k + 1 ≡ t.claims → KeepsInvariant t (Probing x k) (claim_word t x k) f f Rest Full
 keeps_claims_full t x k f some other last base words views id view room h stands from found =
     let claims = drop t.cells words in
     let tried = probing_is t base words views id view (Probing x k) h stands from in
@@ -188,7 +181,7 @@ keeps_claims_full t x k f some other last base words views id view room h stands
 inside : (t : Table) (base words : List ℕ) (views : List CastView) (id : ℕ) (view : CastView) (v place : ℕ) → HasRoomFor t base → CastInvariant t base words views → slice_get views id ≡ Some view → in_hand view.state ≡ v → (v ≢ 0) × MayStand t.home (take t.cells words) v place → place < t.cells
 inside t base words views id view v place room h stands holds hand = omega (arith, hand_fits t base words views id view v place room h stands holds hand.0 hand.1)
 
-pub keeps_look_passes : (t : Table) (v i f : ℕ) → v < f → IsKept t (Carrying v i) i f f (Carrying v (i + 1)) Quiet
+pub keeps_look_passes : (t : Table) (v i f : ℕ) → v < f → KeepsInvariant t (Carrying v i) i f f (Carrying v (i + 1)) Quiet
 keeps_look_passes t v i f greater base words views id view room h stands from found =
     let cells = take t.cells words in
     let hand = hand_is t base words views id view (Carrying v i) h stands from in
@@ -200,7 +193,7 @@ keeps_look_passes t v i f greater base words views id view room h stands from fo
     (hand.0, passes_greater t.home cells v i hand.1 (omega arith)) tt (sym (ap in_hand from)) refl tt
     (met_same (drop t.cells words) view now (met_is t base words views id view h stands) refl refl))
 
-pub keeps_look_ready : (t : Table) (v i f : ℕ) → f < v → IsKept t (Carrying v i) i f f (Ready v i f) Quiet
+pub keeps_look_ready : (t : Table) (v i f : ℕ) → f < v → KeepsInvariant t (Carrying v i) i f f (Ready v i f) Quiet
 keeps_look_ready t v i f less base words views id view room h stands from found =
     let cells = take t.cells words in
     let hand = hand_is t base words views id view (Carrying v i) h stands from in
@@ -211,7 +204,7 @@ keeps_look_ready t v i f less base words views id view room h stands from found 
     (whole_still t base words views id view now h stands hand (less, omega arith) (sym (ap in_hand from)) refl tt
     (met_same (drop t.cells words) view now (met_is t base words views id view h stands) refl refl))
 
-pub keeps_lost_passes : (t : Table) (v i s f : ℕ) → v < f → IsKept t (Ready v i s) i f f (Carrying v (i + 1)) Quiet
+pub keeps_lost_passes : (t : Table) (v i s f : ℕ) → v < f → KeepsInvariant t (Ready v i s) i f f (Carrying v (i + 1)) Quiet
 keeps_lost_passes t v i s f greater base words views id view room h stands from found =
     let cells = take t.cells words in
     let hand = hand_is t base words views id view (Ready v i s) h stands from in
@@ -223,7 +216,7 @@ keeps_lost_passes t v i s f greater base words views id view room h stands from 
     (hand.0, passes_greater t.home cells v i hand.1 (omega arith)) tt (sym (ap in_hand from)) refl tt
     (met_same (drop t.cells words) view now (met_is t base words views id view h stands) refl refl))
 
-pub keeps_lost_ready : (t : Table) (v i s f : ℕ) → f < v → IsKept t (Ready v i s) i f f (Ready v i f) Quiet
+pub keeps_lost_ready : (t : Table) (v i s f : ℕ) → f < v → KeepsInvariant t (Ready v i s) i f f (Ready v i f) Quiet
 keeps_lost_ready t v i s f less base words views id view room h stands from found =
     let cells = take t.cells words in
     let hand = hand_is t base words views id view (Ready v i s) h stands from in
@@ -234,7 +227,7 @@ keeps_lost_ready t v i s f less base words views id view room h stands from foun
     (whole_still t base words views id view now h stands hand (less, omega arith) (sym (ap in_hand from)) refl tt
     (met_same (drop t.cells words) view now (met_is t base words views id view h stands) refl refl))
 
-pub keeps_takes_empty : (t : Table) (v i : ℕ) → IsKept t (Ready v i 0) i 0 v Rest Placed
+pub keeps_takes_empty : (t : Table) (v i : ℕ) → KeepsInvariant t (Ready v i 0) i 0 v Rest Placed
 keeps_takes_empty t v i base words views id view room h stands from found =
     let hand = hand_is t base words views id view (Ready v i 0) h stands from in
     let seen = seen_is t base words views id view (Ready v i 0) h stands from in
@@ -243,7 +236,7 @@ keeps_takes_empty t v i base words views id view room h stands from found =
     whole_cell t base words views id i view now v 0 h stands there hand.1 found seen.0 (ap in_hand from) refl tt tt refl tt
     (met_same (drop t.cells words) view now (met_is t base words views id view h stands) refl refl)
 
-pub keeps_displaces : (t : Table) (v i s : ℕ) → s ≢ 0 → IsKept t (Ready v i s) i s v (Carrying s (i + 1)) Quiet
+pub keeps_displaces : (t : Table) (v i s : ℕ) → s ≢ 0 → KeepsInvariant t (Ready v i s) i s v (Carrying s (i + 1)) Quiet
 keeps_displaces t v i s some base words views id view room h stands from found =
     let cells = take t.cells words in
     let hand = hand_is t base words views id view (Ready v i s) h stands from in
@@ -256,7 +249,7 @@ keeps_displaces t v i s some base words views id view room h stands from found =
     whole_cell t base words views id i view now v s h stands there hand.1 found seen.0 (ap in_hand from) refl (some, onward) tt refl tt
     (met_same (drop t.cells words) view now (met_is t base words views id view h stands) refl refl)
 
-pub keeps_row : (t : Table) (from : CastState) (word found left : ℕ) (new : CastState) (note : CastNote) → CastRow t from word found left new note → IsKept t from word found left new note
+pub keeps_row : (t : Table) (from : CastState) (word found left : ℕ) (new : CastState) (note : CastNote) → CastRow t from word found left new note → KeepsInvariant t from word found left new note
 keeps_row t from word found left new note (claim_won x k) = keeps_claim_won t x k
 keeps_row t from word found left new note (claim_met x k) = keeps_claim_met t x k
 keeps_row t from word found left new note (claim_passed x k f some other more) = keeps_claim_passed t x k f some other more

@@ -1,23 +1,15 @@
 -- Any step keeps the casting invariant, the first step of a number too.
 use Rattle.std.proofs.Common.{◌≡◌, ◌≢◌, ℕ, ◌<◌, Some, List, length, get_or, set, take, drop, refl, sym, ap, ◌∙◌, subst, arith}
-use Rattle.std.proofs.lemmas.List.{get_or-take, get_or_default, set-get_or, set-set}
-use Rattle.std.proofs.lemmas.Option.{get_or_from_slice_get}
-use Rattle.std.specs.List.{Contains}
-use Rattle.std.specs.Prelude.{slice_get}
+use Rattle.store_spec.proofs.Common.{Carrying, CastInvariant, CastNote, CastRow, CastState, CastView, Claimed, Contains, Falls, GoesFrom, HasRoomFor, MayStand, Placed, Probing, Ready, Rest, Table, Taken, cast_act, cast_measure, cast_number, cast_view_after, claim_met, claim_passed, claim_won, claims_full, displaces, get_or-take, get_or_default, get_or_from_slice_get, in_hand, look_passes, look_ready, lost_passes, lost_ready, set-get_or, slice_get, takes_empty, word_of}
+use Rattle.std.proofs.lemmas.List.{set-set}
 use Rattle.step_core.proofs.CastHands.{cells_size, hand_fits, hand_nowhere}
 use Rattle.step_core.proofs.CastMeasure.{IsSteady, measure_falls}
 use Rattle.step_core.proofs.CastRows.{hand_is, keeps_row, met_is, probing_is, seen_is, whole_still}
 use Rattle.step_core.proofs.CastClaims.{met_same}
 use Rattle.step_core.proofs.Sets.{stands-set}
 use Rattle.step_core.specs.CastTables.{FitsIn, MayFind}
-use Rattle.store_spec.specs.Act.{word_of}
-use Rattle.store_spec.specs.CastInvariant.{CastInvariant, HasRoomFor, in_hand}
-use Rattle.store_spec.specs.CastStep.{CastNote, CastRow, CastState, CastStep, CastView, GoesFrom, Table, cast_act, cast_measure, cast_number, cast_view_after}
-use Rattle.store_spec.specs.CastStep.CastNote.{Quiet, Claimed, Taken, Full, Placed}
-use Rattle.store_spec.specs.CastStep.CastRow.{claim_won, claim_met, claim_passed, claims_full, look_passes, look_ready, takes_empty, displaces, lost_passes, lost_ready}
-use Rattle.store_spec.specs.Layout.{MayStand}
-use Rattle.store_spec.specs.Measure.{Falls}
-use Rattle.store_spec.specs.CastStep.CastState.{Rest, Probing, Carrying, Ready}
+use Rattle.store_spec.specs.CastStep.{CastStep}
+use Rattle.store_spec.specs.CastStep.CastNote.{Quiet, Full}
 
 -- the word of a row is that of the state's act
 pub word_of_row : (t : Table) (from : CastState) (word found left : ℕ) (new : CastState) (note : CastNote) → CastRow t from word found left new note → word ≡ word_of (cast_act t from)

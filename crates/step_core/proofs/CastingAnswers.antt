@@ -1,16 +1,9 @@
 -- Answers of a tabulator, and what they add to its view.
 use Rattle.std.proofs.Common.{◌≡◌, ◌≢◌, ◌==◌, if◌then◌else◌, Bool, true, false, ℕ, suc, ⊎_elim, List, [], ◌∷◌, ◌++◌, length, get_or, drop, map, refl, sym, ap, ◌∙◌, subst, arith}
-use Rattle.std.proofs.lemmas.Bool.{both_ways, cases_Bool, cases_eq, cond-false, cond-true, eq-eqb, eqb-true, ne_eqb}
-use Rattle.std.proofs.lemmas.List.{get_or_default, map-append}
-use Rattle.std.proofs.lemmas.List.Elements.{All-cons, All-head, All-nil, All-tail, All-weaker, filter-append}
-use Rattle.std.proofs.lemmas.List.Folds.{Any-from_list_any, list_any_at}
-use Rattle.std.specs.List.{All, Contains, filter, list_any}
+use Rattle.store_spec.proofs.Common.{All, All-cons, All-head, All-nil, All-tail, All-weaker, Answer, Any-from_list_any, Contains, Held, Met, Rest, Table, both_ways, cases_Bool, cases_eq, cond-false, cond-true, eq-eqb, eqb-true, filter, filter-append, get_or_default, list_any, list_any_at, map-append, ne_eqb, numbers_that}
 use Rattle.step_core.specs.Casting.{answers_at_once}
 use Rattle.step_core.specs.CastingInvariant.{IsNext}
-use Rattle.store_spec.specs.CastStep.{Table}
-use Rattle.store_spec.specs.CastStep.CastState.{Rest}
-use Rattle.store_spec.specs.Phase.{Answer, Met, numbers_that}
-use Rattle.store_spec.specs.Phase.Met.{Held, Full}
+use Rattle.store_spec.specs.Phase.Met.{Full}
 
 -- ---- whether a number is of the base
 
@@ -68,11 +61,11 @@ next_by t base x xs answers some rest (first_held h) = rest
 next_by t base x xs answers some rest (first_full h e) = rest
 next_by t base x xs answers some rest (first_steps h d) = record { some = some; not_held = h; claims = omega arith }
 
-pub next_settled : (t : Table) (base xs : List ℕ) → All (λ x. x ≢ 0) xs → IsNext t base Rest (drop (length (answers_at_once base t.claims xs)) xs)
-next_settled t base [] some = tt
-next_settled t base (x ∷ xs) some =
+pub next_caught_up : (t : Table) (base xs : List ℕ) → All (λ x. x ≢ 0) xs → IsNext t base Rest (drop (length (answers_at_once base t.claims xs)) xs)
+next_caught_up t base [] some = tt
+next_caught_up t base (x ∷ xs) some =
     next_by t base x xs (answers_at_once base t.claims (x ∷ xs)) (All-head (λ y. y ≢ 0) x xs some)
-    (next_settled t base xs (All-tail (λ y. y ≢ 0) x xs some)) (first_is base t.claims x xs)
+    (next_caught_up t base xs (All-tail (λ y. y ≢ 0) x xs some)) (first_is base t.claims x xs)
 
 -- ---- the numbers that met something of a kind
 

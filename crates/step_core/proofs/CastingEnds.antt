@@ -1,30 +1,20 @@
 -- A casting phase at its opening and at its end, and the measure of its tabulators.
 use Rattle.std.proofs.Common.{◌≡◌, ◌≢◌, true, ℕ, ◌+◌, ◌^◌, ⊎_elim, Some, List, [], ◌++◌, length, get_or, drop, map, replicate, refl, sym, ◌∙◌, subst, arith}
+use Rattle.store_spec.proofs.Common.{All, All-append, All-contains, All-map, All-nil, All-weaker, AllPairs, Answer, CastView, Contains, Contains-append_cases, Contains-append_right, Contains-get_or, EachOnce, HasMet, HasRoom, Held, IsClaimed, IsPermutation, IsPermutation-refl, Met, Rest, accepted_of, ascending, home_of, layout_of, length-append, length-replicate, numbers_that, slice_get, slice_get-get_or}
 use Rattle.probe_order.specs.Below.{home_of-lt}
-use Rattle.std.proofs.lemmas.List.{length-append, length-replicate}
-use Rattle.std.proofs.lemmas.List.Elements.{All-append, All-contains, All-map, All-nil, All-weaker, Contains-append_cases, Contains-append_right, Contains-get_or}
-use Rattle.std.proofs.lemmas.List.Sorted.{IsPermutation-refl}
-use Rattle.std.proofs.lemmas.Option.{slice_get-get_or}
-use Rattle.std.specs.List.{All, AllPairs, Contains}
-use Rattle.std.specs.List.Sorted.{IsPermutation}
-use Rattle.std.specs.Prelude.{slice_get}
 use Rattle.step_core.proofs.CastAtRest.{accepted_once, full_for, rest_layout, same-back, same-contains}
-use Rattle.step_core.proofs.CastOpening.{IsIdle, fresh_met, layout_holds, opening_idle, weighs_ascending}
+use Rattle.step_core.proofs.CastOpening.{IsIdle, fresh_met, layout_weighs, opening_idle, weighs_ascending}
 use Rattle.step_core.proofs.CastingAnswers.{numbers-contains}
-use Rattle.step_core.proofs.CastingSteps.{IsAnswering, has_room, tab_settled}
-use Rattle.step_core.proofs.CastingViews.{settled_accepted, settled_met}
+use Rattle.step_core.proofs.CastingSteps.{IsAnswering, has_room, tab_caught_up}
+use Rattle.step_core.proofs.CastingViews.{caught_up_accepted, caught_up_met}
+use Rattle.step_core.proofs.SameNumbers.{hold}
 use Rattle.step_core.proofs.Sets.{at_place, contains-flat_map, distinct_once, flat_map-map, is_one, once_distinct, stands-map}
-use Rattle.step_core.specs.Casting.{Casting, HasEnded, IsDone, MayOpen, Tabulator, answers_in, cells_in, opened, settled, table_in}
+use Rattle.step_core.specs.Casting.{Casting, HasEnded, IsDone, MayOpen, Tabulator, answers_in, cells_in, opened, caught_up, table_in}
 use Rattle.step_core.specs.CastingInvariant.{IsCasting, IsTabulator, TellsBase, is_full, is_taken, view_of}
 use Rattle.layout_def.proofs.Ascending.{contains_from_in, from_ascending, in_from_contains, length-ascending}
 use Rattle.layout_def.proofs.LaidOut.{layout_of_is}
-use Rattle.store_spec.specs.CastInvariant.{EachOnce, HasMet, IsClaimed, accepted_of}
-use Rattle.store_spec.specs.CastStep.{CastView}
-use Rattle.store_spec.specs.CastStep.CastState.{Rest}
-use Rattle.store_spec.specs.Home.{home_of}
-use Rattle.store_spec.specs.Layout.{HasRoom, ascending, layout_of}
-use Rattle.store_spec.specs.Phase.{Answer, CastOutcome, IsRightlyMet, MayBeMetBefore, Met, numbers_accepted, is_met_accepted, numbers_that}
-use Rattle.store_spec.specs.Phase.Met.{Held, Accepted, Taken, Full}
+use Rattle.store_spec.specs.Phase.{CastOutcome, IsRightlyMet, MayBeMetBefore, numbers_accepted, is_met_accepted}
+use Rattle.store_spec.specs.Phase.Met.{Accepted, Taken, Full}
 
 -- ---- the opening
 
@@ -40,15 +30,15 @@ once_ascending start distinct v some = omega (arith, weighs_ascending (is_one v)
 no_answers : (base : List ℕ) → IsAnswering base []
 no_answers base = record { tells_base = All-nil (λ (a : Answer). TellsBase base a.number a.met); in_order = λ i j d lt within. absurd (omega arith) }
 
-idle_tab : (base : List ℕ) (claims : ℕ) (list : List ℕ) → IsIdle (replicate claims 0) (view_of (settled base claims (record { state = Rest; answers = []; left = list })))
+idle_tab : (base : List ℕ) (claims : ℕ) (list : List ℕ) → IsIdle (replicate claims 0) (view_of (caught_up base claims (record { state = Rest; answers = []; left = list })))
 idle_tab base claims list =
     let tab : Tabulator = record { state = Rest; answers = []; left = list } in
     let words = replicate claims 0 in
     let none_met = fresh_met words in
     record {
       rests = refl;
-      no_accepted = settled_accepted base claims tab;
-      met = subst (λ (n : ℕ). HasMet words (view_of (settled base n tab))) (length-replicate claims 0) (settled_met base words tab none_met);
+      no_accepted = caught_up_accepted base claims tab;
+      met = subst (λ (n : ℕ). HasMet words (view_of (caught_up base n tab))) (length-replicate claims 0) (caught_up_met base words tab none_met);
     }
 
 pub opened_is : (bits salt limit : ℕ) (start : List ℕ) (lists : List (List ℕ)) → MayOpen bits limit start lists → IsCasting (opened bits salt limit start lists)
@@ -66,18 +56,18 @@ opened_is bits salt limit start lists may =
     } in
     let layout = layout_of_is home (2 ^ bits) size start room in
     let cells = layout_of home size start in
-    let begin = λ (list : List ℕ). let tab : Tabulator = record { state = Rest; answers = []; left = list } in settled c.base t.claims tab in
+    let begin = λ (list : List ℕ). let tab : Tabulator = record { state = Rest; answers = []; left = list } in caught_up c.base t.claims tab in
     record {
       few_bits = may.few_bits;
       within_limit = omega (arith, length-ascending start);
       some = some_ascending start may.some;
       invariant = opening_idle t c.base cells (map view_of c.tabs) layout.ordered layout.size
-          (λ weight none. layout_holds home (2 ^ bits) size start room weight none ∙ sym (weighs_ascending weight start))
+          (hold (λ weight none. layout_weighs home (2 ^ bits) size start room weight none ∙ sym (weighs_ascending weight start)))
           (once_ascending start may.distinct)
           (All-map (IsIdle (replicate t.claims 0)) view_of c.tabs
           (All-map (λ tab. IsIdle (replicate t.claims 0) (view_of tab)) begin lists (λ k d within. idle_tab c.base t.claims (get_or lists k d))));
       tabs = All-map (IsTabulator t c.base) begin lists
-          (λ k d within. tab_settled t c.base [] (get_or lists k d) (may.listed k d within) (no_answers c.base));
+          (λ k d within. tab_caught_up t c.base [] (get_or lists k d) (may.listed k d within) (no_answers c.base));
     }
 
 -- ---- the end

@@ -1,19 +1,12 @@
 -- The numbers that a tabulator has answered, and then those that are left, are its list, whatever steps are made.
 use Rattle.std.proofs.Common.{◌≡◌, ℕ, List, [], ◌∷◌, ◌++◌, length, set, drop, map, refl, sym, ap, ◌∙◌, ◌-◌}
-use Rattle.std.proofs.lemmas.List.{append-nil, append_assoc, map-append, map-set, set-get_or}
-use Rattle.std.proofs.lemmas.List.Elements.{All-head, All-tail}
-use Rattle.std.proofs.lemmas.Option.{get_or_from_slice_get}
-use Rattle.std.specs.List.{All}
+use Rattle.store_spec.proofs.Common.{All, All-head, All-tail, Answer, Carrying, CastNote, CastState, Met, Probing, Ready, Rest, append-nil, append_assoc, ascending, get_or_from_slice_get, map-append, map-set, set-get_or}
 use Rattle.step_core.proofs.CastingAnswers.{FirstIs, first_is}
 use Rattle.step_core.proofs.CastingAnswers.FirstIs.{first_held, first_full, first_steps}
 use Rattle.step_core.proofs.Schedules.{runs_keep}
 use Rattle.step_core.proofs.Sets.{stands-map}
-use Rattle.step_core.specs.Casting.{Casting, IsDone, IsDoneAt, Runs, Steps, Tabulator, after_step, answered_in, answers_at_once, first_answered, list_of, lists_in, opened, opened_tab, settled, told}
-use Rattle.store_spec.specs.CastStep.{CastNote, CastState}
+use Rattle.step_core.specs.Casting.{Casting, IsDone, IsDoneAt, Runs, Steps, Tabulator, after_step, answered_in, answers_at_once, first_answered, list_of, lists_in, opened, opened_tab, caught_up, told}
 use Rattle.store_spec.specs.CastStep as notes
-use Rattle.store_spec.specs.CastStep.CastState.{Rest, Probing, Carrying, Ready}
-use Rattle.store_spec.specs.Layout.{ascending}
-use Rattle.store_spec.specs.Phase.{Answer, Met}
 use Rattle.store_spec.specs.Phase.Met.{Accepted, Taken, Full}
 
 abbrev numbers : List Answer → List ℕ
@@ -30,8 +23,8 @@ at_once_numbers : (base : List ℕ) (claims : ℕ) (xs : List ℕ) → numbers (
 at_once_numbers base claims [] = refl
 at_once_numbers base claims (x ∷ xs) = at_once_by base claims x xs (answers_at_once base claims (x ∷ xs)) (at_once_numbers base claims xs) (first_is base claims x xs)
 
-settled_list : (base : List ℕ) (claims : ℕ) (tab : Tabulator) → list_of (settled base claims tab) ≡ list_of tab
-settled_list base claims tab =
+caught_up_list : (base : List ℕ) (claims : ℕ) (tab : Tabulator) → list_of (caught_up base claims tab) ≡ list_of tab
+caught_up_list base claims tab =
     let more = answers_at_once base claims tab.left in
     ap (λ l. l ++ drop (length more) tab.left) (map-append (λ (a : Answer). a.number) tab.answers more)
     ∙ append_assoc (numbers tab.answers) (numbers more) (drop (length more) tab.left)
@@ -53,7 +46,7 @@ told_list notes.Full tab = answered_list Full tab.answers tab.left
 told_list notes.Placed tab = refl
 
 after_list : (base : List ℕ) (claims : ℕ) (tab : Tabulator) (new : CastState) (note : CastNote) → list_of (after_step base claims tab new note) ≡ list_of tab
-after_list base claims tab Rest note = settled_list base claims (told note (record tab { state = Rest })) ∙ told_list note (record tab { state = Rest })
+after_list base claims tab Rest note = caught_up_list base claims (told note (record tab { state = Rest })) ∙ told_list note (record tab { state = Rest })
 after_list base claims tab (Probing x k) note = told_list note (record tab { state = Probing x k })
 after_list base claims tab (Carrying v i) note = told_list note (record tab { state = Carrying v i })
 after_list base claims tab (Ready v i s) note = told_list note (record tab { state = Ready v i s })
@@ -73,7 +66,7 @@ steps_list c id now s =
 opened_each : (base : List ℕ) (claims : ℕ) (lists : List (List ℕ)) → map list_of (map (opened_tab base claims) lists) ≡ lists
 opened_each base claims [] = refl
 opened_each base claims (list ∷ lists) =
-    ap (λ l. l ∷ map list_of (map (opened_tab base claims) lists)) (settled_list base claims (record { state = Rest; answers = []; left = list }))
+    ap (λ l. l ∷ map list_of (map (opened_tab base claims) lists)) (caught_up_list base claims (record { state = Rest; answers = []; left = list }))
     ∙ ap (λ ls. list ∷ ls) (opened_each base claims lists)
 
 pub opened_lists : (bits salt limit : ℕ) (start : List ℕ) (lists : List (List ℕ)) → lists_in (opened bits salt limit start lists) ≡ lists

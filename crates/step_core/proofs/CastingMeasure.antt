@@ -1,17 +1,11 @@
 -- The measure of the acting tabulator falls at each step, and what holds at the opening holds after every schedule.
 use Rattle.std.proofs.Common.{◌≡◌, ℕ, ◌<◌, ◌≤◌, inl, inr, ⊎_elim, Some, List, [], ◌∷◌, length, get_or, set, drop, map, refl, sym, subst, arith}
-use Rattle.std.proofs.lemmas.Bool.{cases_lt}
-use Rattle.std.proofs.lemmas.List.{length-drop}
-use Rattle.std.specs.Prelude.{slice_get}
+use Rattle.store_spec.proofs.Common.{Carrying, CastNote, CastRow, CastState, Falls, Probing, Ready, Rest, Table, cases_lt, cast_measure, claim_met, claim_passed, claim_won, claims_full, displaces, length-drop, look_passes, look_ready, lost_passes, lost_ready, slice_get, takes_empty}
 use Rattle.step_core.proofs.CastSteps.{begins, begun, falls_at}
-use Rattle.step_core.proofs.CastingSteps.{goes_from, has_room, no_row, steps_keep, told_state}
+use Rattle.step_core.proofs.CastingSteps.{goes_from, has_room, no_row, told_state}
 use Rattle.step_core.proofs.Sets.{at_place, stands-map, stands-set}
-use Rattle.step_core.specs.Casting.{Casting, Runs, Steps, Tabulator, after_step, answers_at_once, next_from, table_in}
+use Rattle.step_core.specs.Casting.{Casting, Steps, Tabulator, after_step, answers_at_once, next_from, table_in}
 use Rattle.step_core.specs.CastingInvariant.{FallsAt, IsCasting, IsTabulator, not_begun, view_of}
-use Rattle.store_spec.specs.CastStep.{CastNote, CastRow, CastState, Table, cast_measure}
-use Rattle.store_spec.specs.CastStep.CastRow.{claim_won, claim_met, claim_passed, claims_full, look_passes, look_ready, takes_empty, displaces, lost_passes, lost_ready}
-use Rattle.store_spec.specs.CastStep.CastState.{Rest, Probing, Carrying, Ready}
-use Rattle.store_spec.specs.Measure.{Falls}
 
 -- ---- the numbers that were not begun
 

@@ -1,8 +1,6 @@
 -- Whole schedules of a casting phase: what a step finds decides the rest of its row, so that a schedule has one run.
-use Rattle.std.proofs.Common.{◌≡◌, ◌≢◌, if◌then◌else◌, ◌==◌, ℕ, ◌+◌, ◌<◌, List, [], ◌∷◌, get_or, set, Option, Some, refl, sym, ap, ◌∙◌, subst, arith}
-use Rattle.std.proofs.lemmas.Bool.{cond-true, cond-false, eq-eqb, ne_eqb, le-ltb, lt-ltb}
-use Rattle.std.specs.Option.{IsSomeAnd}
-use Rattle.std.specs.Prelude.{nat_lt, slice_get}
+use Rattle.std.proofs.Common.{◌≡◌, ◌≢◌, if◌then◌else◌, ◌==◌, ℕ, ◌+◌, ◌<◌, List, get_or, set, Option, Some, refl, sym, ap, ◌∙◌, subst, arith}
+use Rattle.store_spec.proofs.Common.{Carrying, CastNote, CastRow, CastState, Claimed, IsSomeAnd, Placed, Probing, Ready, Rest, Table, Taken, claim_met, claim_passed, claim_won, claim_word, claims_full, cond-false, cond-true, displaces, eq-eqb, le-ltb, look_passes, look_ready, lost_passes, lost_ready, lt-ltb, nat_lt, ne_eqb, slice_get, takes_empty}
 use Rattle.step_core.proofs.CastSteps.{word_of_row}
 use Rattle.step_core.proofs.CastingSteps.{no_row, steps_keep}
 use Rattle.step_core.proofs.CoreSteps.{may_step}
@@ -10,10 +8,7 @@ use Rattle.step_core.proofs.Schedules as schedules
 use Rattle.step_core.specs.CastTables.{FitsIn}
 use Rattle.step_core.specs.Casting.{Casting, IsDone, IsDoneAt, Runs, Steps, Tabulator, after_step, next_from, table_in}
 use Rattle.step_core.specs.CastingInvariant.{IsCasting}
-use Rattle.store_spec.specs.CastStep.{CastNote, CastRow, CastState, Table, claim_word}
-use Rattle.store_spec.specs.CastStep.CastNote.{Quiet, Claimed, Taken, Full, Placed}
-use Rattle.store_spec.specs.CastStep.CastRow.{claim_won, claim_met, claim_passed, claims_full, look_passes, look_ready, takes_empty, displaces, lost_passes, lost_ready}
-use Rattle.store_spec.specs.CastStep.CastState.{Rest, Probing, Carrying, Ready}
+use Rattle.store_spec.specs.CastStep.CastNote.{Quiet, Full}
 
 -- ---- the rows as a function of the state and the word that is found
 

@@ -1,28 +1,21 @@
 -- Each step of a casting phase keeps what holds of it at every moment.
 use Rattle.std.proofs.Common.{◌≡◌, ◌≢◌, true, ℕ, ◌+◌, ◌^◌, Some, List, [], ◌∷◌, ◌++◌, length, get_or, set, drop, map, refl, sym, ap, ◌∙◌, subst, arith}
+use Rattle.store_spec.proofs.Common.{All, All-append, All-push, All-set, All-weaker, AllPairs, Answer, Carrying, CastInvariant, CastNote, CastRow, CastState, CastView, Contains, GoesFrom, HasRoomFor, Held, Met, Probing, Ready, Rest, Table, all_pairs_push, cast_act, cast_number, cast_view_after, claim_met, claim_passed, claim_won, claim_word, claims_full, displaces, look_passes, look_ready, lost_passes, lost_ready, map-set, numbers_that, slice_get, takes_empty, word_of}
 use Rattle.probe_order.specs.Below.{home_of-lt}
-use Rattle.std.proofs.lemmas.List.{map-set, set-set}
-use Rattle.std.proofs.lemmas.List.Elements.{All-append, All-drop, All-push, All-set, All-weaker}
-use Rattle.std.proofs.lemmas.List.Quantifiers.{all_pairs_push}
-use Rattle.std.specs.List.{All, AllPairs, Contains}
-use Rattle.std.specs.Prelude.{slice_get}
+use Rattle.std.proofs.lemmas.List.{set-set}
+use Rattle.std.proofs.lemmas.List.Elements.{All-drop}
 use Rattle.step_core.proofs.CastAtRest.{IsNewIn, claim_is_new}
 use Rattle.step_core.proofs.CastRows.{probing_is}
 use Rattle.step_core.proofs.CastSteps.{begins, begun, keeps_step, word_of_row}
-use Rattle.step_core.proofs.CastingAnswers.{IsAtOnce, at_once, next_settled, numbers-contains}
+use Rattle.step_core.proofs.CastingAnswers.{IsAtOnce, at_once, next_caught_up, numbers-contains}
 use Rattle.step_core.proofs.CastingAnswers.IsAtOnce.{is_full_for, is_held}
-use Rattle.step_core.proofs.CastingViews.{AnswersFirst, keeps_settled, view_told}
+use Rattle.step_core.proofs.CastingViews.{AnswersFirst, keeps_caught_up, view_told}
 use Rattle.step_core.proofs.Sets.{AllPairs-append, at_place, stands-map, stands-set}
-use Rattle.step_core.specs.Casting.{Casting, Steps, Tabulator, after_step, answers_at_once, first_answered, next_from, settled, table_in, told}
+use Rattle.step_core.specs.Casting.{Casting, Steps, Tabulator, after_step, answers_at_once, first_answered, next_from, caught_up, table_in, told}
 use Rattle.step_core.specs.CastingInvariant.{IsCasting, IsNext, IsTabulator, TellsBase, is_full, is_taken, view_of}
-use Rattle.store_spec.specs.Act.{word_of}
-use Rattle.store_spec.specs.CastInvariant.{CastInvariant, HasRoomFor}
-use Rattle.store_spec.specs.CastStep.{CastNote, CastRow, CastState, CastView, GoesFrom, MayBegin, Table, cast_act, claim_word, cast_number, cast_view_after}
 use Rattle.store_spec.specs.CastStep as notes
-use Rattle.store_spec.specs.CastStep.CastRow.{claim_won, claim_met, claim_passed, claims_full, look_passes, look_ready, takes_empty, displaces, lost_passes, lost_ready}
-use Rattle.store_spec.specs.CastStep.CastState.{Rest, Probing, Carrying, Ready}
-use Rattle.store_spec.specs.Phase.{Answer, MayBeMetBefore, Met, is_met_accepted, numbers_that}
-use Rattle.store_spec.specs.Phase.Met.{Held, Accepted, Taken, Full}
+use Rattle.store_spec.specs.Phase.{MayBeMetBefore, is_met_accepted}
+use Rattle.store_spec.specs.Phase.Met.{Accepted, Taken, Full}
 
 -- a cell for each home, each number of the base and each claim word
 pub has_room : (c : Casting) → IsCasting c → HasRoomFor (table_in c) c.base
@@ -83,8 +76,8 @@ told_state notes.Placed tab = refl
 invariant_after : (t : Table) (base words : List ℕ) (views : List CastView) (id : ℕ) (view : CastView) (tab : Tabulator) (new : CastState) (note : CastNote) → slice_get views id ≡ Some view → CastInvariant t base words (set views id (view_of (told note (record tab { state = new })))) → CastInvariant t base words (set views id (view_of (after_step base t.claims tab new note)))
 invariant_after t base words views id view tab Rest note stands h =
     let now = told note (record tab { state = Rest }) in
-    subst (CastInvariant t base words) (set-set views id (view_of now) (view_of (settled base t.claims now)))
-    (keeps_settled t base words (set views id (view_of now)) id now h (stands-set views id view (view_of now) stands) (told_state note (record tab { state = Rest })))
+    subst (CastInvariant t base words) (set-set views id (view_of now) (view_of (caught_up base t.claims now)))
+    (keeps_caught_up t base words (set views id (view_of now)) id now h (stands-set views id view (view_of now) stands) (told_state note (record tab { state = Rest })))
 invariant_after t base words views id view tab (Probing x k) note stands h = h
 invariant_after t base words views id view tab (Carrying v i) note stands h = h
 invariant_after t base words views id view tab (Ready v i s) note stands h = h
@@ -111,8 +104,8 @@ at_once_follows : (base : List ℕ) (claims : ℕ) (earlier : Answer) (x : ℕ) 
 at_once_follows base claims earlier x met (is_held y h) = λ is. absurd cc
 at_once_follows base claims earlier x met (is_full_for y h e) = λ is. absurd cc
 
-pub answers_settled : (base : List ℕ) (claims : ℕ) (answers : List Answer) (xs : List ℕ) → IsAnswering base answers → IsAnswering base (answers ++ answers_at_once base claims xs)
-answers_settled base claims answers xs h =
+pub answers_caught_up : (base : List ℕ) (claims : ℕ) (answers : List Answer) (xs : List ℕ) → IsAnswering base answers → IsAnswering base (answers ++ answers_at_once base claims xs)
+answers_caught_up base claims answers xs h =
     let more = answers_at_once base claims xs in
     let once = at_once base claims xs in
     let AtOnce : Answer → Type 0 = λ a. IsAtOnce base claims a.number a.met in
@@ -150,12 +143,12 @@ new_among base answers x h not_base new k d within =
 pub tabulator : (t : Table) (base : List ℕ) (tab : Tabulator) → All (λ x. x ≢ 0) tab.left → IsNext t base tab.state tab.left → IsAnswering base tab.answers → IsTabulator t base tab
 tabulator t base tab some next answering = record { some = some; next = next; tells_base = answering.tells_base; in_order = answering.in_order }
 
-pub tab_settled : (t : Table) (base : List ℕ) (answers : List Answer) (left : List ℕ) → All (λ x. x ≢ 0) left → IsAnswering base answers → IsTabulator t base (settled base t.claims (record { state = Rest; answers = answers; left = left }))
-tab_settled t base answers left some answering =
+pub tab_caught_up : (t : Table) (base : List ℕ) (answers : List Answer) (left : List ℕ) → All (λ x. x ≢ 0) left → IsAnswering base answers → IsTabulator t base (caught_up base t.claims (record { state = Rest; answers = answers; left = left }))
+tab_caught_up t base answers left some answering =
     let tab : Tabulator = record { state = Rest; answers = answers; left = left } in
-    let now = settled base t.claims tab in
+    let now = caught_up base t.claims tab in
     tabulator t base now (All-drop (λ x. x ≢ 0) (length (answers_at_once base t.claims left)) left some)
-    (next_settled t base left some) (answers_settled base t.claims answers left answering)
+    (next_caught_up t base left some) (answers_caught_up base t.claims answers left answering)
 
 -- what a row leaves of a tabulator whose first number is tried by it
 module _ (t : Table) (base : List ℕ) (tab : Tabulator) (some : All (λ x. x ≢ 0) tab.left) (answering : IsAnswering base tab.answers) where
@@ -170,18 +163,18 @@ module _ (t : Table) (base : List ℕ) (tab : Tabulator) (some : All (λ x. x �
   tab_after from word found put new note (claim_won x k) first not_base is_new =
       tabulator t base (told notes.Claimed (record tab { state = Carrying x (t.home x) })) rest_some tt (one_more x Accepted (first x k refl) (not_base x k refl) (λ is. is_new x k refl refl))
   tab_after from word found put new note (claim_met x k) first not_base is_new =
-      tab_settled t base (first_answered Taken tab.answers tab.left) (drop 1 tab.left) rest_some
+      tab_caught_up t base (first_answered Taken tab.answers tab.left) (drop 1 tab.left) rest_some
       (one_more x Taken (first x k refl) (not_base x k refl) (λ is. absurd cc))
   tab_after from word found put new note (claim_passed x k f f_some other more) first not_base is_new =
       let head = first x k refl in
       tabulator t base (record tab { state = Probing x (k + 1) }) some
       (subst (IsNext t base (Probing x (k + 1))) (sym head.1) refl) answering
   tab_after from word found put new note (claims_full x k f f_some other last) first not_base is_new =
-      tab_settled t base (first_answered Full tab.answers tab.left) (drop 1 tab.left) rest_some
+      tab_caught_up t base (first_answered Full tab.answers tab.left) (drop 1 tab.left) rest_some
       (one_more x Full (first x k refl) (not_base x k refl) (λ is. absurd cc))
   tab_after from word found put new note (look_passes v i f greater) first not_base is_new = tabulator t base (record tab { state = Carrying v (i + 1) }) some tt answering
   tab_after from word found put new note (look_ready v i f less) first not_base is_new = tabulator t base (record tab { state = Ready v i f }) some tt answering
-  tab_after from word found put new note (takes_empty v i) first not_base is_new = tab_settled t base tab.answers tab.left some answering
+  tab_after from word found put new note (takes_empty v i) first not_base is_new = tab_caught_up t base tab.answers tab.left some answering
   tab_after from word found put new note (displaces v i s s_some) first not_base is_new = tabulator t base (record tab { state = Carrying s (i + 1) }) some tt answering
   tab_after from word found put new note (lost_passes v i s f lost greater) first not_base is_new = tabulator t base (record tab { state = Carrying v (i + 1) }) some tt answering
   tab_after from word found put new note (lost_ready v i s f lost less) first not_base is_new = tabulator t base (record tab { state = Ready v i f }) some tt answering

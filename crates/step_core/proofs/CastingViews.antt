@@ -1,20 +1,13 @@
 -- What the answers of a step and those that need none do to a tabulator's view.
 use Rattle.std.proofs.Common.{◌≡◌, Bool, true, false, ℕ, ◌<◌, Some, List, [], ◌∷◌, ◌++◌, length, set, take, drop, refl, sym, ap, ◌∙◌, subst, arith}
-use Rattle.std.proofs.lemmas.List.{append-nil}
-use Rattle.std.proofs.lemmas.List.Elements.{All-append, All-weaker}
-use Rattle.std.specs.List.{All}
-use Rattle.std.specs.Prelude.{slice_get}
+use Rattle.store_spec.proofs.Common.{All, All-append, All-weaker, Answer, CastInvariant, CastNote, CastState, CastView, HasMet, HasSeen, HoldsOther, IsClaimed, IsHand, IsProbing, Met, Rest, Table, append-nil, cast_view_after, is_met_accepted, numbers_that, slice_get}
 use Rattle.step_core.proofs.CastHands.{claims_size}
 use Rattle.step_core.proofs.CastRows.{met_is, whole_still}
 use Rattle.step_core.proofs.CastingAnswers.{All-numbers, IsAtOnce, at_once, numbers-append, numbers-no, numbers-none, numbers-yes}
 use Rattle.step_core.proofs.CastingAnswers.IsAtOnce.{is_full_for, is_held}
-use Rattle.step_core.specs.Casting.{Tabulator, answers_at_once, first_answered, settled, told}
+use Rattle.step_core.specs.Casting.{Tabulator, answers_at_once, first_answered, caught_up, told}
 use Rattle.step_core.specs.CastingInvariant.{is_full, is_taken, view_of}
-use Rattle.store_spec.specs.CastInvariant.{CastInvariant, HasMet, HasSeen, HoldsOther, IsClaimed, IsHand, IsProbing}
-use Rattle.store_spec.specs.CastStep.{CastNote, CastState, CastView, Table, cast_view_after}
 use Rattle.store_spec.specs.CastStep as notes
-use Rattle.store_spec.specs.CastStep.CastState.{Rest, Probing, Carrying, Ready}
-use Rattle.store_spec.specs.Phase.{Answer, Met, is_met_accepted, numbers_that}
 use Rattle.store_spec.specs.Phase.Met.{Accepted, Taken, Full}
 
 -- ---- the answer of a step
@@ -94,37 +87,37 @@ same_behind is_such answers base xs claims none =
     ∙ ap (λ ys. numbers_that is_such answers ++ ys) (none_at_once is_such base xs claims none)
     ∙ append-nil (numbers_that is_such answers)
 
-pub settled_accepted : (base : List ℕ) (claims : ℕ) (tab : Tabulator) → numbers_that is_met_accepted (settled base claims tab).answers ≡ numbers_that is_met_accepted tab.answers
-settled_accepted base claims tab = same_behind is_met_accepted tab.answers base tab.left claims (not_accepted base claims)
+pub caught_up_accepted : (base : List ℕ) (claims : ℕ) (tab : Tabulator) → numbers_that is_met_accepted (caught_up base claims tab).answers ≡ numbers_that is_met_accepted tab.answers
+caught_up_accepted base claims tab = same_behind is_met_accepted tab.answers base tab.left claims (not_accepted base claims)
 
-pub settled_taken : (base : List ℕ) (claims : ℕ) (tab : Tabulator) → numbers_that is_taken (settled base claims tab).answers ≡ numbers_that is_taken tab.answers
-settled_taken base claims tab = same_behind is_taken tab.answers base tab.left claims (not_taken base claims)
+pub caught_up_taken : (base : List ℕ) (claims : ℕ) (tab : Tabulator) → numbers_that is_taken (caught_up base claims tab).answers ≡ numbers_that is_taken tab.answers
+caught_up_taken base claims tab = same_behind is_taken tab.answers base tab.left claims (not_taken base claims)
 
 -- where there is a claim word, they add nothing to what met full ones; where there is none, that says nothing
-pub settled_met : (base words : List ℕ) (tab : Tabulator) → HasMet words (view_of tab) → HasMet words (view_of (settled base (length words) tab))
-settled_met base words tab h =
+pub caught_up_met : (base words : List ℕ) (tab : Tabulator) → HasMet words (view_of tab) → HasMet words (view_of (caught_up base (length words) tab))
+caught_up_met base words tab h =
     let P : ℕ → Type 0 = λ x. (place : ℕ) → place < length words → HoldsOther words x place in
     let more = answers_at_once base (length words) tab.left in
-    let full_now : numbers_that is_full (settled base (length words) tab).answers ≡ numbers_that is_full tab.answers ++ numbers_that is_full more = numbers-append is_full tab.answers more in
+    let full_now : numbers_that is_full (caught_up base (length words) tab).answers ≡ numbers_that is_full tab.answers ++ numbers_that is_full more = numbers-append is_full tab.answers more in
     let vacuous : All P (numbers_that is_full more) = All-numbers is_full P more
     (All-weaker (λ (a : Answer). IsAtOnce base (length words) a.number a.met) (λ (a : Answer). is_full a.met ≡ true → P a.number)
     (λ a once passes place within. absurd (let none = no_claims base (length words) a.number a.met once passes in omega arith))
     more (at_once base (length words) tab.left)) in
     record {
-      taken = subst (λ (xs : List ℕ). All (IsClaimed words) xs) (sym (settled_taken base (length words) tab)) h.taken;
+      taken = subst (λ (xs : List ℕ). All (IsClaimed words) xs) (sym (caught_up_taken base (length words) tab)) h.taken;
       full = subst (λ (xs : List ℕ). All P xs) (sym full_now) (All-append P (numbers_that is_full tab.answers) (numbers_that is_full more) h.full vacuous);
     }
 
 -- the casting invariant does not mind them
-pub keeps_settled : (t : Table) (base words : List ℕ) (views : List CastView) (id : ℕ) (tab : Tabulator) → CastInvariant t base words views → slice_get views id ≡ Some (view_of tab) → tab.state ≡ Rest → CastInvariant t base words (set views id (view_of (settled base t.claims tab)))
-keeps_settled t base words views id tab h stands rests =
+pub keeps_caught_up : (t : Table) (base words : List ℕ) (views : List CastView) (id : ℕ) (tab : Tabulator) → CastInvariant t base words views → slice_get views id ≡ Some (view_of tab) → tab.state ≡ Rest → CastInvariant t base words (set views id (view_of (caught_up base t.claims tab)))
+keeps_caught_up t base words views id tab h stands rests =
     let claims = drop t.cells words in
     let many : length claims ≡ t.claims = claims_size t base words views h in
-    let now = view_of (settled base t.claims tab) in
-    let met : HasMet claims now = subst (λ (n : ℕ). HasMet claims (view_of (settled base n tab))) many (settled_met base claims tab (met_is t base words views id (view_of tab) h stands)) in
+    let now = view_of (caught_up base t.claims tab) in
+    let met : HasMet claims now = subst (λ (n : ℕ). HasMet claims (view_of (caught_up base n tab))) many (caught_up_met base claims tab (met_is t base words views id (view_of tab) h stands)) in
     whole_still t base words views id (view_of tab) now h stands
     (subst (λ (s : CastState). IsHand t.home (take t.cells words) s) (sym rests) tt)
     (subst (λ (s : CastState). HasSeen (take t.cells words) s) (sym rests) tt)
-    refl (settled_accepted base t.claims tab)
+    refl (caught_up_accepted base t.claims tab)
     (subst (λ (s : CastState). IsProbing t.claims base claims s) (sym rests) tt)
     met

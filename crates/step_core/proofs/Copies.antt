@@ -1,10 +1,7 @@
 -- Counts of copies and of debts: how they go with a place, and what one word or one withdrawer changes.
 use Rattle.std.proofs.Common.{◌≡◌, ◌≢◌, ◌==◌, ℕ, ◌+◌, ◌<◌, ◌≤◌, cond, List, length, get_or, set, take, sym, ap, ◌∙◌, arith}
-use Rattle.std.proofs.Math.Seq.{take-set-lt}
-use Rattle.std.proofs.lemmas.Bool.{eq-eqb, ne_eqb}
-use Rattle.std.proofs.lemmas.List.{get_or-take, length-take, take-set-le, take-take, take_all}
-use Rattle.std.proofs.lemmas.List.Sums.{sum_by-set, sum_by_more, sum_by-take-le}
-use Rattle.store_spec.specs.WithdrawInvariant.{copies, times}
+use Rattle.store_spec.proofs.Common.{copies, eq-eqb, get_or-take, length-take, ne_eqb, sum_by-set, take-set-le, take-set-lt, take-take, times}
+use Rattle.std.proofs.lemmas.List.Sums.{sum_by_more, sum_by-take-le}
 
 -- 1 where a word holds the number, and else 0
 abbrev pub hit : ℕ → ℕ → ℕ

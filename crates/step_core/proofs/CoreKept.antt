@@ -1,12 +1,7 @@
 -- A core keeps what holds of it where one of its tabulators makes a step, or none.
 use Rattle.std.proofs.Common.{◌≡◌, ◌↔◌, Bool, true, [], ℕ, ◌+◌, ◌-◌, ◌^◌, ◌<◌, Some, List, length, get_or, set, map, refl, sym, ap, ◌∙◌, subst, arith}
-use Rattle.std.proofs.lemmas.List.{length-map, map-set, set-get_or}
-use Rattle.std.proofs.lemmas.List.Elements.{All-map, All-set}
-use Rattle.std.proofs.lemmas.Option.{get_or_from_slice_get, slice_get_read, slice_get_within}
-use Rattle.std.specs.List.{All}
-use Rattle.std.specs.Option.{option_map_or}
-use Rattle.std.specs.Prelude.{Vec, slice_get}
-use Rattle.std.specs.declared.alloc.Global.{Global}
+use Rattle.store_spec.proofs.Common.{All, All-map, All-set, Answer, Global, Table, Vec, get_or_from_slice_get, home_of, length-map, map-set, option_map_or, set-get_or, slice_get, slice_get_within}
+use Rattle.std.proofs.lemmas.Option.{slice_get_read}
 use Rattle.step_core.proofs.CastingEnds.{ends}
 use Rattle.step_core.proofs.CastingLists.{steps_list}
 use Rattle.step_core.proofs.CastingMeasure.{steps_fall}
@@ -19,14 +14,11 @@ use Rattle.step_core.specs.CastCoreKept.{IsCoreKept, casting_of}
 use Rattle.step_core.specs.Casting.{Casting, HasEnded, IsDone, Steps, lists_in, mets_at, table_in}
 use Rattle.step_core.specs.CastingInvariant.{FallsAt, IsCasting}
 use Rattle.step_core.specs.Casting as casting
-use Rattle.store_spec.specs.Phase.{Answer}
 use Rattle.step_core.specs.Shape.{table_of}
 use Rattle.step_core.specs.declared.act.Stepped.{Stepped}
 use Rattle.step_core.specs.declared.act.Stepped.TheVariants.{AtRest, Step}
 use Rattle.step_core.specs.declared.cast_core.CastCore.TheInside.{Inside}
 use Rattle.step_core.specs.declared.tabulator.Tabulator.{Tabulator}
-use Rattle.store_spec.specs.CastStep.{Table}
-use Rattle.store_spec.specs.Home.{home_of}
 
 -- one tabulator by itself that is done is all of them
 alone_done : (tabs : List casting.Tabulator) (id : ℕ) (tab : casting.Tabulator) → length tabs ≡ 1 → slice_get tabs id ≡ Some tab → IsDone tab → All IsDone tabs

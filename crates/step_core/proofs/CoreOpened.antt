@@ -1,14 +1,10 @@
 -- What a core is made of is the phase at its opening.
 use Rattle.std.proofs.Common.{◌≡◌, ℕ, ◌+◌, ◌-◌, ◌^◌, ◌<◌, ◌≤◌, List, ◌++◌, length, replicate, take, sym, ap, ◌∙◌, arith}
+use Rattle.store_spec.proofs.Common.{HasRoom, IsNonDecreasing, IsPermutation, ascending, home_of, layout_of, pow_mono, take_all}
 use Rattle.probe_order.specs.Below.{home_of-lt}
-use Rattle.std.proofs.lemmas.List.{take_all}
-use Rattle.std.proofs.Math.Pow.{pow_mono}
-use Rattle.std.specs.List.Sorted.{IsNonDecreasing, IsPermutation}
 use Rattle.step_core.specs.Casting.{Casting, MayOpen, Tabulator, opened, opened_tabs}
 use Rattle.layout_def.proofs.Ascending.{ascending-IsPermutation, ascending_rising, length-ascending}
 use Rattle.layout_def.proofs.LaidOut.{layout_of_is}
-use Rattle.store_spec.specs.Home.{home_of}
-use Rattle.store_spec.specs.Layout.{HasRoom, ascending, layout_of}
 
 -- numbers that are sorted are those in ascending order
 pub sorted_is : (start sorted : List ℕ) → IsPermutation start sorted → IsNonDecreasing sorted → sorted ≡ ascending start

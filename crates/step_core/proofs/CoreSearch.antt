@@ -1,8 +1,6 @@
 -- What a binary search in numbers that are in order tells.
 use Rattle.std.proofs.Common.{◌≡◌, ◌↔◌, true, ℕ, ◌<◌, ◌≤◌, ⊎_elim, List, length, get_or, Result, Ok, Err, MatchResult, refl, ◌∙◌, arith}
-use Rattle.std.proofs.lemmas.Bool.{cases_lt, false≢true}
-use Rattle.std.proofs.lemmas.List.{get_or_default}
-use Rattle.std.specs.List.{Contains}
+use Rattle.store_spec.proofs.Common.{Contains, cases_lt, false≢true, get_or_default}
 use Rattle.std.specs.Result.{is_ok}
 
 pub contains_from_search : (xs : List ℕ) (x : ℕ) (r : Result ℕ ℕ) → MatchResult r (λ i. (i < length xs) × (get_or xs i 0 ≡ x)) (λ i. (i ≤ length xs) × ((k : ℕ) → k < i → get_or xs k 0 < x) × ((k : ℕ) → i ≤ k → k < length xs → x < get_or xs k 0)) → (is_ok r ≡ true) ↔ Contains xs x

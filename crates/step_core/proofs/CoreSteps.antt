@@ -1,8 +1,7 @@
 -- What a step of the code asks is known of a casting phase, and what it leaves is a step of the phase.
 use Rattle.std.proofs.Common.{◌≡◌, ◌≢◌, ℕ, ◌+◌, ◌<◌, Some, List, [], ◌∷◌, length, get_or, set, map, refl, arith}
+use Rattle.store_spec.proofs.Common.{Carrying, CastNote, CastRow, CastState, GoesFrom, Probing, Ready, Rest, Table, cast_act, claim_met, claim_passed, claim_won, claims_full, displaces, look_passes, look_ready, lost_passes, lost_ready, pow_pos, slice_get, takes_empty, word_of}
 use Rattle.probe_order.proofs.ClaimOrder.{within}
-use Rattle.std.proofs.lemmas.Nat.{pow_pos}
-use Rattle.std.specs.Prelude.{slice_get}
 use Rattle.step_core.proofs.CastSteps.{begins, begun, finds_at, fits_at}
 use Rattle.step_core.proofs.CastingSteps.{has_room}
 use Rattle.step_core.proofs.Sets.{at_place, stands-map, stands-set}
@@ -10,10 +9,6 @@ use Rattle.step_core.specs.CastCore.{HasTried, MayStep, MayTell}
 use Rattle.step_core.specs.CastTables.{FitsIn, MayFind}
 use Rattle.step_core.specs.Casting.{Casting, Tabulator, next_from, table_in}
 use Rattle.step_core.specs.CastingInvariant.{IsCasting, IsNext, IsTabulator, view_of}
-use Rattle.store_spec.specs.Act.{word_of}
-use Rattle.store_spec.specs.CastStep.{CastNote, CastRow, CastState, GoesFrom, Table, cast_act}
-use Rattle.store_spec.specs.CastStep.CastRow.{claim_won, claim_met, claim_passed, claims_full, look_passes, look_ready, takes_empty, displaces, lost_passes, lost_ready}
-use Rattle.store_spec.specs.CastStep.CastState.{Rest, Probing, Carrying, Ready}
 
 -- a row that answers a number goes from one that is tried
 pub may_tell : (t : Table) (from : CastState) (word found put : ℕ) (new : CastState) (note : CastNote) (left : List ℕ) → CastRow t from word found put new note → HasTried from left → MayTell note left

@@ -1,16 +1,12 @@
 -- A tabulator of the code, as the definitions see it, where it answers numbers.
 use Rattle.std.proofs.Common.{◌≡◌, ◌≢◌, Some, None, ℕ, ◌<◌, ◌≤◌, List, [], ◌∷◌, ◌++◌, length, drop, map, refl, sym, ap, ◌∙◌, subst, arith}
-use Rattle.std.proofs.lemmas.List.{append-nil, append_assoc, drop-drop, length_push}
-use Rattle.std.specs.List.{Contains}
-use Rattle.std.specs.Prelude.{slice_get}
+use Rattle.store_spec.proofs.Common.{Answer, CastState, Contains, Met, append-nil, append_assoc, drop-drop, length_push, slice_get}
 use Rattle.step_core.proofs.CastingAnswers.{FirstIs, first_is}
 use Rattle.step_core.proofs.CastingAnswers.FirstIs.{first_held, first_full, first_steps}
 use Rattle.step_core.specs.CastCore.{AnswersAtOnce, NeedsStep, answers_of, met_of}
-use Rattle.step_core.specs.Casting.{Tabulator, answered, answers_at_once, first_answered, settled}
+use Rattle.step_core.specs.Casting.{Tabulator, answered, answers_at_once, first_answered, caught_up}
 use Rattle.step_core.specs.declared.tabulator.CastMet.{CastMet}
-use Rattle.store_spec.specs.CastStep.{CastState}
-use Rattle.store_spec.specs.Phase.{Answer, Met}
-use Rattle.store_spec.specs.Phase.Met.{Held, Full}
+use Rattle.store_spec.specs.Phase.Met.{Full}
 
 -- ---- one answer more
 
@@ -59,8 +55,8 @@ needs_step base claims x h some xs = by_step base claims x xs (answers_at_once b
 -- ---- numbers that need no step are answered one by one
 
 -- the first is, and then the others
-settled_first : (base : List ℕ) (claims : ℕ) (state : CastState) (answers : List Answer) (x y : ℕ) (ys : List ℕ) (met : Met) → y ≡ x → AnswersAtOnce base claims x met → settled base claims (answered met (record { state = state; answers = answers; left = y ∷ ys })) ≡ settled base claims (record { state = state; answers = answers; left = y ∷ ys })
-settled_first base claims state answers x y ys met same at_once =
+caught_up_first : (base : List ℕ) (claims : ℕ) (state : CastState) (answers : List Answer) (x y : ℕ) (ys : List ℕ) (met : Met) → y ≡ x → AnswersAtOnce base claims x met → caught_up base claims (answered met (record { state = state; answers = answers; left = y ∷ ys })) ≡ caught_up base claims (record { state = state; answers = answers; left = y ∷ ys })
+caught_up_first base claims state answers x y ys met same at_once =
     let a : Answer = record { number = y; met = met } in
     let more = answers_at_once base claims ys in
     let is : answers_at_once base claims (y ∷ ys) ≡ a ∷ more = subst (λ (n : ℕ). answers_at_once base claims (n ∷ ys) ≡ record { number = n; met = met } ∷ more) (sym same) (at_once ys) in
@@ -68,25 +64,25 @@ settled_first base claims state answers x y ys met same at_once =
     (append_assoc answers (a ∷ []) more ∙ ap (λ l. answers ++ l) (sym is))
     (ap (λ (l : List Answer). drop (length l) (y ∷ ys)) (sym is))
 
-pub settled_on : (base : List ℕ) (claims : ℕ) (state : CastState) (answers : List Answer) (left : List ℕ) (x : ℕ) (met : Met) → slice_get left 0 ≡ Some x → AnswersAtOnce base claims x met → settled base claims (answered met (record { state = state; answers = answers; left = left })) ≡ settled base claims (record { state = state; answers = answers; left = left })
-settled_on base claims state answers [] x met first at_once = absurd cc
-settled_on base claims state answers (y ∷ ys) x met first at_once = settled_first base claims state answers x y ys met (let same : y ≡ x = cc in same) at_once
+pub caught_up_on : (base : List ℕ) (claims : ℕ) (state : CastState) (answers : List Answer) (left : List ℕ) (x : ℕ) (met : Met) → slice_get left 0 ≡ Some x → AnswersAtOnce base claims x met → caught_up base claims (answered met (record { state = state; answers = answers; left = left })) ≡ caught_up base claims (record { state = state; answers = answers; left = left })
+caught_up_on base claims state answers [] x met first at_once = absurd cc
+caught_up_on base claims state answers (y ∷ ys) x met first at_once = caught_up_first base claims state answers x y ys met (let same : y ≡ x = cc in same) at_once
 
 -- there are none
-pub settled_none : (base : List ℕ) (claims : ℕ) (state : CastState) (answers : List Answer) (left : List ℕ) → slice_get left 0 ≡ None → settled base claims (record { state = state; answers = answers; left = left }) ≡ record { state = state; answers = answers; left = left }
-settled_none base claims state answers [] none = same_tab state _ _ _ _ (append-nil answers) refl
-settled_none base claims state answers (y ∷ ys) none = absurd cc
+pub caught_up_none : (base : List ℕ) (claims : ℕ) (state : CastState) (answers : List Answer) (left : List ℕ) → slice_get left 0 ≡ None → caught_up base claims (record { state = state; answers = answers; left = left }) ≡ record { state = state; answers = answers; left = left }
+caught_up_none base claims state answers [] none = same_tab state _ _ _ _ (append-nil answers) refl
+caught_up_none base claims state answers (y ∷ ys) none = absurd cc
 
 -- the first needs a step
-settled_steps : (base : List ℕ) (claims : ℕ) (state : CastState) (answers : List Answer) (left : List ℕ) → answers_at_once base claims left ≡ [] → settled base claims (record { state = state; answers = answers; left = left }) ≡ record { state = state; answers = answers; left = left }
-settled_steps base claims state answers left none =
+caught_up_steps : (base : List ℕ) (claims : ℕ) (state : CastState) (answers : List Answer) (left : List ℕ) → answers_at_once base claims left ≡ [] → caught_up base claims (record { state = state; answers = answers; left = left }) ≡ record { state = state; answers = answers; left = left }
+caught_up_steps base claims state answers left none =
     same_tab state _ _ _ _ (ap (λ l. answers ++ l) none ∙ append-nil answers) (ap (λ (l : List Answer). drop (length l) left) none)
 
-pub settled_stops : (base : List ℕ) (claims : ℕ) (state : CastState) (answers : List Answer) (left : List ℕ) (x : ℕ) → slice_get left 0 ≡ Some x → NeedsStep base claims x → settled base claims (record { state = state; answers = answers; left = left }) ≡ record { state = state; answers = answers; left = left }
-settled_stops base claims state answers [] x first needs = absurd cc
-settled_stops base claims state answers (y ∷ ys) x first needs =
+pub caught_up_stops : (base : List ℕ) (claims : ℕ) (state : CastState) (answers : List Answer) (left : List ℕ) (x : ℕ) → slice_get left 0 ≡ Some x → NeedsStep base claims x → caught_up base claims (record { state = state; answers = answers; left = left }) ≡ record { state = state; answers = answers; left = left }
+caught_up_stops base claims state answers [] x first needs = absurd cc
+caught_up_stops base claims state answers (y ∷ ys) x first needs =
     let same : x ≡ y = cc in
-    settled_steps base claims state answers (y ∷ ys) (subst (λ (n : ℕ). answers_at_once base claims (n ∷ ys) ≡ []) same (needs ys))
+    caught_up_steps base claims state answers (y ∷ ys) (subst (λ (n : ℕ). answers_at_once base claims (n ∷ ys) ≡ []) same (needs ys))
 
 -- ---- replies
 

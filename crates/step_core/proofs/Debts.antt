@@ -1,15 +1,11 @@
 -- Counts over all withdrawers: debts, and how often a number was chosen or begun; what one withdrawer changes in them.
 use Rattle.std.proofs.Common.{◌≡◌, ◌≢◌, ◌==◌, ◌&&◌, ℕ, ◌+◌, ◌<◌, ◌≤◌, ⊎_elim, cond, List, [], ◌∷◌, ◌++◌, length, get_or, set, sym, ap, ◌∙◌, subst, arith}
-use Rattle.std.proofs.lemmas.Bool.{cases_eq, cases_lt, eq-eqb, ne_eqb, lt-ltb, le-ltb, and_from, and_left, and_right}
-use Rattle.std.proofs.lemmas.List.{get_or_default}
-use Rattle.std.proofs.lemmas.List.Sums.{sum_by-set, get_or-le-sum_by, sum_by-le-sum_by, sum_by_push}
-use Rattle.std.specs.List.{count_by}
-use Rattle.std.specs.Prelude.{nat_lt}
+use Rattle.store_spec.proofs.Common.{Chosen, Down, Owing, Up, WithdrawState, WithdrawView, and_from, cases_eq, cases_lt, count_by, debts, eq-eqb, get_or-le-sum_by, get_or_default, le-ltb, lt-ltb, nat_lt, ne_eqb, sum_by-le-sum_by, sum_by-set, sum_by_push, times, times_begun}
+use Rattle.std.proofs.lemmas.Bool.{and_left, and_right}
 use Rattle.step_core.proofs.Copies.{hit}
 use Rattle.step_core.proofs.WordSets.{two_within}
-use Rattle.store_spec.specs.WithdrawInvariant.{times, owes, debts, times_begun, walks_to}
-use Rattle.store_spec.specs.WithdrawStep.{WithdrawState, WithdrawView}
-use Rattle.store_spec.specs.WithdrawStep.WithdrawState.{Rest, Chosen, Owing, Up, Down}
+use Rattle.store_spec.specs.WithdrawInvariant.{owes, walks_to}
+use Rattle.store_spec.specs.WithdrawStep.WithdrawState.{Rest}
 
 -- ---- one state
 

@@ -22,9 +22,10 @@ pub mod CoreSearch
 pub mod CoreSteps
 pub mod CoreTabs
 pub mod Debts
+pub mod IndexedCells
 pub mod Listings
+pub mod SameNumbers
 pub mod Schedules
-pub mod SeatPlaces
 pub mod Sets
 pub mod WithdrawAtRest
 pub mod WithdrawBegun

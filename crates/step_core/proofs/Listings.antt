@@ -1,12 +1,8 @@
 -- How often a number stands in lists: after a filter, over lists of lists, and in ascending order, which the counts fix.
 use Rattle.std.proofs.Common.{◌≡◌, ◌≢◌, ◌==◌, ◌||◌, not, ℕ, zero, suc, ◌+◌, ◌<◌, ◌≤◌, ⊎_elim, Bool, true, false, List, [], ◌∷◌, refl, sym, ◌∙◌, ap, subst, arith}
-use Rattle.std.proofs.lemmas.Bool.{cases_eq, cases_lt, cases_Bool, true≢false, cond-true, cond-false, eq-eqb, ne_eqb, le-leb, lt-leb, or_left, or_right}
-use Rattle.std.proofs.lemmas.List.Sums.{sum_by-cons, sum_by-append}
-use Rattle.std.specs.List.{filter, flat_map, list_any, sum_by, Contains}
+use Rattle.store_spec.proofs.Common.{Contains, ascending, cases_Bool, cases_eq, cases_lt, cond-false, cond-true, eq-eqb, filter, flat_map, le-leb, list_any, lt-leb, ne_eqb, numbers_in, put_in_order, sum_by, sum_by-append, sum_by-cons, times, true≢false, without}
+use Rattle.std.proofs.lemmas.Bool.{or_left, or_right}
 use Rattle.step_core.proofs.Copies.{hit, hit_yes, hit_no}
-use Rattle.store_spec.specs.Layout.{ascending, put_in_order, numbers_in}
-use Rattle.store_spec.specs.WithdrawInvariant.{times}
-use Rattle.store_spec.specs.WithdrawPhase.{without}
 
 pub times-cons : (y : ℕ) (ys : List ℕ) (x : ℕ) → times (y ∷ ys) x ≡ hit x y + times ys x
 times-cons y ys x = sum_by-cons (hit x) y ys

@@ -1,15 +1,7 @@
 -- Lists as sets of numbers: what is counted, and what becomes of it where one element is set.
 use Rattle.std.proofs.Common.{◌≡◌, ◌≢◌, ◌==◌, ℕ, zero, suc, ◌+◌, ◌<◌, ◌≤◌, ⊎_elim, Some, List, [], ◌∷◌, ◌++◌, cond, length, get_or, map, set, refl, sym, ap, ◌∙◌, subst, arith}
-use Rattle.std.proofs.lemmas.Bool.{eq-eqb, ne_eqb, cases_eq, cond-true, cond-false}
-use Rattle.std.proofs.lemmas.List.{append-nil, append_assoc, get_or-map, get_or-set_other, get_or-set_same, get_or_default, length-map, length-set}
-use Rattle.std.proofs.lemmas.List.Elements.{All-append, All-cons, All-get_or, All-head, All-nil, All-tail}
-use Rattle.std.proofs.lemmas.List.Kept.{AllPairs-cons}
-use Rattle.std.proofs.lemmas.List.Quantifiers.{all_pairs_push}
-use Rattle.std.proofs.lemmas.List.Sums.{get_or-le-sum_by, sum_by-append, sum_by-cons}
-use Rattle.std.proofs.lemmas.Option.{get_or_from_slice_get, slice_get-get_or, slice_get_cases}
-use Rattle.std.specs.List.{All, AllPairs, Contains, flat_map, sum_by}
-use Rattle.std.specs.Prelude.{slice_get}
-use Rattle.store_spec.specs.CastInvariant.{EachOnce, count_of}
+use Rattle.store_spec.proofs.Common.{All, All-append, All-cons, All-get_or, All-head, All-nil, All-tail, AllPairs, AllPairs-cons, Contains, EachOnce, all_pairs_push, append-nil, append_assoc, cases_eq, cond-false, cond-true, count_of, eq-eqb, flat_map, get_or-le-sum_by, get_or-map, get_or-set_other, get_or-set_same, get_or_default, get_or_from_slice_get, length-map, length-set, ne_eqb, slice_get, slice_get-get_or, sum_by, sum_by-append, sum_by-cons}
+use Rattle.std.proofs.lemmas.Option.{slice_get_cases}
 
 -- ---- an element that stands in a list
 

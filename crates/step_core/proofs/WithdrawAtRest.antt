@@ -1,19 +1,12 @@
 -- Once all are at rest, the cells are the layout of the base without the numbers whose removal was begun.
 use Rattle.std.proofs.Common.{◌≡◌, ◌≢◌, ℕ, ◌+◌, ◌<◌, ◌≤◌, ⊎_elim, List, length, get_or, refl, sym, ◌∙◌, ap, subst, arith}
-use Rattle.std.proofs.lemmas.Bool.{cases_eq, cases_lt}
-use Rattle.std.proofs.lemmas.List.{length-take, get_or_default, get_or_past, take_all}
-use Rattle.std.proofs.lemmas.List.Elements.{All-weaker}
-use Rattle.std.specs.List.{All, Contains, count_by}
+use Rattle.store_spec.proofs.Common.{All, All-weaker, Contains, IsLive, IsOfBase, IsOrdered, WithdrawInvariant, WithdrawView, begun_by, cases_eq, cases_lt, cell_words, copies, count_by, debts, get_or_default, get_or_past, laid_out, layout_of, length-take, numbers_in, take_all, times, times_begun, times_taken, walks_to, without}
 use Rattle.layout_def.proofs.OwnLayout.{ordered_is_own_layout}
 use Rattle.step_core.proofs.Copies.{hit, hit_yes, copies_more, copies_rise}
 use Rattle.step_core.proofs.Debts.{owed, chosen}
 use Rattle.step_core.proofs.Listings.{times_some, some_times, times_in_cells, no_zero_in_cells, times_without, times_without_none, times-flat_map, same_ascending}
 use Rattle.step_core.proofs.WithdrawSeats.{base_once}
 use Rattle.step_core.proofs.WordSets.{sum_none}
-use Rattle.store_spec.specs.Layout.{IsOrdered, laid_out, layout_of, numbers_in}
-use Rattle.store_spec.specs.WithdrawInvariant.{copies, debts, times, times_begun, times_taken, walks_to, begun_by, IsOf, IsLive, cell_words, WithdrawInvariant}
-use Rattle.store_spec.specs.WithdrawPhase.{without}
-use Rattle.store_spec.specs.WithdrawStep.{WithdrawView}
 use Rattle.store_spec.specs.WithdrawStep.WithdrawState.{Rest}
 
 module _ (home : ℕ → ℕ) (base words : List ℕ) (views : List WithdrawView) (inv : WithdrawInvariant home base words views) (rest : All (λ w. w.state ≡ Rest) views) where
@@ -36,7 +29,7 @@ module _ (home : ℕ → ℕ) (base words : List ℕ) (views : List WithdrawView
   in_cells x = ap (λ l. times l x) (take_all (length base) cells (omega (arith, size)))
 
   -- a number of the base stands once, or was begun
-  once : (x : ℕ) → IsOf base x → times cells x + times_begun views x ≡ 1
+  once : (x : ℕ) → IsOfBase base x → times cells x + times_begun views x ≡ 1
   once x of = let all = inv.owed.in_all x of in omega (arith, no_debts x (length base), in_cells x)
 
   within : (place : ℕ) → get_or cells place 0 ≢ 0 → place < length cells
@@ -48,7 +41,7 @@ module _ (home : ℕ → ℕ) (base words : List ℕ) (views : List WithdrawView
     greater_before = λ place before some from earlier.
         let x = get_or cells place 0 in
         let lt = within place some in
-        let of : IsOf base x = record { some = some; stood = inv.copied.of_base place some } in
+        let of : IsOfBase base x = record { some = some; stood = inv.copied.of_base place some } in
         let stands = once x of in
         let more : copies cells x (place + 1) ≡ copies cells x place + hit x x = copies_more cells x place lt in
         let few = copies_rise cells x (place + 1) (length base) (omega (arith, size)) in
@@ -80,7 +73,7 @@ module _ (home : ℕ → ℕ) (base words : List ℕ) (views : List WithdrawView
       (cases_eq (times cells x) 0) in
       not_there ∙ sym (never (times_in_cells base x some ∙ none)))
       (λ (n : times base x ≢ 0).
-      let of : IsOf base x = record { some = some; stood = some_times base x (omega arith) } in
+      let of : IsOfBase base x = record { some = some; stood = some_times base x (omega arith) } in
       let stands = once x of in
       let one = base_once home base x inv.begins of in
       ⊎_elim
@@ -105,7 +98,7 @@ module _ (home : ℕ → ℕ) (base words : List ℕ) (views : List WithdrawView
       omega (arith, all_begun x)
 
   pub gone_begun : All (λ w. All (Contains (begun_by views)) w.gone) views
-  gone_begun = λ k d lt. All-weaker (λ x. IsOf base x × (times_taken views x ≡ 1)) (Contains (begun_by views))
+  gone_begun = λ k d lt. All-weaker (λ x. IsOfBase base x × (times_taken views x ≡ 1)) (Contains (begun_by views))
       (λ x s.
       let begun : times (begun_by views) x ≡ times_begun views x = times-flat_map (λ w. w.begun) views x in
       some_times (begun_by views) x (omega (arith, all_begun x, s.1)))

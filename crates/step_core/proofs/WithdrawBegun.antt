@@ -1,15 +1,12 @@
 -- The walk ends: the removal of the number is begun, and owed.
 use Rattle.std.proofs.Common.{◌≡◌, ◌≢◌, ℕ, ◌+◌, ◌<◌, ◌≤◌, ⊎_elim, List, [], ◌∷◌, ◌++◌, length, get_or, set, refl, sym, ◌∙◌, ap, subst, arith}
-use Rattle.std.proofs.lemmas.Bool.{cases_eq, cases_lt}
-use Rattle.std.proofs.lemmas.List.Elements.{All-push}
+use Rattle.store_spec.proofs.Common.{All-push, AreFlags, AreLowest, AreOwed, Chosen, IsLive, IsOfBase, IsSound, Owing, WithdrawInvariant, WithdrawState, WithdrawView, cases_eq, cases_lt, cell_words, copies, debts, flag_words, times_begun, times_taken}
 use Rattle.step_core.proofs.Copies.{hit, hit_yes, hit_no, copies_rise}
 use Rattle.step_core.proofs.Debts.{owed, owed_to, owed_yes, owed_other, owed_above, chosen, debts_set, begun_set, chosen_set, chosen_twice, times_push}
 use Rattle.step_core.proofs.WithdrawFlags.{flags_after, own_begun, own_gone, gone_on}
 use Rattle.step_core.proofs.WithdrawStates.{Follows, sound_after}
 use Rattle.step_core.proofs.WordSets.{all_after_set}
-use Rattle.store_spec.specs.WithdrawInvariant.{copies, debts, times_begun, times_taken, IsOf, IsLive, AreFlags, AreOwed, AreLowest, IsSound, Walks, cell_words, flag_words, WithdrawInvariant}
-use Rattle.store_spec.specs.WithdrawStep.{WithdrawState, WithdrawView}
-use Rattle.store_spec.specs.WithdrawStep.WithdrawState.{Chosen, Owing}
+use Rattle.store_spec.specs.WithdrawInvariant.{Walks}
 
 module _ (home : ℕ → ℕ) (base words : List ℕ) (views : List WithdrawView) (id : ℕ) (w : WithdrawView) (x place : ℕ) (lt : id < length views) (at : get_or views id w ≡ w) (inv : WithdrawInvariant home base words views) (walked : w.state ≡ Chosen x place) (stops : get_or (cell_words base words) place 0 ≤ x) where
   begins : WithdrawView
@@ -99,7 +96,7 @@ module _ (home : ℕ → ℕ) (base words : List ℕ) (views : List WithdrawView
       let grows : (y : ℕ) → times_taken views y ≤ times_taken (set views id begins) y = λ y. omega (arith, taken_same y) in
       flags_after base flags flags views id w begins lt at inv.flags
       (λ cell. inv.flags.counted cell ∙ sym (taken_same (get_or base cell 0))) once grows
-      (All-push (IsOf base) w.begun x (own_begun base flags flags views id w begins lt at inv.flags) walks.live.of_base)
+      (All-push (IsOfBase base) w.begun x (own_begun base flags flags views id w begins lt at inv.flags) walks.live.of_base)
       (gone_on base flags flags views id w begins lt at inv.flags w.gone grows once (own_gone base flags flags views id w begins lt at inv.flags))
 
   pub walk_begins : WithdrawInvariant home base words (set views id (record { state = Owing x place; begun = w.begun ++ x ∷ []; gone = w.gone }))

@@ -1,11 +1,6 @@
 -- What a core tells of its withdrawers: whether all are done, and their replies.
 use Rattle.std.proofs.Common.{◌≡◌, ◌↔◌, Bool, ℕ, ◌<◌, ◌≤◌, List, [], ◌∷◌, length, get_or, map, Option, Some, IsTrue, refl, sym, ap, ◌∙◌, subst, arith}
-use Rattle.std.proofs.lemmas.List.{get_or-map, length-map}
-use Rattle.std.proofs.lemmas.List.Elements.{All-map}
-use Rattle.std.proofs.lemmas.Option.{slice_get-get_or}
-use Rattle.std.specs.List.{All}
-use Rattle.std.specs.Option.{option_map_or}
-use Rattle.std.specs.Prelude.{slice_get}
+use Rattle.store_spec.proofs.Common.{All, All-map, get_or-map, length-map, option_map_or, slice_get, slice_get-get_or}
 use Rattle.step_core.proofs.WithdrawCoreSteps.{done_at, tab_within}
 use Rattle.step_core.proofs.WithdrawingEnds.{alone_ends, ends}
 use Rattle.step_core.specs.WithdrawCore.{HasReplyRoom, answers_of, reply_of, tab_of}
@@ -49,5 +44,5 @@ replies_are a w id tab told kept is lt at same =
 
 pub core_alone : (a : Inside) (w : Withdrawing) (id : ℕ) (tab : Withdrawer) → IsCoreKept a → withdrawing_of a ≡ w → id < length w.tabs → get_or a.tabs.items id tab ≡ tab → IsDone (tab_of tab) → length w.tabs ≡ 1 → HasEnded w
 core_alone a w id tab kept is lt at done one =
-    let at_id = done_at a.shape a.limit a.seats.numbers.items a.words.items a.tabs.items id tab kept.cells (tab_within a w id is lt) at kept.phase done in
+    let at_id = done_at a.shape a.limit a.index.numbers.items a.words.items a.tabs.items id tab kept.cells (tab_within a w id is lt) at kept.phase done in
     subst HasEnded is (alone_ends (withdrawing_of a) id kept.phase (ap (λ (v : Withdrawing). length v.tabs) is ∙ one) at_id)

@@ -1,21 +1,16 @@
 -- A core opens as the withdrawing phase over its set.
 use Rattle.std.proofs.Common.{◌≡◌, ◌≢◌, ◌^◌, ℕ, ◌+◌, ◌-◌, ◌<◌, ◌≤◌, List, [], ◌++◌, length, get_or, take, map, replicate, refl, sym, ap, ◌∙◌, subst, arith}
-use Rattle.std.proofs.lemmas.List.{take_all}
-use Rattle.std.proofs.Math.Pow.{pow_mono}
-use Rattle.std.proofs.lemmas.List.Elements.{Contains-get_or}
-use Rattle.std.specs.List.{All, AllPairs, Contains}
+use Rattle.store_spec.proofs.Common.{All, AllPairs, Contains, Contains-get_or, ascending, home_of, layout_of, pow_mono, take_all}
 use Rattle.step_core.proofs.WithdrawFirst.{one_place}
 use Rattle.step_core.proofs.WithdrawingBase.{base_layout}
 use Rattle.step_core.proofs.WithdrawingEnds.{opens, same_base}
-use Rattle.step_core.specs.Seats.{StandOnce}
+use Rattle.step_core.specs.CellIndex.{StandOnce}
 use Rattle.step_core.specs.WithdrawCore.{IsShape}
 use Rattle.step_core.specs.Withdrawing.{Withdrawing, opened, opened_tab}
 use Rattle.step_core.specs.WithdrawingInvariant.{IsWithdrawing}
 use Rattle.step_core.specs.Withdrawing as phase
 use Rattle.step_core.specs.declared.shape.Shape.{Shape}
 use Rattle.probe_order.specs.declared.Salted.{Salted}
-use Rattle.store_spec.specs.Home.{home_of}
-use Rattle.store_spec.specs.Layout.{ascending, layout_of}
 
 module _ (bits salt limit homes : ℕ) (start laid : List ℕ) (few : bits ≤ 16) (within : length start ≤ limit) (some : All (λ x. x ≢ 0) start) (distinct : AllPairs (λ a b. a ≢ b) start) (so_many : homes ≡ 2 ^ bits) (is : laid ≡ layout_of (home_of bits salt) (homes + limit) start) where
   laid_is : laid ≡ layout_of (home_of bits salt) (2 ^ bits + limit) start

@@ -1,9 +1,6 @@
 -- One step of a core is one step of the withdrawing phase that it stands for.
 use Rattle.std.proofs.Common.{◌≡◌, ◌^◌, ℕ, ◌+◌, ◌<◌, List, length, get_or, set, map, Option, Some, refl, sym, ap, ◌∙◌, subst, arith}
-use Rattle.std.proofs.lemmas.List.{get_or-drop, get_or-map, length-map, map-set}
-use Rattle.std.proofs.lemmas.Option.{slice_get-get_or}
-use Rattle.std.specs.Option.{IsSomeAnd}
-use Rattle.std.specs.Prelude.{slice_get}
+use Rattle.store_spec.proofs.Common.{IsSomeAnd, cell_words, get_or-drop, get_or-map, home_of, layout_of, length-map, map-set, slice_get, slice_get-get_or, withdraw_act, word_of}
 use Rattle.step_core.proofs.WithdrawReady.{may_find, sound_of, within_cells}
 use Rattle.step_core.proofs.WithdrawingBase.{base_layout}
 use Rattle.step_core.proofs.WithdrawingSteps.{steps_fall, steps_keep}
@@ -15,11 +12,6 @@ use Rattle.step_core.specs.Withdrawing as phase
 use Rattle.step_core.specs.declared.shape.Shape.{Shape}
 use Rattle.step_core.specs.declared.withdraw_core.WithdrawCore.TheInside.{Inside}
 use Rattle.step_core.specs.declared.withdrawer.Withdrawer.{Withdrawer}
-use Rattle.store_spec.specs.Act.{word_of}
-use Rattle.store_spec.specs.Home.{home_of}
-use Rattle.store_spec.specs.Layout.{layout_of}
-use Rattle.store_spec.specs.WithdrawInvariant.{cell_words}
-use Rattle.store_spec.specs.WithdrawStep.{withdraw_act}
 
 -- the phase of some words and withdrawers
 abbrev pub phase_of : Shape → ℕ → List ℕ → List ℕ → List Withdrawer → Withdrawing
@@ -103,9 +95,9 @@ pub record StepsTo (w : Withdrawing) (id : ℕ) (now : Withdrawing) : Type 0 whe
   pub keeps : IsWithdrawing now
   pub falls : FallsAt w id now
 
-pub core_step : (a : Inside) (id : ℕ) (tab : Withdrawer) (seen words_now : List ℕ) (tab_now : Withdrawer) → IsCoreKept a → id < length a.tabs.items → get_or a.tabs.items id tab ≡ tab → seen ≡ a.words.items → TabSteps a.shape a.seats.numbers.items seen (tab_of tab) words_now (tab_of tab_now) → StepsTo (withdrawing_of a) id (phase_of a.shape a.limit a.seats.numbers.items words_now (set a.tabs.items id tab_now))
+pub core_step : (a : Inside) (id : ℕ) (tab : Withdrawer) (seen words_now : List ℕ) (tab_now : Withdrawer) → IsCoreKept a → id < length a.tabs.items → get_or a.tabs.items id tab ≡ tab → seen ≡ a.words.items → TabSteps a.shape a.index.numbers.items seen (tab_of tab) words_now (tab_of tab_now) → StepsTo (withdrawing_of a) id (phase_of a.shape a.limit a.index.numbers.items words_now (set a.tabs.items id tab_now))
 core_step a id tab seen words_now tab_now kept lt at same row =
-    let held = a.seats.numbers.items in
+    let held = a.index.numbers.items in
     let own : TabSteps a.shape held a.words.items (tab_of tab) words_now (tab_of tab_now) = subst (λ (l : List ℕ). TabSteps a.shape held l (tab_of tab) words_now (tab_of tab_now)) same row in
     record {
       row = core_steps a.shape a.limit held a.words.items a.tabs.items id tab kept.cells lt at kept.phase words_now tab_now own;
@@ -120,13 +112,13 @@ tab_within a w id is lt =
     omega (arith, length-map a.tabs.items tab_of)
 
 -- as the core's view tells it, with the words that are stored
-pub core_step_to : (a : Inside) (w : Withdrawing) (id : ℕ) (tab : Withdrawer) (seen words_now stored : List ℕ) (tab_now : Withdrawer) → IsCoreKept a → withdrawing_of a ≡ w → id < length w.tabs → get_or a.tabs.items id tab ≡ tab → seen ≡ a.words.items → stored ≡ words_now → TabSteps a.shape a.seats.numbers.items seen (tab_of tab) words_now (tab_of tab_now) → StepsTo w id (phase_of a.shape a.limit a.seats.numbers.items stored (set a.tabs.items id tab_now))
+pub core_step_to : (a : Inside) (w : Withdrawing) (id : ℕ) (tab : Withdrawer) (seen words_now stored : List ℕ) (tab_now : Withdrawer) → IsCoreKept a → withdrawing_of a ≡ w → id < length w.tabs → get_or a.tabs.items id tab ≡ tab → seen ≡ a.words.items → stored ≡ words_now → TabSteps a.shape a.index.numbers.items seen (tab_of tab) words_now (tab_of tab_now) → StepsTo w id (phase_of a.shape a.limit a.index.numbers.items stored (set a.tabs.items id tab_now))
 core_step_to a w id tab seen words_now stored tab_now kept is lt at same put row =
     let within = tab_within a w id is lt in
-    subst (λ (v : Withdrawing). StepsTo v id (phase_of a.shape a.limit a.seats.numbers.items stored (set a.tabs.items id tab_now))) is
-    (subst (λ (l : List ℕ). StepsTo (withdrawing_of a) id (phase_of a.shape a.limit a.seats.numbers.items l (set a.tabs.items id tab_now))) (sym put)
+    subst (λ (v : Withdrawing). StepsTo v id (phase_of a.shape a.limit a.index.numbers.items stored (set a.tabs.items id tab_now))) is
+    (subst (λ (l : List ℕ). StepsTo (withdrawing_of a) id (phase_of a.shape a.limit a.index.numbers.items l (set a.tabs.items id tab_now))) (sym put)
     (core_step a id tab seen words_now tab_now kept within at same row))
 
 pub core_done_from : (a : Inside) (w : Withdrawing) (id : ℕ) (tab : Withdrawer) → IsCoreKept a → withdrawing_of a ≡ w → id < length w.tabs → get_or a.tabs.items id tab ≡ tab → IsDoneAt w id → IsDone (tab_of tab)
 core_done_from a w id tab kept is lt at done =
-    done_from a.shape a.limit a.seats.numbers.items a.words.items a.tabs.items id tab kept.cells (tab_within a w id is lt) at kept.phase (subst (λ (v : Withdrawing). IsDoneAt v id) (sym is) done)
+    done_from a.shape a.limit a.index.numbers.items a.words.items a.tabs.items id tab kept.cells (tab_within a w id is lt) at kept.phase (subst (λ (v : Withdrawing). IsDoneAt v id) (sym is) done)

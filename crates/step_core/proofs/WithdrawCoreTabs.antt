@@ -1,24 +1,16 @@
 -- A withdrawer of the code, as the definitions see it, where it answers numbers and acts on words.
 use Rattle.std.proofs.Common.{◌≡◌, ◌≢◌, ◌==◌, ℕ, ◌+◌, ◌<◌, ⊎_elim, List, [], ◌∷◌, ◌++◌, length, get_or, set, drop, Some, None, true, false, refl, sym, ap, ◌∙◌, subst, arith}
-use Rattle.std.proofs.lemmas.Bool.{cases_Bool, cond-false, cond-true}
-use Rattle.std.proofs.lemmas.List.{append-nil, append_assoc, drop-drop, length_push}
-use Rattle.std.specs.List.{Contains, list_any}
-use Rattle.std.specs.Prelude.{slice_get}
-use Rattle.step_core.proofs.WithdrawReady.{down_word}
+use Rattle.store_spec.proofs.Common.{Absent, Act, Chosen, Contains, Down, FirstRow, Owing, StandsInBase, Up, WithdrawNote, WithdrawRow, WithdrawState, append-nil, append_assoc, begins, cases_Bool, cond-false, cond-true, drop-drop, goes_on, left_by, length_push, list_any, slice_get, withdraw_act, withdraw_number, word_of}
 use Rattle.step_core.proofs.WithdrawingAnswers.{is_held, is_not_held}
-use Rattle.step_core.specs.Seats.{AreSeats, IsCellOf}
+use Rattle.step_core.specs.CellIndex.{HasPlace, IsCellIndex}
 use Rattle.step_core.specs.WithdrawCore.{Moves, answers_of, reply_of}
-use Rattle.step_core.specs.WithdrawTables.{FitsIn, LeadsTo, state_of}
-use Rattle.step_core.specs.Withdrawing.{Withdrawer, absent_first, answered, next_number, settled}
+use Rattle.step_core.specs.WithdrawTables.{LeadsTo, state_of}
+use Rattle.step_core.specs.Withdrawing.{Withdrawer, absent_first, answered, next_number, caught_up}
 use Rattle.step_core.specs.declared.withdraw.WithdrawState as states
 use Rattle.step_core.specs.declared.withdraw.WithdrawState.TheVariants as variants
 use Rattle.step_core.specs.declared.withdrawer.WithdrawReply.{WithdrawReply}
-use Rattle.store_spec.specs.Act.{Act, left_by, word_of}
 use Rattle.store_spec.specs.WithdrawPhase as outcome
-use Rattle.store_spec.specs.WithdrawPhase.WithdrawReply.{Absent}
-use Rattle.store_spec.specs.WithdrawStep.{FirstRow, IsSeated, WithdrawNote, WithdrawRow, WithdrawState, withdraw_number, withdraw_act}
-use Rattle.store_spec.specs.WithdrawStep.WithdrawMove.{begins, goes_on}
-use Rattle.store_spec.specs.WithdrawStep.WithdrawState.{Rest, Chosen, Owing, Up, Down}
+use Rattle.store_spec.specs.WithdrawStep.WithdrawState.{Rest}
 
 -- ---- one reply more
 
@@ -44,43 +36,43 @@ module _ (held : List ℕ) (state : WithdrawState) (answers : List outcome.Withd
   tab left = record { state = state; answers = answers; left = left }
 
   -- by what stands first
-  settled_by : (left : List ℕ) (absent : List outcome.Withdrawal) → absent_first held left ≡ absent → settled held (tab left) ≡ record { state = state; answers = answers ++ absent; left = drop (length absent) left }
-  settled_by left absent e = ap (λ given. record { state = state; answers = answers ++ given; left = drop (length given) left }) e
+  caught_up_by : (left : List ℕ) (absent : List outcome.Withdrawal) → absent_first held left ≡ absent → caught_up held (tab left) ≡ record { state = state; answers = answers ++ absent; left = drop (length absent) left }
+  caught_up_by left absent e = ap (λ given. record { state = state; answers = answers ++ given; left = drop (length given) left }) e
 
   no_answer : (left : List ℕ) → let more : Withdrawer = record { state = state; answers = answers ++ []; left = left } in more ≡ tab left
   no_answer left = ap (λ given. record { state = state; answers = given; left = left }) (append-nil answers)
 
-  pub settled_empty : (left : List ℕ) → slice_get left 0 ≡ None → settled held (tab left) ≡ tab left
-  settled_empty [] none = no_answer []
-  settled_empty (x ∷ left) none = absurd (let no : ⊥ = cc in no)
+  pub caught_up_empty : (left : List ℕ) → slice_get left 0 ≡ None → caught_up held (tab left) ≡ tab left
+  caught_up_empty [] none = no_answer []
+  caught_up_empty (x ∷ left) none = absurd (let no : ⊥ = cc in no)
 
-  pub settled_stops : (left : List ℕ) (x : ℕ) → slice_get left 0 ≡ Some x → Contains held x → settled held (tab left) ≡ tab left
-  settled_stops [] x first c = absurd (let no : ⊥ = cc in no)
-  settled_stops (y ∷ left) x first c =
+  pub caught_up_stops : (left : List ℕ) (x : ℕ) → slice_get left 0 ≡ Some x → Contains held x → caught_up held (tab left) ≡ tab left
+  caught_up_stops [] x first c = absurd (let no : ⊥ = cc in no)
+  caught_up_stops (y ∷ left) x first c =
       let same : y ≡ x = cc in
       ⊎_elim
       (λ (found : list_any (λ n. n == y) held ≡ true).
-      settled_by (y ∷ left) [] (cond-true (list_any (λ n. n == y) held) [] (record { number = y; reply = Absent } ∷ absent_first held left) found) ∙ no_answer (y ∷ left))
+      caught_up_by (y ∷ left) [] (cond-true (list_any (λ n. n == y) held) [] (record { number = y; reply = Absent } ∷ absent_first held left) found) ∙ no_answer (y ∷ left))
       (λ (none : list_any (λ n. n == y) held ≡ false). absurd (is_not_held held y none (subst (λ (v : ℕ). Contains held v) (sym same) c)))
       (cases_Bool (list_any (λ n. n == y) held))
 
-  pub settled_on : (left : List ℕ) (x : ℕ) → slice_get left 0 ≡ Some x → ¬ Contains held x → settled held (answered Absent (tab left)) ≡ settled held (tab left)
-  settled_on [] x first out = absurd (let no : ⊥ = cc in no)
-  settled_on (y ∷ left) x first out =
+  pub caught_up_on : (left : List ℕ) (x : ℕ) → slice_get left 0 ≡ Some x → ¬ Contains held x → caught_up held (answered Absent (tab left)) ≡ caught_up held (tab left)
+  caught_up_on [] x first out = absurd (let no : ⊥ = cc in no)
+  caught_up_on (y ∷ left) x first out =
       let same : y ≡ x = cc in
       let a : outcome.Withdrawal = record { number = y; reply = Absent } in
       ⊎_elim
       (λ (found : list_any (λ n. n == y) held ≡ true). absurd (out (subst (λ (v : ℕ). Contains held v) same (is_held held y found))))
       (λ (none : list_any (λ n. n == y) held ≡ false).
       ap (λ given. record { state = state; answers = given; left = drop (length (absent_first held left)) left }) (append_assoc answers (a ∷ []) (absent_first held left))
-      ∙ sym (settled_by (y ∷ left) (a ∷ absent_first held left) (cond-false (list_any (λ n. n == y) held) [] (a ∷ absent_first held left) none)))
+      ∙ sym (caught_up_by (y ∷ left) (a ∷ absent_first held left) (cond-false (list_any (λ n. n == y) held) [] (a ∷ absent_first held left) none)))
       (cases_Bool (list_any (λ n. n == y) held))
 
 -- ---- acts
 
-pub first_moves : (home : ℕ → ℕ) (base words numbers places : List ℕ) (number cell cells found : ℕ) (words_now : List ℕ) (new : WithdrawState) (note : WithdrawNote) → number ≢ 0 → length base ≡ cells → AreSeats base numbers places → IsCellOf numbers places number cell → found ≡ get_or words (cells + cell) 0 → words_now ≡ set words (cells + cell) 1 → FirstRow home number found new note → Moves home base words Rest number words_now new note
-first_moves home base words numbers places number cell cells found words_now new note some size seats at finds put row =
-    let seated : IsSeated base number cell = record { some = some; stands = ap (λ k. get_or base k 0) (sym at.place) ∙ seats.stands at.seat at.within ∙ at.is } in
+pub first_moves : (home : ℕ → ℕ) (base words numbers places : List ℕ) (number cell cells found : ℕ) (words_now : List ℕ) (new : WithdrawState) (note : WithdrawNote) → number ≢ 0 → length base ≡ cells → IsCellIndex base numbers places → HasPlace numbers places number cell → found ≡ get_or words (cells + cell) 0 → words_now ≡ set words (cells + cell) 1 → FirstRow home number found new note → Moves home base words Rest number words_now new note
+first_moves home base words numbers places number cell cells found words_now new note some size index at finds put row =
+    let seated : StandsInBase base number cell = record { some = some; stands = ap (λ k. get_or base k 0) (sym at.place) ∙ index.stands at.rank at.within ∙ at.is } in
     record {
       word = length base + cell;
       left = 1;

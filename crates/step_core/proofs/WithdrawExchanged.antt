@@ -1,17 +1,11 @@
 -- The exchange that is won: the hole's number gives way to the candidate, or to an empty cell.
 use Rattle.std.proofs.Common.{◌≡◌, ◌≢◌, ℕ, ◌+◌, ◌-◌, ◌<◌, ◌≤◌, ⊎_elim, List, length, get_or, set, refl, sym, ◌∙◌, ap, subst, arith}
-use Rattle.std.proofs.Math.Seq.{take-set-lt}
-use Rattle.std.proofs.lemmas.Bool.{cases_eq, cases_lt}
-use Rattle.std.proofs.lemmas.List.{length-take, length-set, drop-set-lt, get_or-set_same, get_or-set_other}
-use Rattle.std.specs.List.{All, Contains}
+use Rattle.store_spec.proofs.Common.{All, AreCopies, AreFlags, AreLowest, AreOwed, Contains, Down, IsLive, IsSound, SearchesDown, WithdrawInvariant, WithdrawState, WithdrawView, cases_eq, cases_lt, cell_words, copies, debts, drop-set-lt, flag_words, get_or-set_other, get_or-set_same, length-set, length-take, take-set-lt, times_begun}
 use Rattle.step_core.proofs.Copies.{hit_yes, hit_no, copies_rise, copies_set, copies_set_past, copy_here}
 use Rattle.step_core.proofs.Debts.{owed, owed_to, owed_yes, owed_other, owed_above, chosen, debts_set}
 use Rattle.step_core.proofs.WithdrawFlags.{begun_stays, live_before, live_on, flags_stay}
 use Rattle.step_core.proofs.WithdrawStates.{Follows, sound_after}
 use Rattle.step_core.proofs.WordSets.{all_after_set}
-use Rattle.store_spec.specs.WithdrawInvariant.{copies, debts, times_begun, IsLive, AreFlags, AreCopies, AreOwed, AreLowest, IsSound, SearchesDown, cell_words, flag_words, WithdrawInvariant}
-use Rattle.store_spec.specs.WithdrawStep.{WithdrawState, WithdrawView}
-use Rattle.store_spec.specs.WithdrawStep.WithdrawState.{Down}
 
 -- What the exchange does to the copies and the debts of a number among the first cells: nothing; a copy and a debt
 -- end together; there is a copy more; or a copy more that is owed from the source.

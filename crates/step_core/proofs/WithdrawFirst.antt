@@ -1,16 +1,12 @@
 -- The first step for a number: a swap of its flag.
 use Rattle.std.proofs.Common.{◌≡◌, ◌≢◌, ℕ, ◌+◌, ◌<◌, ◌≤◌, ⊎_elim, List, [], ◌∷◌, ◌++◌, length, get_or, set, refl, sym, ◌∙◌, ap, subst, arith}
-use Rattle.std.proofs.lemmas.Bool.{cases_eq, cases_lt, cases_order}
-use Rattle.std.proofs.lemmas.List.{get_or_default, get_or_past, get_or-drop, get_or-set_same, get_or-set_other, length-set, length-drop, set-get_or, take-set-le, drop-set-add}
-use Rattle.std.proofs.lemmas.List.Elements.{All-push}
+use Rattle.store_spec.proofs.Common.{All-push, AreFlags, Chosen, IsLive, IsOfBase, IsOrdered, WithdrawInvariant, WithdrawView, cases_eq, cases_lt, cases_order, cell_words, flag_words, get_or-drop, get_or-set_other, get_or-set_same, get_or_default, get_or_past, length-drop, length-set, set-get_or, times_taken}
+use Rattle.std.proofs.lemmas.List.{take-set-le, drop-set-add}
 use Rattle.step_core.proofs.Copies.{hit, hit_yes, hit_no}
 use Rattle.step_core.proofs.Debts.{owed, chosen, chosen_set}
 use Rattle.step_core.proofs.WithdrawFlags.{begun_stays, flags_after, own_begun, own_gone, gone_on}
 use Rattle.step_core.proofs.WithdrawQuiet.{same_but_flags}
-use Rattle.store_spec.specs.Layout.{IsOrdered}
-use Rattle.store_spec.specs.WithdrawInvariant.{times_taken, IsOf, IsLive, AreFlags, cell_words, flag_words, WithdrawInvariant}
-use Rattle.store_spec.specs.WithdrawStep.{WithdrawView}
-use Rattle.store_spec.specs.WithdrawStep.WithdrawState.{Rest, Chosen}
+use Rattle.store_spec.specs.WithdrawStep.WithdrawState.{Rest}
 
 -- in ordered cells a number stands in one place
 pub one_place : (home : ℕ → ℕ) (cells : List ℕ) (x p q : ℕ) → IsOrdered home cells → x ≢ 0 → get_or cells p 0 ≡ x → get_or cells q 0 ≡ x → p ≡ q
@@ -27,7 +23,7 @@ module _ (home : ℕ → ℕ) (base words : List ℕ) (views : List WithdrawView
   within : cell < length base
   within = ⊎_elim (λ lt. lt) (λ (past : length base ≤ cell). absurd (some (sym stands ∙ get_or_past base cell 0 past))) (cases_lt cell (length base))
 
-  of_base : IsOf base x
+  of_base : IsOfBase base x
   of_base = record { some = some; stood = (cell, within, get_or_default base cell x 0 within ∙ stands) }
 
   -- the flag tells how often the number was taken
@@ -62,11 +58,11 @@ module _ (home : ℕ → ℕ) (base words : List ℕ) (views : List WithdrawView
       let once : (y : ℕ) → times_taken views' y ≤ 1 = λ y. let once = inv.flags.once y in let is = same y in omega arith in
       let grows : (y : ℕ) → times_taken views y ≤ times_taken views' y = λ y. let is = same y in omega arith in
       let unchanged : set words (length base + cell) 1 ≡ words = ap (λ v. set words (length base + cell) v) (sym was) ∙ set-get_or words (length base + cell) 0 in
-      let taken : IsOf base x × (times_taken views' x ≡ 1) = (of_base, same x ∙ sym flag_is ∙ was) in
+      let taken : IsOfBase base x × (times_taken views' x ≡ 1) = (of_base, same x ∙ sym flag_is ∙ was) in
       let after = flags_after base flags flags views id w z lt at inv.flags
       (λ k. inv.flags.counted k ∙ sym (same (get_or base k 0))) once grows
       (own_begun base flags flags views id w z lt at inv.flags)
-      (All-push (λ y. IsOf base y × (times_taken views' y ≡ 1)) w.gone x
+      (All-push (λ y. IsOfBase base y × (times_taken views' y ≡ 1)) w.gone x
       (gone_on base flags flags views id w z lt at inv.flags w.gone grows once (own_gone base flags flags views id w z lt at inv.flags)) taken) in
       subst (λ (l : List ℕ). WithdrawInvariant home base l views') (sym unchanged)
       (same_but_flags home base words words views id w z lt at inv refl none refl refl after tt)

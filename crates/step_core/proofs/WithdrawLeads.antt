@@ -1,14 +1,9 @@
 -- The rows of the table, by what is found and what is left of it.
 use Rattle.std.proofs.Common.{◌≡◌, ◌≢◌, ◌==◌, ℕ, ◌+◌, ◌-◌, ◌<◌, ◌≤◌, refl, sym, ◌∙◌, subst, arith}
-use Rattle.std.proofs.lemmas.Bool.{cond-false, cond-true, eq-eqb, ne_eqb}
+use Rattle.store_spec.proofs.Common.{Chosen, Done, Down, FirstRow, Fits, Gone, Owing, Quiet, Up, WithdrawNote, WithdrawRow, WithdrawState, chose, cond-false, cond-true, emptied, eq-eqb, found_candidate, found_gone, found_lower_candidate, found_owed, kept_candidate, left_by, looked_lower, lost, ne_eqb, refilled, word_of}
 use Rattle.step_core.specs.WithdrawTables.{LeadsTo}
-use Rattle.store_spec.specs.Act.{left_by, word_of}
 use Rattle.store_spec.specs.Act.Act.{Load, Trade}
-use Rattle.store_spec.specs.WithdrawStep.{Fits, FirstRow, WithdrawNote, WithdrawRow, WithdrawState}
-use Rattle.store_spec.specs.WithdrawStep.FirstRow.{found_gone, chose}
-use Rattle.store_spec.specs.WithdrawStep.WithdrawNote.{Quiet, Gone, Done}
-use Rattle.store_spec.specs.WithdrawStep.WithdrawRow.{found_owed, looked_lower, found_candidate, found_lower_candidate, kept_candidate, emptied, refilled, lost}
-use Rattle.store_spec.specs.WithdrawStep.WithdrawState.{Rest, Chosen, Owing, Up, Down}
+use Rattle.store_spec.specs.WithdrawStep.WithdrawState.{Rest}
 
 -- ---- the first step
 

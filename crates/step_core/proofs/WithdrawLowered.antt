@@ -1,15 +1,12 @@
 -- The owed number is not at its bound, or is there no more: the bound goes down by one.
 use Rattle.std.proofs.Common.{◌≡◌, ◌≢◌, ℕ, ◌+◌, ◌<◌, ◌≤◌, ⊎_elim, List, length, get_or, set, refl, sym, ◌∙◌, subst, arith}
-use Rattle.std.proofs.lemmas.Bool.{cases_eq, cases_lt}
-use Rattle.std.proofs.lemmas.List.{length-take}
+use Rattle.store_spec.proofs.Common.{AreLowest, AreOwed, IsSound, Owing, WithdrawInvariant, WithdrawState, WithdrawView, cases_eq, cases_lt, cell_words, copies, debts, flag_words, length-take}
 use Rattle.step_core.proofs.Copies.{copy_elsewhere}
 use Rattle.step_core.proofs.Debts.{owed, owed_to, owed_yes, owed_other, owed_above, chosen, debts_rise, debts_set}
 use Rattle.step_core.proofs.WithdrawFlags.{begun_stays, live_before, live_on, flags_stay}
 use Rattle.step_core.proofs.WithdrawStates.{Follows, sound_after}
 use Rattle.step_core.proofs.WordSets.{all_after_set}
-use Rattle.store_spec.specs.WithdrawInvariant.{copies, debts, AreOwed, AreLowest, IsSound, Owes, cell_words, flag_words, WithdrawInvariant}
-use Rattle.store_spec.specs.WithdrawStep.{WithdrawState, WithdrawView}
-use Rattle.store_spec.specs.WithdrawStep.WithdrawState.{Owing}
+use Rattle.store_spec.specs.WithdrawInvariant.{Owes}
 
 module _ (home : ℕ → ℕ) (base words : List ℕ) (views : List WithdrawView) (id : ℕ) (w : WithdrawView) (x bound : ℕ) (lt : id < length views) (at : get_or views id w ≡ w) (inv : WithdrawInvariant home base words views) (as_owed : (y first : ℕ) → owed w.state y first ≡ owed_to x (bound + 1) y first) (unchosen : (y : ℕ) → chosen w.state y ≡ 0) (owes : Owes base x (bound + 1)) (missed : get_or (cell_words base words) (bound + 1) 0 ≢ x) where
   lowers : WithdrawView

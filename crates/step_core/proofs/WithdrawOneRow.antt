@@ -1,11 +1,8 @@
 -- What a step finds decides the rest of its row.
 use Rattle.std.proofs.Common.{◌≡◌, if◌then◌else◌, ◌==◌, ◌&&◌, ◌||◌, ℕ, ◌+◌, ◌-◌, ◌≤◌, inl, inr, ⊎_elim, Bool, true, false, refl, sym, ap, ◌∙◌, arith}
-use Rattle.std.proofs.lemmas.Bool.{cases_Bool, cond-true, cond-false, eq-eqb, ne_eqb, eqb-true, lt-ltb, le-ltb, le-leb, ltb-true, leb-true, or_left, or_right, or_cases, and_from, and_parts}
-use Rattle.std.specs.Prelude.{nat_le, nat_lt}
-use Rattle.store_spec.specs.WithdrawStep.{Fits, WithdrawNote, WithdrawRow, WithdrawState}
-use Rattle.store_spec.specs.WithdrawStep.WithdrawNote.{Quiet, Begun, Done}
-use Rattle.store_spec.specs.WithdrawStep.WithdrawRow.{walked_on, began, found_owed, looked_lower, looked_higher, found_candidate, found_lower_candidate, kept_candidate, emptied, refilled, lost}
-use Rattle.store_spec.specs.WithdrawStep.WithdrawState.{Rest, Chosen, Owing, Up, Down}
+use Rattle.store_spec.proofs.Common.{Begun, Chosen, Done, Down, Fits, Owing, Quiet, Up, WithdrawNote, WithdrawRow, WithdrawState, and_from, and_parts, began, cases_Bool, cond-false, cond-true, emptied, eq-eqb, eqb-true, found_candidate, found_lower_candidate, found_owed, kept_candidate, le-leb, le-ltb, leb-true, looked_higher, looked_lower, lost, lt-ltb, nat_le, nat_lt, ne_eqb, refilled, walked_on}
+use Rattle.std.proofs.lemmas.Bool.{ltb-true, or_left, or_right, or_cases}
+use Rattle.store_spec.specs.WithdrawStep.WithdrawState.{Rest}
 
 -- the rest of a row
 record Outcome : Type 0 where

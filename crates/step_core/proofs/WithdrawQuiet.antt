@@ -1,12 +1,10 @@
 -- A step that changes no cell and no count: it looks, and the withdrawer goes on.
 use Rattle.std.proofs.Common.{◌≡◌, ℕ, ◌<◌, List, length, get_or, set, sym, ◌∙◌, subst, arith}
-use Rattle.std.specs.List.{All}
+use Rattle.store_spec.proofs.Common.{All, AreCopies, AreFlags, AreLowest, AreOwed, IsSound, WithdrawInvariant, WithdrawState, WithdrawView, cell_words, debts, flag_words}
 use Rattle.step_core.proofs.Debts.{owed, chosen, debts_set}
 use Rattle.step_core.proofs.WithdrawFlags.{begun_stays, live_before, live_on, flags_stay}
 use Rattle.step_core.proofs.WithdrawStates.{Follows, sound_after}
 use Rattle.step_core.proofs.WordSets.{all_after_set}
-use Rattle.store_spec.specs.WithdrawInvariant.{debts, AreFlags, AreCopies, AreOwed, AreLowest, IsSound, cell_words, flag_words, WithdrawInvariant}
-use Rattle.store_spec.specs.WithdrawStep.{WithdrawState, WithdrawView}
 
 module _ (home : ℕ → ℕ) (base words words' : List ℕ) (views : List WithdrawView) (id : ℕ) (w z : WithdrawView) (lt : id < length views) (at : get_or views id w ≡ w) (inv : WithdrawInvariant home base words views) (begun : z.begun ≡ w.begun) (as_owed : (x first : ℕ) → owed z.state x first ≡ owed w.state x first) where
   debts_stay : (x first : ℕ) → debts (set views id z) x first ≡ debts views x first

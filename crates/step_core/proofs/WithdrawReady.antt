@@ -1,22 +1,13 @@
 -- What the invariant gives a step: its places lie within the cells, there is a cell below where one is wanted, what is
 -- left to do falls, and a number that was taken is found gone.
 use Rattle.std.proofs.Common.{◌≡◌, ◌≢◌, ◌==◌, ℕ, ◌+◌, ◌<◌, ◌⊎◌, inl, inr, ⊎_elim, List, length, get_or, Some, slice_get, refl, sym, ◌∙◌, ap, subst, arith}
-use Rattle.std.proofs.lemmas.Bool.{cases_eq, cond-true, cond-false, eq-eqb, ne_eqb}
-use Rattle.std.proofs.lemmas.List.{length-take, get_or-take, get_or-drop}
-use Rattle.std.proofs.lemmas.List.Elements.{All-contains}
-use Rattle.std.proofs.lemmas.Option.{slice_get_within, get_or_from_slice_get}
-use Rattle.std.specs.List.{All, Contains}
+use Rattle.store_spec.proofs.Common.{All, All-contains, Chosen, Contains, Down, Falls, IsOfBase, IsSound, Owing, StandsInBase, Up, WithdrawInvariant, WithdrawNote, WithdrawRow, WithdrawState, WithdrawView, began, cases_eq, cell_words, cond-false, cond-true, copies, emptied, eq-eqb, found_candidate, found_lower_candidate, found_owed, get_or-drop, get_or-take, get_or_from_slice_get, kept_candidate, length-take, looked_higher, looked_lower, lost, ne_eqb, refilled, slice_get_within, times_taken, walked_on, withdraw_act, withdraw_measure, word_of}
 use Rattle.step_core.proofs.Copies.{hit, hit_no, copies_more}
 use Rattle.step_core.proofs.Listings.{times_some}
 use Rattle.step_core.proofs.Debts.{owed, owed_to, owed_yes, owed_within, begun_within}
 use Rattle.step_core.specs.WithdrawTables.{FitsIn, MayFind}
-use Rattle.store_spec.specs.Act.{word_of}
 use Rattle.store_spec.specs.Act.Act.{Load, Trade}
-use Rattle.store_spec.specs.Measure.{Falls}
-use Rattle.store_spec.specs.WithdrawInvariant.{copies, times_taken, IsOf, IsSound, cell_words, WithdrawInvariant}
-use Rattle.store_spec.specs.WithdrawStep.{WithdrawState, WithdrawNote, WithdrawView, WithdrawRow, IsSeated, withdraw_act, withdraw_measure}
-use Rattle.store_spec.specs.WithdrawStep.WithdrawState.{Rest, Chosen, Owing, Up, Down}
-use Rattle.store_spec.specs.WithdrawStep.WithdrawRow.{walked_on, began, found_owed, looked_lower, looked_higher, found_candidate, found_lower_candidate, kept_candidate, emptied, refilled, lost}
+use Rattle.store_spec.specs.WithdrawStep.WithdrawState.{Rest}
 
 pub within_cells : (home : ℕ → ℕ) (base cells : List ℕ) (views : List WithdrawView) (state : WithdrawState) → IsSound home base cells views state → FitsIn (length base) state
 within_cells home base cells views Rest s = tt
@@ -87,7 +78,7 @@ module _ (home : ℕ → ℕ) (base words : List ℕ) (views : List WithdrawView
       (subst (λ (k : ℕ). get_or words k 0 ≡ found) (down_word x bound place c source ∙ e) here) other
 
   -- a number that was taken by this one or another is found gone
-  pub found_taken : (x cell : ℕ) → IsSeated base x cell → Contains w.begun x ⊎ Contains w.gone x → get_or words (length base + cell) 0 ≡ 1
+  pub found_taken : (x cell : ℕ) → StandsInBase base x cell → Contains w.begun x ⊎ Contains w.gone x → get_or words (length base + cell) 0 ≡ 1
   found_taken x cell seated taken =
       let flag : get_or words (length base + cell) 0 ≡ times_taken views x =
       sym (get_or-drop (length base) words cell 0) ∙ inv.flags.counted cell ∙ ap (times_taken views) seated.stands in
@@ -96,6 +87,6 @@ module _ (home : ℕ → ℕ) (base words : List ℕ) (views : List WithdrawView
       (λ (c : Contains w.begun x).
       let mine = begun_within views id w w lt at x in let some = times_some w.begun x c in omega arith)
       (λ (c : Contains w.gone x).
-      let all = subst (λ (v : WithdrawView). All (λ y. IsOf base y × (times_taken views y ≡ 1)) v.gone) at (inv.flags.gone id w lt) in
-      flag ∙ (All-contains (λ y. IsOf base y × (times_taken views y ≡ 1)) w.gone x all c).1)
+      let all = subst (λ (v : WithdrawView). All (λ y. IsOfBase base y × (times_taken views y ≡ 1)) v.gone) at (inv.flags.gone id w lt) in
+      flag ∙ (All-contains (λ y. IsOfBase base y × (times_taken views y ≡ 1)) w.gone x all c).1)
       taken

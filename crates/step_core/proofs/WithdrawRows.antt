@@ -1,9 +1,6 @@
 -- Each row of the table keeps the invariant.
 use Rattle.std.proofs.Common.{◌≡◌, ◌≢◌, ℕ, ◌+◌, ◌-◌, ◌<◌, ◌≤◌, inl, inr, ⊎_elim, List, [], ◌∷◌, ◌++◌, length, get_or, set, Some, slice_get, refl, sym, ◌∙◌, ap, subst, arith}
-use Rattle.std.proofs.lemmas.Bool.{cases_eq, cases_lt}
-use Rattle.std.proofs.lemmas.List.{length-take, get_or-take, set-get_or}
-use Rattle.std.proofs.lemmas.Option.{slice_get_within, get_or_from_slice_get}
-use Rattle.std.specs.List.{Contains}
+use Rattle.store_spec.proofs.Common.{Chosen, Contains, Down, FirstRow, Fits, IsSound, Owing, StandsInBase, Up, WithdrawInvariant, WithdrawNote, WithdrawRow, WithdrawState, WithdrawView, began, begins, cases_eq, cases_lt, cell_words, chose, copies, emptied, found_candidate, found_gone, found_lower_candidate, found_owed, get_or-take, get_or_from_slice_get, goes_on, kept_candidate, length-take, looked_higher, looked_lower, lost, refilled, set-get_or, slice_get_within, walked_on, withdraw_number}
 use Rattle.step_core.proofs.Copies.{copies_rise, copy_here, copy_elsewhere}
 use Rattle.step_core.proofs.Debts.{owed, owed_other, chosen}
 use Rattle.step_core.proofs.WithdrawBegun.{walk_begins}
@@ -11,13 +8,10 @@ use Rattle.step_core.proofs.WithdrawExchanged.{exchange}
 use Rattle.step_core.proofs.WithdrawFirst.{first_late, first_chooses}
 use Rattle.step_core.proofs.WithdrawLowered.{lower}
 use Rattle.step_core.proofs.WithdrawQuiet.{quiet}
-use Rattle.step_core.specs.WithdrawKept.{IsKept}
-use Rattle.store_spec.specs.WithdrawInvariant.{copies, IsSound, Owes, SearchesDown, cell_words, WithdrawInvariant}
-use Rattle.store_spec.specs.WithdrawStep.{WithdrawState, WithdrawNote, WithdrawView, Fits, WithdrawRow, FirstRow, IsSeated, WithdrawMove, WithdrawStep, withdraw_number}
-use Rattle.store_spec.specs.WithdrawStep.FirstRow.{found_gone, chose}
-use Rattle.store_spec.specs.WithdrawStep.WithdrawMove.{begins, goes_on}
-use Rattle.store_spec.specs.WithdrawStep.WithdrawState.{Rest, Chosen, Owing, Up, Down}
-use Rattle.store_spec.specs.WithdrawStep.WithdrawRow.{walked_on, began, found_owed, looked_lower, looked_higher, found_candidate, found_lower_candidate, kept_candidate, emptied, refilled, lost}
+use Rattle.step_core.specs.WithdrawKept.{KeepsInvariant}
+use Rattle.store_spec.specs.WithdrawInvariant.{Owes, SearchesDown}
+use Rattle.store_spec.specs.WithdrawStep.{WithdrawMove, WithdrawStep}
+use Rattle.store_spec.specs.WithdrawStep.WithdrawState.{Rest}
 
 module _ (home : ℕ → ℕ) (base words : List ℕ) (views : List WithdrawView) (inv : WithdrawInvariant home base words views) where
   abbrev cells : List ℕ
@@ -203,7 +197,7 @@ module _ (home : ℕ → ℕ) (base words : List ℕ) (views : List WithdrawView
 
 -- ---- any row
 
-pub keeps_row : (home : ℕ → ℕ) (base : List ℕ) (state : WithdrawState) (cell found left : ℕ) (next : WithdrawState) (note : WithdrawNote) → WithdrawRow home state cell found left next note → IsKept home base (withdraw_number state) state cell found left next note
+pub keeps_row : (home : ℕ → ℕ) (base : List ℕ) (state : WithdrawState) (cell found left : ℕ) (next : WithdrawState) (note : WithdrawNote) → WithdrawRow home state cell found left next note → KeepsInvariant home base (withdraw_number state) state cell found left next note
 keeps_row home base _ _ _ _ _ _ (walked_on {x} {place} {word} less) words views id w inv has is here = keeps_walked_on home base words views inv id w has x place word less is here
 keeps_row home base _ _ _ _ _ _ (began {x} {place} {word} stops) words views id w inv has is here = keeps_began home base words views inv id w has x place word stops is here
 keeps_row home base _ _ _ _ _ _ (found_owed {x} {bound}) words views id w inv has is here = keeps_found_owed home base words views inv id w has x bound is here
@@ -216,11 +210,11 @@ keeps_row home base _ _ _ _ _ _ (emptied {x} {bound} {source}) words views id w 
 keeps_row home base _ _ _ _ _ _ (refilled {x} {bound} {c} {source} some) words views id w inv has is here = keeps_refilled home base words views inv id w has x bound c source some is here
 keeps_row home base _ _ _ _ _ _ (lost {x} {bound} {c} {source} {word} other) words views id w inv has is here = keeps_lost home base words views inv id w has x bound c source word other is here
 
-pub keeps_first : (home : ℕ → ℕ) (base : List ℕ) (x cell found : ℕ) (new : WithdrawState) (note : WithdrawNote) → IsSeated base x cell → FirstRow home x found new note → IsKept home base x Rest (length base + cell) found 1 new note
+pub keeps_first : (home : ℕ → ℕ) (base : List ℕ) (x cell found : ℕ) (new : WithdrawState) (note : WithdrawNote) → StandsInBase base x cell → FirstRow home x found new note → KeepsInvariant home base x Rest (length base + cell) found 1 new note
 keeps_first home base x cell _ _ _ seated found_gone words views id w inv has is here = first_late home base words views id w x cell (slice_get_within views id w has) (get_or_from_slice_get views id w w has) inv is seated.some seated.stands here
 keeps_first home base x cell _ _ _ seated chose words views id w inv has is here = first_chooses home base words views id w x cell (slice_get_within views id w has) (get_or_from_slice_get views id w w has) inv is seated.some seated.stands here
 
-pub keeps_move : (home : ℕ → ℕ) (base : List ℕ) (from : WithdrawState) (x word found left : ℕ) (new : WithdrawState) (note : WithdrawNote) → WithdrawMove home base from x word found left new note → IsKept home base x from word found left new note
+pub keeps_move : (home : ℕ → ℕ) (base : List ℕ) (from : WithdrawState) (x word found left : ℕ) (new : WithdrawState) (note : WithdrawNote) → WithdrawMove home base from x word found left new note → KeepsInvariant home base x from word found left new note
 keeps_move home base _ _ _ _ _ _ _ (begins {x} {cell} {found} {new} {note} seated row) = keeps_first home base x cell found new note seated row
 keeps_move home base _ _ _ _ _ _ _ (goes_on {state} {cell} {found} {left} {new} {note} row) = keeps_row home base state cell found left new note row
 

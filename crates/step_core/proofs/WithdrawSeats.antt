@@ -1,18 +1,12 @@
 -- A phase opens, a seat is made, and a seat is taken in: no count changes.
 use Rattle.std.proofs.Common.{◌≡◌, ◌≢◌, ℕ, zero, suc, ◌+◌, ◌<◌, ◌≤◌, ⊎_elim, List, [], ◌∷◌, ◌++◌, length, get_or, set, replicate, Some, slice_get, refl, sym, ◌∙◌, ap, subst, arith}
-use Rattle.std.proofs.lemmas.Bool.{cases_lt}
-use Rattle.std.proofs.lemmas.List.{get_or_default, get_or_past, get_or-set_other, length-set, length-append, length-replicate, take_at, take_all, drop_at}
-use Rattle.std.proofs.lemmas.List.Elements.{All-append, All-push, All-weaker, Contains-get_or}
-use Rattle.std.proofs.lemmas.List.Sums.{sum_by-append, sum_by-cons, sum_by_push}
-use Rattle.std.proofs.lemmas.Option.{slice_get_within, get_or_from_slice_get}
-use Rattle.std.specs.List.{All, count_by}
+use Rattle.store_spec.proofs.Common.{All, All-append, All-push, All-weaker, AreLowest, AreOwed, Contains-get_or, IsLive, IsOfBase, IsSound, WithdrawInvariant, WithdrawState, WithdrawView, cases_lt, cell_words, copies, count_by, debts, drop_at, flag_words, fresh_withdraw_view, get_or-set_other, get_or_default, get_or_from_slice_get, get_or_past, length-append, length-replicate, length-set, slice_get_within, sum_by-append, sum_by-cons, sum_by_push, take_all, take_at, times, times_begun, times_taken}
 use Rattle.step_core.proofs.Copies.{hit, hit_yes, hit_no, copy_here}
 use Rattle.step_core.proofs.Debts.{owed, chosen, debts_set, begun_set, chosen_set}
 use Rattle.step_core.proofs.WithdrawFirst.{one_place}
 use Rattle.step_core.proofs.WithdrawStates.{Follows, sound_after}
 use Rattle.step_core.proofs.WordSets.{all_after_set, sum_none, zero_cell}
-use Rattle.store_spec.specs.WithdrawInvariant.{copies, debts, times, times_begun, times_taken, walks_to, IsOf, IsLive, AreCopies, AreOwed, AreLowest, IsSound, IsBase, cell_words, flag_words, WithdrawInvariant}
-use Rattle.store_spec.specs.WithdrawStep.{WithdrawState, WithdrawView, fresh_withdraw_view}
+use Rattle.store_spec.specs.WithdrawInvariant.{walks_to, AreCopies, IsBase}
 use Rattle.store_spec.specs.WithdrawStep.WithdrawState.{Rest}
 
 -- ---- the same counts
@@ -32,11 +26,11 @@ module _ (home : ℕ → ℕ) (base words : List ℕ) (views views' : List Withd
       let follows : Follows base cells views cells views' = record { live = live_before; falls = λ place. omega arith; kept = λ x first live some. some } in
       sound_after home base cells views cells views' follows state (λ x walks live. record { of_base = live.of_base; kept = same.begun x ∙ live.kept }) s
 
-  pub gone_on : (gone : List ℕ) → All (λ x. IsOf base x × (times_taken views x ≡ 1)) gone → All (λ x. IsOf base x × (times_taken views' x ≡ 1)) gone
-  gone_on gone h = All-weaker (λ x. IsOf base x × (times_taken views x ≡ 1)) (λ x. IsOf base x × (times_taken views' x ≡ 1)) (λ x s. (s.0, same.taken x ∙ s.1)) gone h
+  pub gone_on : (gone : List ℕ) → All (λ x. IsOfBase base x × (times_taken views x ≡ 1)) gone → All (λ x. IsOfBase base x × (times_taken views' x ≡ 1)) gone
+  gone_on gone h = All-weaker (λ x. IsOfBase base x × (times_taken views x ≡ 1)) (λ x. IsOfBase base x × (times_taken views' x ≡ 1)) (λ x s. (s.0, same.taken x ∙ s.1)) gone h
 
   -- lists and states are to be shown for the new views
-  pub with_same_counts : All (λ v. All (IsOf base) v.begun) views' → All (λ v. All (λ x. IsOf base x × (times_taken views' x ≡ 1)) v.gone) views' → All (λ v. IsSound home base (cell_words base words) views v.state) views' → WithdrawInvariant home base words views'
+  pub with_same_counts : All (λ v. All (IsOfBase base) v.begun) views' → All (λ v. All (λ x. IsOfBase base x × (times_taken views' x ≡ 1)) v.gone) views' → All (λ v. IsSound home base (cell_words base words) views v.state) views' → WithdrawInvariant home base words views'
   with_same_counts begun gone states = record {
     begins = inv.begins;
     size = inv.size;
@@ -69,8 +63,8 @@ seat_made home base words views inv =
       taken = λ x. omega (arith, sum_by_push (λ v. times v.begun x) views fresh_withdraw_view, sum_by_push (λ v. chosen v.state x) views fresh_withdraw_view);
     } in
     with_same_counts home base words views views' same inv
-    (All-push (λ v. All (IsOf base) v.begun) views fresh_withdraw_view inv.flags.begun (λ k d lt. absurd (omega arith)))
-    (All-push (λ v. All (λ x. IsOf base x × (times_taken views' x ≡ 1)) v.gone) views fresh_withdraw_view
+    (All-push (λ v. All (IsOfBase base) v.begun) views fresh_withdraw_view inv.flags.begun (λ k d lt. absurd (omega arith)))
+    (All-push (λ v. All (λ x. IsOfBase base x × (times_taken views' x ≡ 1)) v.gone) views fresh_withdraw_view
     (λ k d lt. gone_on home base words views views' same inv (get_or views k d).gone (inv.flags.gone k d lt)) (λ k d lt. absurd (omega arith)))
     (All-push (λ v. IsSound home base (cell_words base words) views v.state) views fresh_withdraw_view inv.states tt)
 
@@ -132,15 +126,15 @@ module _ (home : ℕ → ℕ) (base words : List ℕ) (views : List WithdrawView
   taken_in =
       let cells = cell_words base words in
       let gone = λ (u : WithdrawView) (k : ℕ) (within : k < length views) (is : get_or views k u ≡ u).
-      gone_on home base words views after same inv u.gone (subst (λ (t : WithdrawView). All (λ x. IsOf base x × (times_taken views x ≡ 1)) t.gone) is (inv.flags.gone k u within)) in
+      gone_on home base words views after same inv u.gone (subst (λ (t : WithdrawView). All (λ x. IsOfBase base x × (times_taken views x ≡ 1)) t.gone) is (inv.flags.gone k u within)) in
       with_same_counts home base words views after same inv
-      (all_after (λ u. All (IsOf base) u.begun)
-      (All-append (IsOf base) w.begun v.begun
-      (subst (λ (t : WithdrawView). All (IsOf base) t.begun) at (inv.flags.begun id w lt))
-      (subst (λ (t : WithdrawView). All (IsOf base) t.begun) (get_or_from_slice_get views other v v has_other) (inv.flags.begun other v lt_other)))
+      (all_after (λ u. All (IsOfBase base) u.begun)
+      (All-append (IsOfBase base) w.begun v.begun
+      (subst (λ (t : WithdrawView). All (IsOfBase base) t.begun) at (inv.flags.begun id w lt))
+      (subst (λ (t : WithdrawView). All (IsOfBase base) t.begun) (get_or_from_slice_get views other v v has_other) (inv.flags.begun other v lt_other)))
       (λ k d within. absurd (omega arith)) (λ k d within. inv.flags.begun k d within))
-      (all_after (λ u. All (λ x. IsOf base x × (times_taken after x ≡ 1)) u.gone)
-      (All-append (λ x. IsOf base x × (times_taken after x ≡ 1)) w.gone v.gone (gone w id lt at) (gone v other lt_other (get_or_from_slice_get views other v v has_other)))
+      (all_after (λ u. All (λ x. IsOfBase base x × (times_taken after x ≡ 1)) u.gone)
+      (All-append (λ x. IsOfBase base x × (times_taken after x ≡ 1)) w.gone v.gone (gone w id lt at) (gone v other lt_other (get_or_from_slice_get views other v v has_other)))
       (λ k d within. absurd (omega arith)) (λ k d within. gone_on home base words views after same inv (get_or views k d).gone (inv.flags.gone k d within)))
       (all_after (λ u. IsSound home base cells views u.state) tt tt (λ k d within. inv.states k d within))
 
@@ -160,7 +154,7 @@ times_one (cell ∷ cells) x (suc place) lt e one =
     omega (arith, sum_by-cons (hit x) cell cells, hit_no x cell other)
 
 -- in cells that a phase begins with each number stands once
-pub base_once : (home : ℕ → ℕ) (base : List ℕ) (x : ℕ) → IsBase home base → IsOf base x → times base x ≡ 1
+pub base_once : (home : ℕ → ℕ) (base : List ℕ) (x : ℕ) → IsBase home base → IsOfBase base x → times base x ≡ 1
 base_once home base x begins of =
     let place = of.stood.0 in
     let there : get_or base place 0 ≡ x = get_or_default base place 0 x of.stood.1 ∙ of.stood.2 in
@@ -182,8 +176,8 @@ opened home base views begins fresh =
       flags = record {
         counted = λ cell. ap (λ (l : List ℕ). get_or l cell 0) flags ∙ zero_cell n cell ∙ sym (taken_none (get_or base cell 0));
         once = λ x. let none = taken_none x in omega arith;
-        begun = λ k d lt. subst (λ (v : WithdrawView). All (IsOf base) v.begun) (sym (fresh k d lt)) (λ j e within. absurd (omega arith));
-        gone = λ k d lt. subst (λ (v : WithdrawView). All (λ x. IsOf base x × (times_taken views x ≡ 1)) v.gone) (sym (fresh k d lt)) (λ j e within. absurd (omega arith));
+        begun = λ k d lt. subst (λ (v : WithdrawView). All (IsOfBase base) v.begun) (sym (fresh k d lt)) (λ j e within. absurd (omega arith));
+        gone = λ k d lt. subst (λ (v : WithdrawView). All (λ x. IsOfBase base x × (times_taken views x ≡ 1)) v.gone) (sym (fresh k d lt)) (λ j e within. absurd (omega arith));
       };
       copied = subst (λ (l : List ℕ). AreCopies home base l) (sym cells) (record {
         of_base = λ place some. Contains-get_or base place 0 (⊎_elim (λ lt. lt) (λ (past : n ≤ place). absurd (some (get_or_past base place 0 past))) (cases_lt place n));

@@ -1,10 +1,10 @@
 -- What holds of a withdrawer by its state, after another one has made a step.
 use Rattle.std.proofs.Common.{◌≡◌, ℕ, ◌+◌, ◌<◌, ◌≤◌, List, get_or, refl, arith}
+use Rattle.store_spec.proofs.Common.{Chosen, Down, IsLive, IsSound, Owing, Up, WithdrawState, WithdrawView, copies}
 use Rattle.step_core.proofs.Copies.{hit_yes}
 use Rattle.step_core.proofs.Debts.{chosen}
-use Rattle.store_spec.specs.WithdrawInvariant.{copies, IsLive, IsSound, SearchesUp, SearchesDown}
-use Rattle.store_spec.specs.WithdrawStep.{WithdrawState, WithdrawView}
-use Rattle.store_spec.specs.WithdrawStep.WithdrawState.{Rest, Chosen, Owing, Up, Down}
+use Rattle.store_spec.specs.WithdrawInvariant.{SearchesUp, SearchesDown}
+use Rattle.store_spec.specs.WithdrawStep.WithdrawState.{Rest}
 
 -- How a step changes what the withdrawers rest on: no number comes to life, words only fall, and the lowest copy of a
 -- live number does not rise.

@@ -1,15 +1,8 @@
 -- Answers of a withdrawer, and what they add to its view.
-use Rattle.std.proofs.Common.{◌≡◌, ◌==◌, Bool, true, false, ℕ, suc, ◌≤◌, ⊎_elim, List, [], ◌∷◌, ◌++◌, length, get_or, drop, map, refl, sym, ap, ◌∙◌, subst, arith}
-use Rattle.std.proofs.lemmas.Bool.{both_ways, cases_Bool, cond-false, cond-true, eq-eqb, eqb-true}
-use Rattle.std.proofs.lemmas.List.{append-nil, append_assoc, get_or_default, map-append}
-use Rattle.std.proofs.lemmas.List.Elements.{All-append, All-cons, All-head, All-nil, All-push, All-tail, All-weaker, filter-append}
-use Rattle.std.proofs.lemmas.List.Folds.{Any-from_list_any, list_any_at}
-use Rattle.std.proofs.lemmas.List.Quantifiers.{all_pairs_push}
-use Rattle.std.specs.List.{All, AllPairs, Contains, filter, list_any}
+use Rattle.std.proofs.Common.{◌≡◌, ◌==◌, Bool, true, false, ℕ, suc, ⊎_elim, List, [], ◌∷◌, ◌++◌, length, get_or, drop, map, refl, sym, ap, ◌∙◌, subst, arith}
+use Rattle.store_spec.proofs.Common.{Absent, All, All-append, All-cons, All-head, All-nil, All-push, All-tail, All-weaker, AllPairs, Any-from_list_any, Contains, MayBeWithdrawnBefore, WithdrawReply, Withdrawal, all_pairs_push, append-nil, append_assoc, both_ways, cases_Bool, cond-false, cond-true, eq-eqb, eqb-true, filter, filter-append, get_or_default, list_any, list_any_at, map-append}
 use Rattle.step_core.specs.Withdrawing.{absent_first}
 use Rattle.step_core.specs.WithdrawingInvariant.{IsNext, numbers_that}
-use Rattle.store_spec.specs.WithdrawPhase.{MayBeWithdrawnBefore, Withdrawal, WithdrawReply}
-use Rattle.store_spec.specs.WithdrawPhase.WithdrawReply.{Absent}
 use Rattle.store_spec.specs.WithdrawStep.WithdrawState.{Rest}
 
 -- ---- whether a number is held
@@ -43,11 +36,11 @@ all_absent held (x ∷ xs) = ⊎_elim
     (cases_Bool (list_any (λ n. n == x) held))
 
 -- the number that stands behind them is held
-pub next_settled : (held left : List ℕ) → IsNext held Rest (drop (length (absent_first held left)) left)
-next_settled held [] = tt
-next_settled held (x ∷ xs) = ⊎_elim
+pub next_caught_up : (held left : List ℕ) → IsNext held Rest (drop (length (absent_first held left)) left)
+next_caught_up held [] = tt
+next_caught_up held (x ∷ xs) = ⊎_elim
     (λ (found : list_any (λ n. n == x) held ≡ true). subst (λ (l : List Withdrawal). IsNext held Rest (drop (length l) (x ∷ xs))) (sym (absent_stops held x xs found)) (is_held held x found))
-    (λ (none : list_any (λ n. n == x) held ≡ false). subst (λ (l : List Withdrawal). IsNext held Rest (drop (length l) (x ∷ xs))) (sym (absent_on held x xs none)) (next_settled held xs))
+    (λ (none : list_any (λ n. n == x) held ≡ false). subst (λ (l : List Withdrawal). IsNext held Rest (drop (length l) (x ∷ xs))) (sym (absent_on held x xs none)) (next_caught_up held xs))
     (cases_Bool (list_any (λ n. n == x) held))
 
 -- ---- the numbers with a reply of some kind
@@ -88,8 +81,8 @@ numbers-absent such held left no_such = numbers-none such (absent_first held lef
     (All-weaker (IsAbsent held) (λ a. such a.reply ≡ false) (λ a h. ap such h.reply ∙ no_such) (absent_first held left) (all_absent held left))
 
 -- after an answer and those that need no step
-pub numbers-settled : (such : WithdrawReply → Bool) (held : List ℕ) (answers : List Withdrawal) (a : Withdrawal) (left : List ℕ) → such Absent ≡ false → numbers_that such ((answers ++ a ∷ []) ++ absent_first held left) ≡ numbers_that such answers ++ numbers_that such (a ∷ [])
-numbers-settled such held answers a left no_such =
+pub numbers-caught_up : (such : WithdrawReply → Bool) (held : List ℕ) (answers : List Withdrawal) (a : Withdrawal) (left : List ℕ) → such Absent ≡ false → numbers_that such ((answers ++ a ∷ []) ++ absent_first held left) ≡ numbers_that such answers ++ numbers_that such (a ∷ [])
+numbers-caught_up such held answers a left no_such =
     numbers-append such (answers ++ a ∷ []) (absent_first held left)
     ∙ ap (λ (l : List ℕ). numbers_that such (answers ++ a ∷ []) ++ l) (numbers-absent such held left no_such)
     ∙ append-nil (numbers_that such (answers ++ a ∷ []))
@@ -97,8 +90,8 @@ numbers-settled such held answers a left no_such =
 
 -- ---- what holds of answers, when one more comes and those that need no step
 
-pub answers_settled : (P : Withdrawal → Type 0) (held : List ℕ) (answers : List Withdrawal) (a : Withdrawal) (left : List ℕ) → ((b : Withdrawal) → IsAbsent held b → P b) → All P answers → P a → All P ((answers ++ a ∷ []) ++ absent_first held left)
-answers_settled P held answers a left absent all last =
+pub answers_caught_up : (P : Withdrawal → Type 0) (held : List ℕ) (answers : List Withdrawal) (a : Withdrawal) (left : List ℕ) → ((b : Withdrawal) → IsAbsent held b → P b) → All P answers → P a → All P ((answers ++ a ∷ []) ++ absent_first held left)
+answers_caught_up P held answers a left absent all last =
     All-append P (answers ++ a ∷ []) (absent_first held left) (All-push P answers a all last)
     (All-weaker (IsAbsent held) P absent (absent_first held left) (all_absent held left))
 
@@ -108,8 +101,8 @@ pairs_on R P xs (y ∷ ys) follows pairs all =
     subst (λ (l : List Withdrawal). AllPairs R l) (append_assoc xs (y ∷ []) ys)
     (pairs_on R P (xs ++ y ∷ []) ys follows (all_pairs_push R xs y pairs (λ k d lt. follows _ y (All-head P y ys all))) (All-tail P y ys all))
 
-pub pairs_settled : (held : List ℕ) (answers : List Withdrawal) (a : Withdrawal) (left : List ℕ) → AllPairs MayBeWithdrawnBefore answers → All (λ b. MayBeWithdrawnBefore b a) answers → AllPairs MayBeWithdrawnBefore ((answers ++ a ∷ []) ++ absent_first held left)
-pairs_settled held answers a left pairs before =
+pub pairs_caught_up : (held : List ℕ) (answers : List Withdrawal) (a : Withdrawal) (left : List ℕ) → AllPairs MayBeWithdrawnBefore answers → All (λ b. MayBeWithdrawnBefore b a) answers → AllPairs MayBeWithdrawnBefore ((answers ++ a ∷ []) ++ absent_first held left)
+pairs_caught_up held answers a left pairs before =
     pairs_on MayBeWithdrawnBefore (IsAbsent held) (answers ++ a ∷ []) (absent_first held left)
     (λ x y absent same gone withdrawn. absurd (let is = absent.reply in let no : ⊥ = cc in no))
     (all_pairs_push MayBeWithdrawnBefore answers a pairs before) (all_absent held left)

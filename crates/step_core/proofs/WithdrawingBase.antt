@@ -1,11 +1,9 @@
 -- The cells at the opening of a withdrawing phase: the layout of the set that is held.
 use Rattle.std.proofs.Common.{◌≢◌, ◌^◌, ℕ, ◌+◌, ◌-◌, ◌≤◌, List, length, get_or, ap, ◌∙◌, arith}
-use Rattle.std.specs.List.{All, AllPairs, Contains}
+use Rattle.store_spec.proofs.Common.{All, AllPairs, Contains, IsLayout, IsOfBase, home_of, layout_of}
 use Rattle.probe_order.specs.Below.{home_of-lt}
 use Rattle.layout_def.proofs.LaidOut.{layout_of_is}
-use Rattle.store_spec.specs.Home.{home_of}
-use Rattle.store_spec.specs.Layout.{IsLayout, layout_of}
-use Rattle.store_spec.specs.WithdrawInvariant.{IsBase, IsOf}
+use Rattle.store_spec.specs.WithdrawInvariant.{IsBase}
 
 module _ (bits salt limit : ℕ) (held : List ℕ) (few : bits ≤ 16) (within : length held ≤ limit) (some : All (λ x. x ≢ 0) held) (distinct : AllPairs (λ a b. a ≢ b) held) where
   abbrev base : List ℕ
@@ -21,5 +19,5 @@ module _ (bits salt limit : ℕ) (held : List ℕ) (few : bits ≤ 16) (within :
     last_empty = ap (λ n. get_or base (n - 1) 0) base_layout.size ∙ base_layout.last_empty;
   }
 
-  pub of_base_held : (x : ℕ) → IsOf (layout_of (home_of bits salt) (2 ^ bits + limit) held) x → Contains held x
+  pub of_base_held : (x : ℕ) → IsOfBase (layout_of (home_of bits salt) (2 ^ bits + limit) held) x → Contains held x
   of_base_held x of = base_layout.exactly.only x of.some of.stood

@@ -1,31 +1,19 @@
 -- A withdrawing phase opens, and ends with its outcome once all withdrawers are done.
 use Rattle.std.proofs.Common.{◌≡◌, ◌≢◌, ◌^◌, Bool, true, false, ℕ, suc, ◌+◌, ◌<◌, ◌≤◌, ⊎_elim, List, [], ◌∷◌, ◌++◌, length, get_or, take, map, replicate, Option, Some, None, slice_get, refl, sym, ap, ◌∙◌, subst, arith}
-use Rattle.std.proofs.lemmas.Bool.{cases_eq, cases_Bool, cond-true, cond-false}
-use Rattle.std.proofs.lemmas.List.{append-nil, get_or-map, get_or_default, length-map}
-use Rattle.std.proofs.lemmas.List.Elements.{All-map, All-weaker, All-contains, Contains-get_or}
-use Rattle.std.proofs.lemmas.List.Folds.{flat_map-map}
-use Rattle.std.proofs.lemmas.List.Sums.{sum_by-cons, sum_by-le-sum_by, get_or-le-sum_by}
-use Rattle.std.proofs.lemmas.Option.{slice_get_within, get_or_from_slice_get}
-use Rattle.std.specs.Option.{IsSomeAnd}
-use Rattle.std.specs.List.{All, AllPairs, Contains, filter, sum_by}
+use Rattle.store_spec.proofs.Common.{All, All-contains, All-map, All-weaker, AllPairs, Contains, Contains-get_or, IsOfBase, IsRightWithdrawal, IsSomeAnd, MayBeWithdrawnBefore, WithdrawInvariant, WithdrawView, Withdrawal, append-nil, ascending, begun_by, cases_Bool, cases_eq, cond-false, cond-true, filter, flat_map-map, fresh_withdraw_view, get_or-le-sum_by, get_or-map, get_or_default, get_or_from_slice_get, home_of, is_withdrawn, laid_out, layout_of, length-map, listed, numbers_in, slice_get_within, sum_by, sum_by-cons, sum_by-le-sum_by, times, withdrawn_in, without}
 use Rattle.step_core.proofs.Copies.{hit, hit_yes, hit_no}
 use Rattle.step_core.proofs.Listings.{no_zero_in_cells, same_ascending, some_times, times-cons, times-flat_map, times_ascending, times_in_cells, times_some, times_without, times_without_none}
 use Rattle.step_core.proofs.WithdrawAtRest as rest
 use Rattle.step_core.proofs.WithdrawSeats.{base_once}
 use Rattle.step_core.proofs.WithdrawSeats as seats
-use Rattle.step_core.proofs.WithdrawingAnswers.{IsAbsent, all_absent, next_settled, numbers-absent, numbers-contains, pairs_absent}
+use Rattle.step_core.proofs.WithdrawingAnswers.{IsAbsent, all_absent, next_caught_up, numbers-absent, numbers-contains, pairs_absent}
 use Rattle.step_core.proofs.WithdrawingBase.{base_begins, base_layout, of_base_held}
 use Rattle.step_core.proofs.WordSets.{sum_same}
 use Rattle.layout_def.proofs.Ascending.{ascending_distinct, length-ascending}
 use Rattle.layout_def.proofs.LaidOut.{ascending_from_rising}
-use Rattle.step_core.specs.Withdrawing.{EndsWith, HasEnded, IsDone, IsDoneAt, Withdrawer, Withdrawing, absent_first, answers_in, base_in, count_in, home_in, opened, settled}
+use Rattle.step_core.specs.Withdrawing.{EndsWith, HasEnded, IsDone, IsDoneAt, Withdrawer, Withdrawing, absent_first, answers_in, base_in, count_in, home_in, opened, caught_up}
 use Rattle.step_core.specs.WithdrawingInvariant.{IsWithdrawer, IsWithdrawing, is_gone, numbers_that, view_of}
-use Rattle.store_spec.specs.Home.{home_of}
-use Rattle.store_spec.specs.Layout.{ascending, laid_out, layout_of, numbers_in}
-use Rattle.store_spec.specs.WithdrawInvariant.{IsOf, WithdrawInvariant, begun_by, times}
-use Rattle.store_spec.specs.WithdrawPhase.{IsRightWithdrawal, MayBeWithdrawnBefore, Withdrawal, WithdrawOutcome, is_withdrawn, listed, withdrawn_in, without}
 use Rattle.store_spec.specs.WithdrawPhase as reply
-use Rattle.store_spec.specs.WithdrawStep.{WithdrawView, fresh_withdraw_view}
 use Rattle.store_spec.specs.WithdrawStep.WithdrawState.{Rest}
 
 -- ---- numbers of lists
@@ -167,7 +155,7 @@ module _ (w : Withdrawing) (h : IsWithdrawing w) (done : All IsDone w.tabs) wher
       (λ (out : times (base_in w) x ≡ 0).
       out ∙ sym (none_held (λ c. let there = times_some (base_in w) x (is.exactly.each x c) in omega arith)))
       (λ (n : times (base_in w) x ≢ 0).
-      let of : IsOf (base_in w) x = record { some = some; stood = some_times (base_in w) x (omega arith) } in
+      let of : IsOfBase (base_in w) x = record { some = some; stood = some_times (base_in w) x (omega arith) } in
       let one = base_once (home_in w) (base_in w) x begins of in
       let few = once_in w.held x h.distinct in
       let there = times_some w.held x (of_base_held w.bits w.salt w.limit w.held h.few_bits h.within_limit h.some h.distinct x of) in
@@ -243,7 +231,7 @@ module _ (bits salt limit : ℕ) (start : List ℕ) (lists : List (List ℕ)) (f
   same_base = ap (laid_out (home_of bits salt) (2 ^ bits + limit)) (sym (same_ascending (ascending start) start (times_ascending start)))
 
   all_fresh : All (λ v. v ≡ fresh_withdraw_view) (map view_of (opened bits salt limit start lists).tabs)
-  all_fresh = All-map (λ v. v ≡ fresh_withdraw_view) view_of begin.tabs (All-map (λ t. view_of t ≡ fresh_withdraw_view) (λ (list : List ℕ). settled (ascending start) (record { state = Rest; answers = []; left = list })) lists
+  all_fresh = All-map (λ v. v ≡ fresh_withdraw_view) view_of begin.tabs (All-map (λ t. view_of t ≡ fresh_withdraw_view) (λ (list : List ℕ). caught_up (ascending start) (record { state = Rest; answers = []; left = list })) lists
       (λ k d lt.
       let list = get_or lists k d in
       ap (λ l. record { state = Rest; begun = l ++ []; gone = numbers_that is_gone (absent_first (ascending start) list) }) (numbers-absent is_withdrawn (ascending start) list refl)
@@ -261,12 +249,12 @@ module _ (bits salt limit : ℕ) (start : List ℕ) (lists : List (List ℕ)) (f
         distinct = apart;
         invariant = subst (λ (l : List ℕ). WithdrawInvariant (home_of bits salt) (base_in begin) l (map view_of begin.tabs)) (sym words)
             (seats.opened (home_of bits salt) (base_in begin) (map view_of begin.tabs) (base_begins bits salt limit (ascending start) few short some_held apart) all_fresh);
-        tabs = All-map (IsWithdrawer (ascending start)) (λ (list : List ℕ). settled (ascending start) (record { state = Rest; answers = []; left = list })) lists
+        tabs = All-map (IsWithdrawer (ascending start)) (λ (list : List ℕ). caught_up (ascending start) (record { state = Rest; answers = []; left = list })) lists
             (λ k d lt.
             let list = get_or lists k d in
             let absent = all_absent (ascending start) list in
             record {
-              next = next_settled (ascending start) list;
+              next = next_caught_up (ascending start) list;
               answers = All-weaker (IsAbsent (ascending start)) (λ b. IsRightWithdrawal (ascending start) b.number b.reply) (λ b out. subst (λ r. IsRightWithdrawal (ascending start) b.number r) (sym out.reply) out.not_held) (absent_first (ascending start) list) absent;
               in_order = pairs_absent (ascending start) list;
               not_gone = λ moves. absurd (moves refl);

@@ -1,23 +1,13 @@
 -- The numbers that a withdrawer has answered, and then those that are left, are its list, whatever steps are made.
 use Rattle.std.proofs.Common.{◌≡◌, ◌==◌, true, false, ℕ, ◌<◌, ⊎_elim, List, [], ◌∷◌, ◌++◌, length, get_or, set, drop, map, refl, sym, ap, ◌∙◌, subst, arith}
-use Rattle.std.proofs.lemmas.Bool.{cases_Bool}
-use Rattle.std.proofs.lemmas.List.{append-nil, append_assoc, map-append, map-set, set-get_or}
-use Rattle.std.proofs.lemmas.List.Elements.{All-head, All-tail}
-use Rattle.std.proofs.lemmas.Option.{get_or_from_slice_get}
-use Rattle.std.specs.List.{All, list_any}
+use Rattle.store_spec.proofs.Common.{All, All-head, All-tail, FirstRow, WithdrawMove, WithdrawNote, WithdrawRow, WithdrawState, Withdrawal, append-nil, append_assoc, ascending, began, begins, cases_Bool, chose, emptied, found_candidate, found_gone, found_lower_candidate, found_owed, get_or_from_slice_get, goes_on, kept_candidate, list_any, looked_higher, looked_lower, lost, map-append, map-set, refilled, set-get_or, walked_on}
 use Rattle.step_core.proofs.Schedules.{runs_keep}
 use Rattle.step_core.proofs.Sets.{at_place, stands-map}
 use Rattle.step_core.proofs.WithdrawingAnswers.{absent_on, absent_stops}
-use Rattle.step_core.specs.Withdrawing.{IsDone, IsDoneAt, Runs, Steps, Withdrawer, Withdrawing, absent_first, after_step, answered, answered_in, base_in, home_in, list_of, lists_in, next_number, opened, opened_tab, settled}
+use Rattle.step_core.specs.Withdrawing.{IsDone, IsDoneAt, Runs, Steps, Withdrawer, Withdrawing, absent_first, after_step, answered, answered_in, base_in, home_in, list_of, lists_in, next_number, opened, opened_tab, caught_up}
 use Rattle.step_core.specs.WithdrawingInvariant.{IsNext, IsWithdrawer, IsWithdrawing}
 use Rattle.step_core.proofs.WithdrawingSteps.{first_held, steps_keep}
-use Rattle.store_spec.specs.Layout.{ascending}
-use Rattle.store_spec.specs.WithdrawPhase.{Withdrawal}
 use Rattle.store_spec.specs.WithdrawPhase as reply
-use Rattle.store_spec.specs.WithdrawStep.{FirstRow, WithdrawMove, WithdrawNote, WithdrawRow, WithdrawState}
-use Rattle.store_spec.specs.WithdrawStep.FirstRow.{found_gone, chose}
-use Rattle.store_spec.specs.WithdrawStep.WithdrawMove.{begins, goes_on}
-use Rattle.store_spec.specs.WithdrawStep.WithdrawRow.{walked_on, began, found_owed, looked_lower, looked_higher, found_candidate, found_lower_candidate, kept_candidate, emptied, refilled, lost}
 use Rattle.store_spec.specs.WithdrawStep.WithdrawState.{Rest}
 
 abbrev numbers : List Withdrawal → List ℕ
@@ -34,8 +24,8 @@ absent_numbers held (x ∷ xs) =
     (λ (none : list_any (λ n. n == x) held ≡ false). subst Kept (sym (absent_on held x xs none)) (ap (λ l. x ∷ l) (absent_numbers held xs)))
     (cases_Bool (list_any (λ n. n == x) held))
 
-settled_list : (held : List ℕ) (tab : Withdrawer) → list_of (settled held tab) ≡ list_of tab
-settled_list held tab =
+caught_up_list : (held : List ℕ) (tab : Withdrawer) → list_of (caught_up held tab) ≡ list_of tab
+caught_up_list held tab =
     let more = absent_first held tab.left in
     ap (λ l. l ++ drop (length more) tab.left) (map-append (λ (a : Withdrawal). a.number) tab.answers more)
     ∙ append_assoc (numbers tab.answers) (numbers more) (drop (length more) tab.left)
@@ -53,8 +43,8 @@ module _ (held : List ℕ) (answers : List Withdrawal) (left : List ℕ) where
   abbrev tab_in : WithdrawState → Withdrawer
   tab_in state = record { state = state; answers = answers; left = left }
 
-  given_list : (given : reply.WithdrawReply) → 0 < length left → list_of (settled held (answered given (tab_in Rest))) ≡ numbers answers ++ left
-  given_list given some = settled_list held (answered given (tab_in Rest)) ∙ answered_list given Rest answers left some
+  given_list : (given : reply.WithdrawReply) → 0 < length left → list_of (caught_up held (answered given (tab_in Rest))) ≡ numbers answers ++ left
+  given_list given some = caught_up_list held (answered given (tab_in Rest)) ∙ answered_list given Rest answers left some
 
   row_list : (home : ℕ → ℕ) (from : WithdrawState) (word found leaves : ℕ) (new : WithdrawState) (note : WithdrawNote) → WithdrawRow home from word found leaves new note → IsNext held from left → list_of (after_step held (tab_in from) new note) ≡ numbers answers ++ left
   row_list home _ _ _ _ _ _ (walked_on less) next = refl
@@ -93,7 +83,7 @@ steps_list w id now h s =
 opened_each : (held : List ℕ) (lists : List (List ℕ)) → map list_of (map (opened_tab held) lists) ≡ lists
 opened_each held [] = refl
 opened_each held (list ∷ lists) =
-    ap (λ l. l ∷ map list_of (map (opened_tab held) lists)) (settled_list held (record { state = Rest; answers = []; left = list }))
+    ap (λ l. l ∷ map list_of (map (opened_tab held) lists)) (caught_up_list held (record { state = Rest; answers = []; left = list }))
     ∙ ap (λ ls. list ∷ ls) (opened_each held lists)
 
 pub opened_lists : (bits salt limit : ℕ) (start : List ℕ) (lists : List (List ℕ)) → lists_in (opened bits salt limit start lists) ≡ lists

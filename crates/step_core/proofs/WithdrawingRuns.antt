@@ -1,7 +1,6 @@
 -- Whole schedules of a withdrawing phase: what holds at every moment is kept, and a schedule has one run.
-use Rattle.std.proofs.Common.{◌≡◌, ◌≢◌, ℕ, ◌+◌, ◌⊎◌, inl, inr, ⊎_elim, List, [], ◌∷◌, length, get_or, set, Option, Some, refl, sym, ap, ◌∙◌, subst}
-use Rattle.std.specs.Option.{IsSomeAnd}
-use Rattle.std.specs.Prelude.{slice_get}
+use Rattle.std.proofs.Common.{◌≡◌, ◌≢◌, ℕ, ◌+◌, ◌⊎◌, inl, inr, ⊎_elim, List, length, get_or, set, Option, Some, refl, sym, ap, ◌∙◌, subst}
+use Rattle.store_spec.proofs.Common.{Chosen, Down, FirstRow, Gone, IsOrdered, IsSomeAnd, Owing, Quiet, StandsInBase, Up, WithdrawMove, WithdrawNote, WithdrawRow, WithdrawState, began, begins, chose, emptied, found_candidate, found_gone, found_lower_candidate, found_owed, goes_on, kept_candidate, looked_higher, looked_lower, lost, refilled, slice_get, walked_on, withdraw_act, word_of}
 use Rattle.step_core.proofs.Schedules as schedules
 use Rattle.step_core.proofs.WithdrawFirst.{one_place}
 use Rattle.step_core.proofs.WithdrawOneRow.{one_row}
@@ -9,14 +8,7 @@ use Rattle.step_core.proofs.WithdrawReady.{down_word}
 use Rattle.step_core.proofs.WithdrawingSteps.{steps_keep}
 use Rattle.step_core.specs.Withdrawing.{IsDone, IsDoneAt, Runs, Steps, Withdrawer, Withdrawing, after_step, base_in, home_in, next_number}
 use Rattle.step_core.specs.WithdrawingInvariant.{IsWithdrawing}
-use Rattle.store_spec.specs.Act.{word_of}
-use Rattle.store_spec.specs.Layout.{IsOrdered}
-use Rattle.store_spec.specs.WithdrawStep.{FirstRow, IsSeated, WithdrawMove, WithdrawNote, WithdrawRow, WithdrawState, withdraw_act}
-use Rattle.store_spec.specs.WithdrawStep.FirstRow.{found_gone, chose}
-use Rattle.store_spec.specs.WithdrawStep.WithdrawMove.{begins, goes_on}
-use Rattle.store_spec.specs.WithdrawStep.WithdrawRow.{walked_on, began, found_owed, looked_lower, looked_higher, found_candidate, found_lower_candidate, kept_candidate, emptied, refilled, lost}
-use Rattle.store_spec.specs.WithdrawStep.WithdrawNote.{Quiet, Gone}
-use Rattle.store_spec.specs.WithdrawStep.WithdrawState.{Rest, Chosen, Owing, Up, Down}
+use Rattle.store_spec.specs.WithdrawStep.WithdrawState.{Rest}
 
 pub runs_keep : (w : Withdrawing) (ids : List ℕ) (end : Withdrawing) → Runs w ids end → IsWithdrawing w → IsWithdrawing end
 runs_keep w ids end run h = schedules.runs_keep Steps IsDoneAt IsWithdrawing steps_keep w ids end h run
@@ -50,7 +42,7 @@ no_row home _ _ _ _ _ _ (lost other) e = cc
 -- what a first move is, by its state
 record Begins (home : ℕ → ℕ) (base : List ℕ) (x word found left : ℕ) (new : WithdrawState) (note : WithdrawNote) : Type 0 where
   cell : ℕ
-  seated : IsSeated base x cell
+  seated : StandsInBase base x cell
   is : word ≡ length base + cell
   puts : left ≡ 1
   row : FirstRow home x found new note

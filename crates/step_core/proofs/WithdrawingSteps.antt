@@ -1,26 +1,16 @@
 -- One step of a withdrawing phase keeps what holds at every moment, and leaves the withdrawer less to do.
 use Rattle.std.proofs.Common.{◌≡◌, ◌≢◌, true, ℕ, ◌+◌, ◌-◌, ◌<◌, ◌≤◌, inl, inr, ⊎_elim, Some, slice_get, List, [], ◌∷◌, ◌++◌, length, get_or, set, take, drop, map, refl, sym, ap, ◌∙◌, subst, arith}
-use Rattle.std.proofs.lemmas.Bool.{cases_lt}
-use Rattle.std.proofs.lemmas.List.{append-nil, get_or-map, get_or-set_same, length-drop, length-map, length-set, map-set}
-use Rattle.std.proofs.lemmas.List.Elements.{All-weaker, Contains-append_right, All-contains}
-use Rattle.std.proofs.lemmas.Option.{slice_get_within, get_or_from_slice_get, slice_get-get_or}
-use Rattle.std.specs.List.{All, AllPairs, Contains}
+use Rattle.store_spec.proofs.Common.{All, All-contains, All-weaker, AllPairs, Chosen, Contains, Contains-append_right, Down, Falls, FirstRow, IsOfBase, IsRightWithdrawal, IsSound, MayBeWithdrawnBefore, Owing, StandsInBase, Up, WithdrawInvariant, WithdrawNote, WithdrawRow, WithdrawState, WithdrawView, Withdrawal, append-nil, began, begins, cases_lt, cell_words, chose, emptied, found_candidate, found_gone, found_lower_candidate, found_owed, get_or-map, get_or-set_same, get_or_from_slice_get, goes_on, is_withdrawn, kept_candidate, length-drop, length-map, length-set, looked_higher, looked_lower, lost, map-set, refilled, slice_get-get_or, slice_get_within, walked_on, withdraw_number, withdraw_view_after}
 use Rattle.step_core.proofs.WithdrawReady.{found_taken, row_falls, sound_of}
 use Rattle.step_core.proofs.WithdrawRows.{keeps_step}
-use Rattle.step_core.proofs.WithdrawingAnswers.{answers_settled, next_settled, numbers-contains, numbers-settled, pairs_settled}
+use Rattle.step_core.proofs.WithdrawingAnswers.{answers_caught_up, next_caught_up, numbers-contains, numbers-caught_up, pairs_caught_up}
 use Rattle.step_core.proofs.WithdrawingBase.{base_layout, of_base_held}
 use Rattle.step_core.proofs.WordSets.{all_after_set}
-use Rattle.step_core.specs.Withdrawing.{Steps, Withdrawer, Withdrawing, absent_first, after_step, answered, base_in, count_in, home_in, next_number, settled}
+use Rattle.step_core.specs.Withdrawing.{Steps, Withdrawer, Withdrawing, absent_first, after_step, answered, base_in, count_in, home_in, next_number, caught_up}
 use Rattle.step_core.specs.WithdrawingInvariant.{FallsAt, IsNext, IsWithdrawer, IsWithdrawing, begun_now, is_gone, numbers_that, tab_measure, view_of}
-use Rattle.store_spec.specs.Measure.{Falls}
-use Rattle.store_spec.specs.WithdrawInvariant.{IsOf, IsSound, WithdrawInvariant, cell_words}
-use Rattle.store_spec.specs.WithdrawPhase.{IsRightWithdrawal, MayBeWithdrawnBefore, Withdrawal, is_withdrawn}
 use Rattle.store_spec.specs.WithdrawPhase as reply
-use Rattle.store_spec.specs.WithdrawStep.{FirstRow, IsSeated, WithdrawMove, WithdrawNote, WithdrawRow, WithdrawState, WithdrawStep, WithdrawView, withdraw_number, withdraw_view_after}
-use Rattle.store_spec.specs.WithdrawStep.FirstRow.{found_gone, chose}
-use Rattle.store_spec.specs.WithdrawStep.WithdrawMove.{begins, goes_on}
-use Rattle.store_spec.specs.WithdrawStep.WithdrawRow.{walked_on, began, found_owed, looked_lower, looked_higher, found_candidate, found_lower_candidate, kept_candidate, emptied, refilled, lost}
-use Rattle.store_spec.specs.WithdrawStep.WithdrawState.{Rest, Chosen, Owing, Up, Down}
+use Rattle.store_spec.specs.WithdrawStep.{WithdrawMove, WithdrawStep}
+use Rattle.store_spec.specs.WithdrawStep.WithdrawState.{Rest}
 
 -- the first number alone
 take_first : (left : List ℕ) → 0 < length left → take 1 left ≡ get_or left 0 0 ∷ []
@@ -45,12 +35,12 @@ module _ (home : ℕ → ℕ) (base held : List ℕ) (answers : List Withdrawal)
   -- the number that is answered was begun, and stays so
   answered_begun : 0 < length left → numbers_that is_withdrawn ((answers ++ record { number = get_or left 0 0; reply = reply.Withdrawn } ∷ []) ++ absent_first held (drop 1 left)) ++ [] ≡ withdrawn ++ take 1 left
   answered_begun some =
-      append-nil _ ∙ numbers-settled is_withdrawn held answers (record { number = get_or left 0 0; reply = reply.Withdrawn }) (drop 1 left) refl
+      append-nil _ ∙ numbers-caught_up is_withdrawn held answers (record { number = get_or left 0 0; reply = reply.Withdrawn }) (drop 1 left) refl
       ∙ ap (λ (l : List ℕ). withdrawn ++ l) (sym (take_first left some))
 
   -- nor was it found gone
   answered_not_gone : numbers_that is_gone ((answers ++ record { number = get_or left 0 0; reply = reply.Withdrawn } ∷ []) ++ absent_first held (drop 1 left)) ≡ numbers_that is_gone answers
-  answered_not_gone = numbers-settled is_gone held answers (record { number = get_or left 0 0; reply = reply.Withdrawn }) (drop 1 left) refl ∙ append-nil (numbers_that is_gone answers)
+  answered_not_gone = numbers-caught_up is_gone held answers (record { number = get_or left 0 0; reply = reply.Withdrawn }) (drop 1 left) refl ∙ append-nil (numbers_that is_gone answers)
 
   row_view : (from : WithdrawState) (word found leaves : ℕ) (new : WithdrawState) (note : WithdrawNote) → WithdrawRow home from word found leaves new note → IsNext held from left → view_now from new note ≡ withdraw_view_after (view_before from) (withdraw_number from) new note
   row_view _ _ _ _ _ _ (walked_on {x} {place} {word} less) next = refl
@@ -71,8 +61,8 @@ module _ (home : ℕ → ℕ) (base held : List ℕ) (answers : List Withdrawal)
   first_view : (x found : ℕ) (new : WithdrawState) (note : WithdrawNote) → x ≡ get_or left 0 0 → FirstRow home x found new note → view_now Rest new note ≡ withdraw_view_after (view_before Rest) x new note
   first_view x _ _ _ e found_gone =
       same_view Rest _ (withdrawn ++ []) _ (numbers_that is_gone answers ++ x ∷ [])
-      (append-nil _ ∙ numbers-settled is_withdrawn held answers (record { number = get_or left 0 0; reply = reply.Gone }) (drop 1 left) refl)
-      (numbers-settled is_gone held answers (record { number = get_or left 0 0; reply = reply.Gone }) (drop 1 left) refl ∙ ap (λ v. numbers_that is_gone answers ++ v ∷ []) (sym e))
+      (append-nil _ ∙ numbers-caught_up is_withdrawn held answers (record { number = get_or left 0 0; reply = reply.Gone }) (drop 1 left) refl)
+      (numbers-caught_up is_gone held answers (record { number = get_or left 0 0; reply = reply.Gone }) (drop 1 left) refl ∙ ap (λ v. numbers_that is_gone answers ++ v ∷ []) (sym e))
   first_view x _ _ _ e chose = refl
 
   move_view : (from : WithdrawState) (number word found leaves : ℕ) (new : WithdrawState) (note : WithdrawNote) → number ≡ next_number from left → WithdrawMove home base from number word found leaves new note → IsNext held from left → view_now from new note ≡ withdraw_view_after (view_before from) number new note
@@ -85,13 +75,13 @@ module _ (held : List ℕ) (answers : List Withdrawal) (left : List ℕ) where
   abbrev tab_in : WithdrawState → Withdrawer
   tab_in state = record { state = state; answers = answers; left = left }
 
-  answered_tab : (given : reply.WithdrawReply) → All (λ a. IsRightWithdrawal held a.number a.reply) answers → AllPairs MayBeWithdrawnBefore answers → IsRightWithdrawal held (get_or left 0 0) given → All (λ b. MayBeWithdrawnBefore b (record { number = get_or left 0 0; reply = given })) answers → IsWithdrawer held (settled held (answered given (tab_in Rest)))
+  answered_tab : (given : reply.WithdrawReply) → All (λ a. IsRightWithdrawal held a.number a.reply) answers → AllPairs MayBeWithdrawnBefore answers → IsRightWithdrawal held (get_or left 0 0) given → All (λ b. MayBeWithdrawnBefore b (record { number = get_or left 0 0; reply = given })) answers → IsWithdrawer held (caught_up held (answered given (tab_in Rest)))
   answered_tab given right pairs one before =
       let a : Withdrawal = record { number = get_or left 0 0; reply = given } in
       record {
-        next = next_settled held (drop 1 left);
-        answers = answers_settled (λ b. IsRightWithdrawal held b.number b.reply) held answers a (drop 1 left) (λ b absent. subst (λ r. IsRightWithdrawal held b.number r) (sym absent.reply) absent.not_held) right one;
-        in_order = pairs_settled held answers a (drop 1 left) pairs before;
+        next = next_caught_up held (drop 1 left);
+        answers = answers_caught_up (λ b. IsRightWithdrawal held b.number b.reply) held answers a (drop 1 left) (λ b absent. subst (λ r. IsRightWithdrawal held b.number r) (sym absent.reply) absent.not_held) right one;
+        in_order = pairs_caught_up held answers a (drop 1 left) pairs before;
         not_gone = λ moves. absurd (moves refl);
       }
 
@@ -121,7 +111,7 @@ module _ (held : List ℕ) (answers : List Withdrawal) (left : List ℕ) where
 -- ---- what a move leaves to do
 
 module _ (held : List ℕ) (answers : List Withdrawal) (left : List ℕ) where
-  fewer_left : (given : reply.WithdrawReply) → length (settled held (answered given (record { state = Rest; answers = answers; left = left }))).left ≤ length left - 1
+  fewer_left : (given : reply.WithdrawReply) → length (caught_up held (answered given (record { state = Rest; answers = answers; left = left }))).left ≤ length left - 1
   fewer_left given = omega (arith, length-drop (length (absent_first held (drop 1 left))) (drop 1 left), length-drop 1 left)
 
   row_less : (home : ℕ → ℕ) (base cells : List ℕ) (views : List WithdrawView) (from : WithdrawState) (word found leaves : ℕ) (new : WithdrawState) (note : WithdrawNote) → WithdrawRow home from word found leaves new note → IsSound home base cells views from → Falls (tab_measure (length base) (after_step held (record { state = from; answers = answers; left = left }) new note)) (tab_measure (length base) (record { state = from; answers = answers; left = left }))
@@ -135,7 +125,7 @@ module _ (held : List ℕ) (answers : List Withdrawal) (left : List ℕ) where
   row_less home base cells views _ _ _ _ _ _ (kept_candidate {x} {bound} {place} {c} {source} {word} above misfit) s = inr (refl, row_falls home base cells views _ _ _ _ _ _ (kept_candidate above misfit) s)
   row_less home base cells views _ _ _ _ _ _ (emptied {x} {bound} {source}) s =
       let few = fewer_left reply.Withdrawn in
-      let now = length (settled held (answered reply.Withdrawn (record { state = Rest; answers = answers; left = left }))).left in
+      let now = length (caught_up held (answered reply.Withdrawn (record { state = Rest; answers = answers; left = left }))).left in
       ⊎_elim
       (λ (less : now < length left - 1). inl less)
       (λ (same : length left - 1 ≤ now). inr (let e : now ≡ length left - 1 = omega arith in e, row_falls home base cells views _ _ _ _ _ _ (emptied {x = x} {bound = bound} {source = source}) s))
@@ -159,7 +149,7 @@ module _ (home : ℕ → ℕ) (base held : List ℕ) (answers : List Withdrawal)
   abbrev NotGone : Type 0
   NotGone = All (λ a. a.number ≡ get_or left 0 0 → a.reply ≢ reply.Gone) answers
 
-  move_tab : (from : WithdrawState) (number word found leaves : ℕ) (new : WithdrawState) (note : WithdrawNote) → number ≡ next_number from left → WithdrawMove home base from number word found leaves new note → IsWithdrawer held (tab_of from) → (begun_now from left ≡ take 1 left → 0 < length left → Contains held (get_or left 0 0)) → ((cell : ℕ) → IsSeated base number cell → word ≡ length base + cell → found ≡ 0 → from ≡ Rest → NotGone) → IsWithdrawer held (after_step held (tab_of from) new note)
+  move_tab : (from : WithdrawState) (number word found leaves : ℕ) (new : WithdrawState) (note : WithdrawNote) → number ≡ next_number from left → WithdrawMove home base from number word found leaves new note → IsWithdrawer held (tab_of from) → (begun_now from left ≡ take 1 left → 0 < length left → Contains held (get_or left 0 0)) → ((cell : ℕ) → StandsInBase base number cell → word ≡ length base + cell → found ≡ 0 → from ≡ Rest → NotGone) → IsWithdrawer held (after_step held (tab_of from) new note)
   move_tab _ _ _ _ _ _ _ e (begins {x} {cell} {found} {new} {note} seated row) h done untaken =
       let first = first_held held left h.next (λ z. seated.some (e ∙ z)) in
       first_tab held answers left home x found new note e first.0 first.1 row h (λ none. untaken cell seated refl none refl)
@@ -198,7 +188,7 @@ module _ (w : Withdrawing) (id : ℕ) (now : Withdrawing) (h : IsWithdrawing w) 
   abbrev tab_now : Withdrawer
   tab_now = after_step w.held s.tab s.new s.note
 
-  held_of_base : (x : ℕ) → IsOf (base_in w) x → Contains w.held x
+  held_of_base : (x : ℕ) → IsOfBase (base_in w) x → Contains w.held x
   held_of_base x of = of_base_held w.bits w.salt w.limit w.held h.few_bits h.within_limit h.some h.distinct x of
 
   invariant_now : WithdrawInvariant (home_in w) (base_in w) (set w.words s.word s.left) (map view_of (set w.tabs id tab_now))
@@ -225,15 +215,15 @@ module _ (w : Withdrawing) (id : ℕ) (now : Withdrawing) (h : IsWithdrawing w) 
   begun_held : begun_now s.tab.state s.tab.left ≡ take 1 s.tab.left → 0 < length s.tab.left → Contains w.held (get_or s.tab.left 0 0)
   begun_held is some =
       let lt = slice_get_within (map view_of w.tabs) id (view_of s.tab) has in
-      let all : All (IsOf (base_in w)) (view_of s.tab).begun =
-      subst (λ (v : WithdrawView). All (IsOf (base_in w)) v.begun) (get_or_from_slice_get (map view_of w.tabs) id (view_of s.tab) (view_of s.tab) has) (h.invariant.flags.begun id (view_of s.tab) lt) in
+      let all : All (IsOfBase (base_in w)) (view_of s.tab).begun =
+      subst (λ (v : WithdrawView). All (IsOfBase (base_in w)) v.begun) (get_or_from_slice_get (map view_of w.tabs) id (view_of s.tab) (view_of s.tab) has) (h.invariant.flags.begun id (view_of s.tab) lt) in
       let among : Contains (begun_now s.tab.state s.tab.left) (get_or s.tab.left 0 0) =
       subst (λ (l : List ℕ). Contains l (get_or s.tab.left 0 0)) (sym (is ∙ take_first s.tab.left some)) (0, omega arith, refl) in
       held_of_base (get_or s.tab.left 0 0)
-      (All-contains (IsOf (base_in w)) (view_of s.tab).begun (get_or s.tab.left 0 0) all (Contains-append_right (numbers_that is_withdrawn s.tab.answers) (begun_now s.tab.state s.tab.left) (get_or s.tab.left 0 0) among))
+      (All-contains (IsOfBase (base_in w)) (view_of s.tab).begun (get_or s.tab.left 0 0) all (Contains-append_right (numbers_that is_withdrawn s.tab.answers) (begun_now s.tab.state s.tab.left) (get_or s.tab.left 0 0) among))
 
   -- a number that was found gone has its flag set
-  untaken : (cell : ℕ) → IsSeated (base_in w) (next_number s.tab.state s.tab.left) cell → s.word ≡ length (base_in w) + cell → get_or w.words s.word 0 ≡ 0 → s.tab.state ≡ Rest → All (λ a. a.number ≡ get_or s.tab.left 0 0 → a.reply ≢ reply.Gone) s.tab.answers
+  untaken : (cell : ℕ) → StandsInBase (base_in w) (next_number s.tab.state s.tab.left) cell → s.word ≡ length (base_in w) + cell → get_or w.words s.word 0 ≡ 0 → s.tab.state ≡ Rest → All (λ a. a.number ≡ get_or s.tab.left 0 0 → a.reply ≢ reply.Gone) s.tab.answers
   untaken cell seated is none rests = All-weaker (λ a. is_gone a.reply ≡ true → Contains (numbers_that is_gone s.tab.answers) a.number) (λ a. a.number ≡ get_or s.tab.left 0 0 → a.reply ≢ reply.Gone)
       (λ a among same gone.
       let first : next_number s.tab.state s.tab.left ≡ get_or s.tab.left 0 0 = ap (λ t. next_number t s.tab.left) rests in

@@ -69,8 +69,8 @@ answers_at_once base claims (x ∷ xs) =
     else if claims == 0 then record { number = x; met = Full } ∷ answers_at_once base claims xs else []
 
 -- a tabulator at rest answers them as soon as they stand first
-abbrev pub settled : List ℕ → ℕ → Tabulator → Tabulator
-settled base claims tab =
+abbrev pub caught_up : List ℕ → ℕ → Tabulator → Tabulator
+caught_up base claims tab =
     let at_once = answers_at_once base claims tab.left in
     record tab { answers = tab.answers ++ at_once; left = drop (length at_once) tab.left }
 
@@ -86,7 +86,7 @@ pub record MayOpen (bits limit : ℕ) (start : List ℕ) (lists : List (List ℕ
 
 -- a tabulator for each list
 abbrev pub opened_tab : List ℕ → ℕ → List ℕ → Tabulator
-opened_tab base claims list = settled base claims (record { state = Rest; answers = []; left = list })
+opened_tab base claims list = caught_up base claims (record { state = Rest; answers = []; left = list })
 
 abbrev pub opened_tabs : List ℕ → ℕ → List (List ℕ) → List Tabulator
 opened_tabs base claims lists = map (opened_tab base claims) lists
@@ -139,7 +139,7 @@ told notes.Placed tab = tab
 
 -- a tabulator after a step to this state, with this note
 abbrev pub after_step : List ℕ → ℕ → Tabulator → CastState → CastNote → Tabulator
-after_step base claims tab Rest note = settled base claims (told note (record tab { state = Rest }))
+after_step base claims tab Rest note = caught_up base claims (told note (record tab { state = Rest }))
 after_step base claims tab (Probing x k) note = told note (record tab { state = Probing x k })
 after_step base claims tab (Carrying v i) note = told note (record tab { state = Carrying v i })
 after_step base claims tab (Ready v i s) note = told note (record tab { state = Ready v i s })

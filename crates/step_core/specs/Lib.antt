@@ -5,8 +5,8 @@ pub mod CastKept
 pub mod CastTables
 pub mod Casting
 pub mod CastingInvariant
+pub mod CellIndex
 pub mod Schedule
-pub mod Seats
 pub mod Shape
 pub mod WithdrawCore
 pub mod WithdrawCoreKept

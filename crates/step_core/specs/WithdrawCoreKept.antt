@@ -1,6 +1,6 @@
 -- How a core of withdrawing is kept.
 use Rattle.std.specs.Prelude.{◌≡◌, ◌+◌, ◌^◌, map, All}
-use Rattle.step_core.specs.Seats.{AreSeats}
+use Rattle.step_core.specs.CellIndex.{IsCellIndex}
 use Rattle.step_core.specs.WithdrawCore.{HasReplyRoom, IsShape, base_of, tab_of}
 use Rattle.step_core.specs.Withdrawing.{Withdrawing}
 use Rattle.step_core.specs.WithdrawingInvariant.{IsWithdrawing}
@@ -11,7 +11,7 @@ withdrawing_of a = record {
   bits = a.shape.order.bits;
   salt = a.shape.order.salt;
   limit = a.limit;
-  held = a.seats.numbers.items;
+  held = a.index.numbers.items;
   words = a.words.items;
   tabs = map tab_of a.tabs.items;
 }
@@ -19,6 +19,6 @@ withdrawing_of a = record {
 pub record IsCoreKept (a : Inside) : Type 0 where
   pub phase : IsWithdrawing (withdrawing_of a)
   pub cells : a.shape.cells ≡ 2 ^ a.shape.order.bits + a.limit
-  pub shape : IsShape a.shape (base_of a.shape a.seats.numbers.items)
-  pub seats : AreSeats (base_of a.shape a.seats.numbers.items) a.seats.numbers.items a.seats.places.items
+  pub shape : IsShape a.shape (base_of a.shape a.index.numbers.items)
+  pub index : IsCellIndex (base_of a.shape a.index.numbers.items) a.index.numbers.items a.index.places.items
   pub room : All HasReplyRoom a.tabs.items

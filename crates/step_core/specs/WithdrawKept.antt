@@ -5,8 +5,8 @@ use Rattle.store_spec.specs.WithdrawStep.{WithdrawState, WithdrawNote, WithdrawV
 
 -- Whatever words and views the invariant holds of, it holds after a step for a number from this state, on this word,
 -- which finds and leaves these values, to the new state.
-abbrev pub IsKept : (ℕ → ℕ) → List ℕ → ℕ → WithdrawState → ℕ → ℕ → ℕ → WithdrawState → WithdrawNote → Type 0
-IsKept home base x from word found left new note = (words : List ℕ) (views : List WithdrawView) (id : ℕ) (view : WithdrawView)
+abbrev pub KeepsInvariant : (ℕ → ℕ) → List ℕ → ℕ → WithdrawState → ℕ → ℕ → ℕ → WithdrawState → WithdrawNote → Type 0
+KeepsInvariant home base x from word found left new note = (words : List ℕ) (views : List WithdrawView) (id : ℕ) (view : WithdrawView)
     → WithdrawInvariant home base words views
     → slice_get views id ≡ Some view → view.state ≡ from → slice_index words word ≡ found
     → WithdrawInvariant home base (slice_set words word left) (slice_set views id (withdraw_view_after view x new note))

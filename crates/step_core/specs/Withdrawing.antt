@@ -64,15 +64,15 @@ absent_first held [] = []
 absent_first held (x ∷ xs) = if list_any (λ n. n == x) held then [] else record { number = x; reply = Absent } ∷ absent_first held xs
 
 -- a withdrawer at rest answers them as soon as they stand first
-abbrev pub settled : List ℕ → Withdrawer → Withdrawer
-settled held tab =
+abbrev pub caught_up : List ℕ → Withdrawer → Withdrawer
+caught_up held tab =
     let absent = absent_first held tab.left in
     record { state = tab.state; answers = tab.answers ++ absent; left = drop (length absent) tab.left }
 
 -- ---- the opening
 
 abbrev pub opened_tab : List ℕ → List ℕ → Withdrawer
-opened_tab held list = settled held (record { state = Rest; answers = []; left = list })
+opened_tab held list = caught_up held (record { state = Rest; answers = []; left = list })
 
 abbrev pub opened : ℕ → ℕ → ℕ → List ℕ → List (List ℕ) → Withdrawing
 opened bits salt limit start lists =
@@ -112,8 +112,8 @@ answered reply tab = record {
 abbrev pub after_step : List ℕ → Withdrawer → WithdrawState → WithdrawNote → Withdrawer
 after_step held tab new notes.Quiet = record { state = new; answers = tab.answers; left = tab.left }
 after_step held tab new notes.Begun = record { state = new; answers = tab.answers; left = tab.left }
-after_step held tab new notes.Gone = settled held (answered Gone (record { state = new; answers = tab.answers; left = tab.left }))
-after_step held tab new notes.Done = settled held (answered Withdrawn (record { state = new; answers = tab.answers; left = tab.left }))
+after_step held tab new notes.Gone = caught_up held (answered Gone (record { state = new; answers = tab.answers; left = tab.left }))
+after_step held tab new notes.Done = caught_up held (answered Withdrawn (record { state = new; answers = tab.answers; left = tab.left }))
 
 -- the withdrawer at `id` makes one step, one row of the table of withdrawing, and all else stays
 pub record Steps (w : Withdrawing) (id : ℕ) (now : Withdrawing) : Type 0 where

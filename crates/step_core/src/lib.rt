@@ -5,8 +5,8 @@
 mod act;
 mod cast;
 mod cast_core;
+mod index;
 pub mod laws;
-mod seats;
 mod shape;
 mod tabulator;
 mod withdraw;

@@ -4,7 +4,7 @@ ghost use Rattle.std.specs.Prelude.{◌≡◌, ◌≢◌, ◌↔◌, ◌+◌, �
 ghost use Rattle.std.specs.List.Sorted.{IsNonDecreasing};
 ghost use Rattle.step_core.specs.CastCore.{AnswersAtOnce, HasReplyRoom, KeepsList, MayStep, MayTell, NeedsStep, TabSteps, met_of, tab_of};
 ghost use Rattle.step_core.specs.CastTables.{note_of, state_of};
-ghost use Rattle.step_core.specs.Casting.{IsDone, answered, next_from, opened_tab, settled, told};
+ghost use Rattle.step_core.specs.Casting.{IsDone, answered, next_from, opened_tab, caught_up, told};
 ghost use Rattle.step_core.specs.Shape.{table_of};
 ghost use Rattle.store_spec.specs.CastStep.CastState.{Rest};
 
@@ -52,7 +52,7 @@ impl Tabulator {
             list,
             replies,
         };
-        tab.settle(base, claims);
+        tab.catch_up(base, claims);
         Ok(tab)
     }
 
@@ -118,10 +118,10 @@ impl Tabulator {
     }
 
     /// Answers the numbers that stand first and need no step.
-    fn settle(&mut self, base: &[u64], claims: usize)
+    fn catch_up(&mut self, base: &[u64], claims: usize)
         requires in_order { IsNonDecreasing base.now }
         requires room { HasReplyRoom self.old }
-        ensures settled { tab_of self.new ≡ settled base.now claims (tab_of self.old) }
+        ensures caught_up { tab_of self.new ≡ caught_up base.now claims (tab_of self.old) }
         ensures kept { KeepsList self.old self.new }
     {
         'answers: while let Some(number) = self.first() {
@@ -177,7 +177,7 @@ pub fn make_step(shape: &Shape, base: &[u64], words: &mut [u64], tab: &mut Tabul
     tab.state = state;
     tab.tell(note);
     if let CastState::Rest = state {
-        tab.settle(base, shape.claims);
+        tab.catch_up(base, shape.claims);
     }
     Stepped::Step
 }

@@ -1,12 +1,13 @@
 //! A core of withdrawing: withdrawers that make their steps one by one, in any order.
 
 ghost use Rattle.std.specs.Prelude.{◌≡◌, ◌≢◌, ◌↔◌, ◌+◌, ◌^◌, ◌<◌, ◌≤◌, All, AllPairs, IfOk, IsTrue, length, map, vec_len};
-ghost use Rattle.step_core.specs.Seats.{AreSeats};
+ghost use Rattle.store_spec.specs.Election.{most_ballots};
+ghost use Rattle.step_core.specs.CellIndex.{IsCellIndex};
 ghost use Rattle.step_core.specs.WithdrawCore.{HasReplyRoom, reply_of, tab_of};
 ghost use Rattle.step_core.specs.Withdrawing.{HasEnded, IsDone, IsDoneAt, Steps, answered_in, cells_in, lists_in, opened, opened_tab, replies_at};
 ghost use Rattle.step_core.specs.WithdrawingInvariant.{FallsAt, IsWithdrawing};
 
-use crate::seats::Seats;
+use crate::index::CellIndex;
 use crate::withdrawer::{WithdrawReply, Withdrawer, make_step};
 use crate::{Shape, Stepped};
 use layout_def::build;
@@ -20,7 +21,7 @@ use std::marker::Model;
 pub struct WithdrawCore {
     shape: Shape,
     limit: u32,
-    seats: Seats,
+    index: CellIndex,
     words: Vec<u64>,
     tabs: Vec<Withdrawer>,
 }
@@ -48,7 +49,7 @@ impl WithdrawCore {
         lists: Vec<Vec<u64>>,
     ) -> Result<WithdrawCore, Memory>
         requires some_limit { 1 ≤ limit }
-        requires few_numbers { limit ≤ 32768 }
+        requires few_numbers { limit ≤ most_ballots }
         requires distinct { AllPairs (λ a b. a ≢ b) start.now }
         requires some { All (λ x. x ≢ 0) start.now }
         requires within_limit { length start.now ≤ limit }
@@ -63,9 +64,9 @@ impl WithdrawCore {
     {
         let cells = order.homes() + limit as usize;
         let mut words = build(alloc, &order, cells, start)?;
-        let seats = Seats::new(alloc, start, &words)?;
+        let index = CellIndex::new(alloc, start, &words)?;
         words.resize(cells + cells, 0)?;
-        let tabs = withdrawers(alloc, lists, &seats)?;
+        let tabs = withdrawers(alloc, lists, &index)?;
         let shape = Shape {
             order,
             cells,
@@ -74,7 +75,7 @@ impl WithdrawCore {
         Ok(WithdrawCore {
             shape,
             limit,
-            seats,
+            index,
             words,
             tabs,
         })
@@ -101,7 +102,7 @@ impl WithdrawCore {
         }
         make_step(
             &self.shape,
-            &self.seats,
+            &self.index,
             &mut self.words,
             &mut self.tabs[tab],
         );
@@ -148,16 +149,16 @@ fn all_done(tabs: &[Withdrawer]) -> bool
 fn withdrawers(
     alloc: Global,
     lists: Vec<Vec<u64>>,
-    seats: &Seats,
+    index: &CellIndex,
 ) -> Result<Vec<Withdrawer>, Memory>
     ensures tabs { IfOk result
         (λ tabs. map tab_of tabs.items
-        ≡ map (opened_tab seats.now.numbers.items) (map (λ list. list.items) lists.items)) }
+        ≡ map (opened_tab index.now.numbers.items) (map (λ list. list.items) lists.items)) }
     ensures room { IfOk result (λ tabs. All HasReplyRoom tabs.items) }
 {
     let mut tabs = Vec::with_capacity(alloc, lists.len())?;
     for list in lists {
-        tabs.push(Withdrawer::new(alloc, list, seats)?)?;
+        tabs.push(Withdrawer::new(alloc, list, index)?)?;
     }
     Ok(tabs)
 }

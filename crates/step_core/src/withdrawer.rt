@@ -1,17 +1,17 @@
 //! One withdrawer of a core: its list, the replies to the first numbers of it, and its steps.
 
 ghost use Rattle.std.specs.Prelude.{◌≡◌, ◌≢◌, ◌↔◌, ◌+◌, ◌^◌, ◌<◌, ◌≤◌, ◌==◌, ℕ, List, [], Contains, IfOk, IsTrue, length, slice_get, slice_index};
-ghost use Rattle.step_core.specs.Seats.{AreSeats};
+ghost use Rattle.step_core.specs.CellIndex.{IsCellIndex};
 ghost use Rattle.step_core.specs.Shape.{homes_of};
 ghost use Rattle.step_core.specs.WithdrawCore.{HasReplyRoom, IsShape, KeepsList, MayStep, MayTell, Moves, TabSteps, base_of, reply_of, tab_of};
 ghost use Rattle.step_core.specs.WithdrawTables.{FitsIn, MayFind, note_of, state_of};
-ghost use Rattle.step_core.specs.Withdrawing.{IsDone, after_step, answered, next_number, opened_tab, settled};
+ghost use Rattle.step_core.specs.Withdrawing.{IsDone, after_step, answered, next_number, opened_tab, caught_up};
 ghost use Rattle.store_spec.specs.Act.{word_of};
 ghost use Rattle.store_spec.specs.WithdrawStep.{withdraw_number, withdraw_act};
 ghost use Rattle.store_spec.specs.WithdrawStep.WithdrawState.{Rest};
 
 use crate::act::perform;
-use crate::seats::Seats;
+use crate::index::CellIndex;
 use crate::{
     Act, Shape, WithdrawNote, WithdrawState, withdraw_act, withdraw_after, withdraw_first,
 };
@@ -39,9 +39,9 @@ pub struct Withdrawer {
 
 impl Withdrawer {
     /// One at rest, which has answered the numbers that need no step.
-    pub fn new(alloc: Global, list: Vec<u64>, seats: &Seats) -> Result<Withdrawer, Memory>
+    pub fn new(alloc: Global, list: Vec<u64>, index: &CellIndex) -> Result<Withdrawer, Memory>
         ensures opened { IfOk result
-            (λ tab. tab_of tab ≡ opened_tab seats.now.numbers.items list.items) }
+            (λ tab. tab_of tab ≡ opened_tab index.now.numbers.items list.items) }
         ensures room { IfOk result HasReplyRoom }
     {
         let replies = Vec::with_capacity(alloc, list.len())?;
@@ -50,7 +50,7 @@ impl Withdrawer {
             list,
             replies,
         };
-        tab.settle(seats);
+        tab.catch_up(index);
         Ok(tab)
     }
 
@@ -86,13 +86,13 @@ impl Withdrawer {
     }
 
     /// Answers the numbers that stand first and are not held.
-    fn settle(&mut self, seats: &Seats)
+    fn catch_up(&mut self, index: &CellIndex)
         requires room { HasReplyRoom self.old }
-        ensures settled { tab_of self.new ≡ settled seats.now.numbers.items (tab_of self.old) }
+        ensures caught_up { tab_of self.new ≡ caught_up index.now.numbers.items (tab_of self.old) }
         ensures kept { KeepsList self.old self.new }
     {
         'answers: while let Some(number) = self.first() {
-            if seats.holds(number) {
+            if index.holds(number) {
                 return;
             }
             self.answer(WithdrawReply::Absent);
@@ -100,11 +100,11 @@ impl Withdrawer {
     }
 
     /// Goes to a new state, and gives the reply that the note tells.
-    fn go_to(&mut self, state: WithdrawState, note: WithdrawNote, seats: &Seats)
+    fn go_to(&mut self, state: WithdrawState, note: WithdrawNote, index: &CellIndex)
         requires room { HasReplyRoom self.old }
         requires left { MayTell (note_of note) (tab_of self.old).left }
         ensures stepped { tab_of self.new
-            ≡ after_step seats.now.numbers.items (tab_of self.old) (state_of state) (note_of note) }
+            ≡ after_step index.now.numbers.items (tab_of self.old) (state_of state) (note_of note) }
         ensures kept { KeepsList self.old self.new }
     {
         self.state = state;
@@ -113,27 +113,32 @@ impl Withdrawer {
             WithdrawNote::Gone => self.answer(WithdrawReply::Gone),
             WithdrawNote::Done => self.answer(WithdrawReply::Withdrawn),
         }
-        self.settle(seats);
+        self.catch_up(index);
     }
 
     /// Acts once on the words. It tells where that leads.
-    fn act(&self, shape: &Shape, seats: &Seats, words: &mut [u64]) -> (WithdrawState, WithdrawNote)
+    fn act(
+        &self,
+        shape: &Shape,
+        index: &CellIndex,
+        words: &mut [u64],
+    ) -> (WithdrawState, WithdrawNote)
         requires more { ¬ IsDone (tab_of self.now) }
-        requires shape { IsShape shape.now (base_of shape.now seats.now.numbers.items) }
-        requires seats { AreSeats (base_of shape.now seats.now.numbers.items)
-            seats.now.numbers.items seats.now.places.items }
+        requires shape { IsShape shape.now (base_of shape.now index.now.numbers.items) }
+        requires index { IsCellIndex (base_of shape.now index.now.numbers.items)
+            index.now.numbers.items index.now.places.items }
         requires size { length words.old ≡ shape.now.cells + shape.now.cells }
-        requires may_step { MayStep (base_of shape.now seats.now.numbers.items)
-            seats.now.numbers.items words.old (tab_of self.now) }
+        requires may_step { MayStep (base_of shape.now index.now.numbers.items)
+            index.now.numbers.items words.old (tab_of self.now) }
         ensures { let tab = tab_of self.now in
             Moves (homes_of shape.now)
-            (base_of shape.now seats.now.numbers.items) words.old
+            (base_of shape.now index.now.numbers.items) words.old
             tab.state (next_number tab.state tab.left)
             words.new (state_of result.0) (note_of result.1) }
     {
         match self.state {
             WithdrawState::Rest => match self.first() {
-                Some(number) => first_act(shape, seats, words, number),
+                Some(number) => first_act(shape, index, words, number),
                 None => unreachable!(),
             },
             state => next_act(shape, words, state),
@@ -144,23 +149,23 @@ impl Withdrawer {
 /// The first act for a number, on the flag of its cell.
 fn first_act(
     shape: &Shape,
-    seats: &Seats,
+    index: &CellIndex,
     words: &mut [u64],
     number: u64,
 ) -> (WithdrawState, WithdrawNote)
     requires some { number ≢ 0 }
-    requires held { Contains seats.now.numbers.items number }
-    requires shape { IsShape shape.now (base_of shape.now seats.now.numbers.items) }
-    requires seats { AreSeats (base_of shape.now seats.now.numbers.items)
-        seats.now.numbers.items seats.now.places.items }
+    requires held { Contains index.now.numbers.items number }
+    requires shape { IsShape shape.now (base_of shape.now index.now.numbers.items) }
+    requires index { IsCellIndex (base_of shape.now index.now.numbers.items)
+        index.now.numbers.items index.now.places.items }
     requires size { length words.old ≡ shape.now.cells + shape.now.cells }
     requires flags { (cell : ℕ) → slice_index words.old (shape.now.cells + cell) ≤ 1 }
     ensures { Moves (homes_of shape.now)
-        (base_of shape.now seats.now.numbers.items) words.old
+        (base_of shape.now index.now.numbers.items) words.old
         Rest number
         words.new (state_of result.0) (note_of result.1) }
 {
-    match seats.cell_of(number) {
+    match index.cell_of(number) {
         Some(cell) => {
             let word = shape.cells + cell;
             let found = perform(words, Act::Swap { word, put: 1 });
@@ -187,19 +192,19 @@ fn next_act(shape: &Shape, words: &mut [u64], state: WithdrawState) -> (Withdraw
 }
 
 /// One step of a withdrawer on the shared words.
-pub fn make_step(shape: &Shape, seats: &Seats, words: &mut [u64], tab: &mut Withdrawer)
+pub fn make_step(shape: &Shape, index: &CellIndex, words: &mut [u64], tab: &mut Withdrawer)
     requires more { ¬ IsDone (tab_of tab.old) }
     requires room { HasReplyRoom tab.old }
-    requires shape { IsShape shape.now (base_of shape.now seats.now.numbers.items) }
-    requires seats { AreSeats (base_of shape.now seats.now.numbers.items)
-        seats.now.numbers.items seats.now.places.items }
+    requires shape { IsShape shape.now (base_of shape.now index.now.numbers.items) }
+    requires index { IsCellIndex (base_of shape.now index.now.numbers.items)
+        index.now.numbers.items index.now.places.items }
     requires size { length words.old ≡ shape.now.cells + shape.now.cells }
-    requires may_step { MayStep (base_of shape.now seats.now.numbers.items)
-        seats.now.numbers.items words.old (tab_of tab.old) }
-    ensures row { TabSteps shape.now seats.now.numbers.items
+    requires may_step { MayStep (base_of shape.now index.now.numbers.items)
+        index.now.numbers.items words.old (tab_of tab.old) }
+    ensures row { TabSteps shape.now index.now.numbers.items
         words.old (tab_of tab.old) words.new (tab_of tab.new) }
     ensures kept { HasReplyRoom tab.new }
 {
-    let (state, note) = tab.act(shape, seats, words);
-    tab.go_to(state, note, seats);
+    let (state, note) = tab.act(shape, index, words);
+    tab.go_to(state, note, index);
 }

@@ -4,7 +4,7 @@
 ghost use Rattle.std.specs.Prelude.{◌≡◌, ◌≢◌, ◌+◌, ◌^◌, ◌≤◌, Contains, IsTrue, length};
 ghost use Rattle.store_spec.specs.CastStep.CastState.{Rest};
 ghost use Rattle.store_spec.specs.Layout.{numbers_in};
-ghost use Rattle.word_rule.specs.CastWords.{MayBegin};
+ghost use Rattle.word_rule.specs.CastWords.{MayBeginWith};
 
 use crate::draws::{FEW_HOMES, drawn, number_at};
 use CastNote::{Claimed, Placed, Quiet, Taken};
@@ -203,7 +203,7 @@ fn cast_by_steps(
 ) -> (CastNote, u64)
     requires belongs { seat.old.words ≡ words.now }
     requires at_rest { seat.old.view.state ≡ Rest }
-    requires may_begin { MayBegin words.now number }
+    requires may_begin { MayBeginWith words.now number }
     ensures { seat.new.words ≡ words.now }
 {
     let mut answer = words.first(seat, number);
@@ -230,7 +230,7 @@ fn cast_twice(
 )
     requires cells { (words.now.shape.cells ≡ 16) × (others.now.shape.cells ≡ 16) }
     requires belong { (seat.old.words ≡ words.now) × (other.old.words ≡ others.now) }
-    requires may_begin { MayBegin words.now number × MayBegin others.now number }
+    requires may_begin { MayBeginWith words.now number × MayBeginWith others.now number }
     ensures { (seat.new.words ≡ words.now) × (other.new.words ≡ others.now) }
 {
     assert!(rt; is_at_rest(seat));
@@ -253,7 +253,7 @@ fn step_twice(
     other: &mut CastSeat,
 )
     requires belong { (seat.old.words ≡ words.now) × (other.old.words ≡ others.now) }
-    requires may_begin { MayBegin words.now number × MayBegin others.now number }
+    requires may_begin { MayBeginWith words.now number × MayBeginWith others.now number }
     ensures { (seat.new.words ≡ words.now) × (other.new.words ≡ others.now) }
 {
     assert!(rt; is_at_rest(seat));

@@ -1,7 +1,7 @@
 //! Seats at shared words that remove numbers, row by row, in one call each, and by two threads.
 
 ghost use Rattle.std.specs.Prelude.{◌≡◌, ◌<◌, IsTrue};
-ghost use Rattle.store_spec.specs.WithdrawStep.{IsSeated};
+ghost use Rattle.store_spec.specs.WithdrawStep.{StandsInBase};
 ghost use Rattle.store_spec.specs.WithdrawStep.WithdrawState.{Rest};
 ghost use Rattle.word_rule.specs.Places.{AreWhole};
 ghost use Rattle.word_rule.specs.WithdrawSeats.{IsAtRest};
@@ -98,7 +98,7 @@ fn kind_of(state: WithdrawState) -> (Kind, [u64; 5]) {
 
 /// Whether a number, which is not 0, stands in this cell.
 fn stands(cells: &[u64], number: u64, place: usize) -> bool
-    ensures { IsTrue result → IsSeated cells.now number place }
+    ensures { IsTrue result → StandsInBase cells.now number place }
 {
     number != 0 && cells.get(place) == Some(&number)
 }
@@ -172,7 +172,7 @@ fn withdraw_by_steps(
 ) -> WithdrawNote
     requires belongs { seat.old.words ≡ words.now }
     requires at_rest { seat.old.view.state ≡ Rest }
-    requires seated { IsSeated words.now.base number place }
+    requires seated { StandsInBase words.now.base number place }
     ensures { seat.new.words ≡ words.now }
 {
     let mut answer = words.first(seat, number, place);
@@ -200,7 +200,7 @@ fn withdraw_twice(
 )
     requires cells { (words.now.shape.cells ≡ 16) × (others.now.shape.cells ≡ 16) }
     requires belong { (seat.old.words ≡ words.now) × (other.old.words ≡ others.now) }
-    requires seated { IsSeated words.now.base number place × IsSeated others.now.base number place }
+    requires seated { StandsInBase words.now.base number place × StandsInBase others.now.base number place }
     ensures { (seat.new.words ≡ words.now) × (other.new.words ≡ others.now) }
 {
     assert!(rt; is_at_rest(seat));
@@ -276,7 +276,7 @@ fn removed_by(
 ) -> WithdrawSeat
     requires belongs { seat.words ≡ words.now }
     requires at_rest { seat.view.state ≡ Rest }
-    requires seated { IsSeated words.now.base number place }
+    requires seated { StandsInBase words.now.base number place }
     ensures belongs { result.words ≡ words.now }
     ensures at_rest { result.view.state ≡ Rest }
 {
@@ -295,12 +295,12 @@ fn two_seats_at_once(rt: HostRuntime) {
         &rt,
         move ||
             requires { (first.words ≡ shared.now) × (first.view.state ≡ Rest)
-                × IsSeated shared.now.base 22 4 }
+                × StandsInBase shared.now.base 22 4 }
             ensures { (result.words ≡ shared.entry.now) × (result.view.state ≡ Rest) }
         { removed_by(shared, first, 22, 4) },
         move ||
             requires { (second.words ≡ shared.now) × (second.view.state ≡ Rest)
-                × IsSeated shared.now.base 9 6 }
+                × StandsInBase shared.now.base 9 6 }
             ensures { (result.words ≡ shared.entry.now) × (result.view.state ≡ Rest) }
         { removed_by(shared, second, 9, 6) },
     );

@@ -1,14 +1,13 @@
 -- What holds of the shared words of a casting phase between any two steps, over the cells, the claim words, the views of
 -- all tabulators, and the base: the set that was held at the opening.
-use Rattle.std.specs.Prelude.{◌≡◌, ◌≢◌, ℕ, ◌+◌, ◌<◌, ◌≤◌, ◌==◌, List, ◌++◌, length, take, drop, map, flat_map, sum_by, count_by, slice_index, All, Contains}
+use Rattle.std.specs.Prelude.{◌≡◌, ◌≢◌, ℕ, ◌+◌, ◌<◌, ◌≤◌, ◌==◌, List, ◌++◌, length, take, drop, map, flat_map, count_by, slice_index, All, Contains, IsPermutation}
 use Rattle.store_spec.specs.CastStep.{CastState, CastView, Table, claim_place}
 use Rattle.store_spec.specs.CastStep.CastState.{Rest, Probing, Carrying, Ready}
-use Rattle.store_spec.specs.Layout.{IsOrdered, MayStand}
+use Rattle.store_spec.specs.Layout.{IsOrdered, MayStand, numbers_in}
 
--- Two lists hold the same numbers, each as often: they weigh the same, however numbers are weighed. 0 is no number, and
--- weighs nothing.
-abbrev pub HoldSame : List ℕ → List ℕ → Type 0
-HoldSame xs ys = (weight : ℕ → ℕ) → weight 0 ≡ 0 → sum_by weight xs ≡ sum_by weight ys
+-- Two lists hold the same numbers, each as often, in any order. 0 is no number.
+pub record HoldSame (xs ys : List ℕ) : Type 0 where
+  pub reordered : IsPermutation (numbers_in xs) (numbers_in ys)
 
 -- how often a number stands in a list
 abbrev pub count_of : ℕ → List ℕ → ℕ

@@ -42,19 +42,40 @@ cast_act t (Probing x k) = Trade (claim_word t x k) 0 x
 cast_act t (Carrying v i) = Load i
 cast_act t (Ready v i s) = Trade i s v
 
--- The table of steps, a row each: a state, the word on which it acts, what it finds there and what it leaves, the new
--- state, and the note.
-pub data CastRow (t : Table) : CastState → ℕ → ℕ → ℕ → CastState → CastNote → Type 0 where
-  claim_won : (x k : ℕ) → CastRow t (Probing x k) (claim_word t x k) 0 x (Carrying x (t.home x)) Claimed
-  claim_met : (x k : ℕ) → CastRow t (Probing x k) (claim_word t x k) x x Rest Taken
-  claim_passed : (x k f : ℕ) → f ≢ 0 → f ≢ x → k + 1 < t.claims → CastRow t (Probing x k) (claim_word t x k) f f (Probing x (k + 1)) Quiet
-  claims_full : (x k f : ℕ) → f ≢ 0 → f ≢ x → k + 1 ≡ t.claims → CastRow t (Probing x k) (claim_word t x k) f f Rest Full
-  look_passes : (v i f : ℕ) → v < f → CastRow t (Carrying v i) i f f (Carrying v (i + 1)) Quiet
-  look_ready : (v i f : ℕ) → f < v → CastRow t (Carrying v i) i f f (Ready v i f) Quiet
-  takes_empty : (v i : ℕ) → CastRow t (Ready v i 0) i 0 v Rest Placed
-  displaces : (v i s : ℕ) → s ≢ 0 → CastRow t (Ready v i s) i s v (Carrying s (i + 1)) Quiet
-  lost_passes : (v i s f : ℕ) → f ≢ s → v < f → CastRow t (Ready v i s) i f f (Carrying v (i + 1)) Quiet
-  lost_ready : (v i s f : ℕ) → f ≢ s → f < v → CastRow t (Ready v i s) i f f (Ready v i f) Quiet
+-- The table of steps. The lines of a row: its name and its conditions; the state, the word on which it acts, what it
+-- finds there and what it leaves; the new state and the note.
+pub data CastRow (t : Table)
+    : (state : CastState) (word found left : ℕ) (new : CastState) (note : CastNote) → Type 0 where
+  claim_won : (x k : ℕ)
+      → CastRow t (Probing x k) (claim_word t x k) 0 x
+      (Carrying x (t.home x)) Claimed
+  claim_met : (x k : ℕ)
+      → CastRow t (Probing x k) (claim_word t x k) x x
+      Rest Taken
+  claim_passed : (x k f : ℕ) → f ≢ 0 → f ≢ x → k + 1 < t.claims
+      → CastRow t (Probing x k) (claim_word t x k) f f
+      (Probing x (k + 1)) Quiet
+  claims_full : (x k f : ℕ) → f ≢ 0 → f ≢ x → k + 1 ≡ t.claims
+      → CastRow t (Probing x k) (claim_word t x k) f f
+      Rest Full
+  look_passes : (v i f : ℕ) → v < f
+      → CastRow t (Carrying v i) i f f
+      (Carrying v (i + 1)) Quiet
+  look_ready : (v i f : ℕ) → f < v
+      → CastRow t (Carrying v i) i f f
+      (Ready v i f) Quiet
+  takes_empty : (v i : ℕ)
+      → CastRow t (Ready v i 0) i 0 v
+      Rest Placed
+  displaces : (v i s : ℕ) → s ≢ 0
+      → CastRow t (Ready v i s) i s v
+      (Carrying s (i + 1)) Quiet
+  lost_passes : (v i s f : ℕ) → f ≢ s → v < f
+      → CastRow t (Ready v i s) i f f
+      (Carrying v (i + 1)) Quiet
+  lost_ready : (v i s f : ℕ) → f ≢ s → f < v
+      → CastRow t (Ready v i s) i f f
+      (Ready v i f) Quiet
 
 -- What is kept of a tabulator: its state, and the numbers that it has accepted, has found taken, and has met full claim
 -- words for.
@@ -69,8 +90,8 @@ abbrev pub fresh_cast_view : CastView
 fresh_cast_view = record { state = Rest; accepted = []; taken = []; full = [] }
 
 -- the view of a tabulator that takes in another, both at rest: its lists and then those of the other
-abbrev pub joined_view : CastView → CastView → CastView
-joined_view view other = record {
+abbrev pub joined_cast_view : CastView → CastView → CastView
+joined_cast_view view other = record {
   state = Rest;
   accepted = view.accepted ++ other.accepted;
   taken = view.taken ++ other.taken;
@@ -106,7 +127,8 @@ GoesFrom t base (Carrying v i) from = from ≡ Carrying v i
 GoesFrom t base (Ready v i s) from = from ≡ Ready v i s
 
 -- One step: one row of the table, on one of the words and in the view at `id`. All else stays.
-pub record CastStep (t : Table) (base words : List ℕ) (views : List CastView) (id : ℕ) (now : List ℕ) (views_now : List CastView) : Type 0 where
+pub record CastStep (t : Table) (base words : List ℕ) (views : List CastView) (id : ℕ) (now : List ℕ)
+    (views_now : List CastView) : Type 0 where
   pub view : CastView
   pub acts : slice_get views id ≡ Some view
   pub from : CastState

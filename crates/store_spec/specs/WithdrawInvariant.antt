@@ -45,13 +45,13 @@ times_taken views x = count_by (λ w. walks_to w.state x) views + times_begun vi
 
 -- ---- numbers
 
-pub record IsOf (base : List ℕ) (x : ℕ) : Type 0 where
+pub record IsOfBase (base : List ℕ) (x : ℕ) : Type 0 where
   pub some : x ≢ 0
   pub stood : Contains base x
 
 -- a number of the base that nobody has begun to remove
 pub record IsLive (base : List ℕ) (views : List WithdrawView) (x : ℕ) : Type 0 where
-  pub of_base : IsOf base x
+  pub of_base : IsOfBase base x
   pub kept : times_begun views x ≡ 0
 
 -- ---- the parts
@@ -61,8 +61,8 @@ pub record IsLive (base : List ℕ) (views : List WithdrawView) (x : ℕ) : Type
 pub record AreFlags (base flags : List ℕ) (views : List WithdrawView) : Type 0 where
   pub counted : (cell : ℕ) → slice_index flags cell ≡ times_taken views (slice_index base cell)
   pub once : (x : ℕ) → times_taken views x ≤ 1
-  pub begun : All (λ w. All (IsOf base) w.begun) views
-  pub gone : All (λ w. All (λ x. IsOf base x × (times_taken views x ≡ 1)) w.gone) views
+  pub begun : All (λ w. All (IsOfBase base) w.begun) views
+  pub gone : All (λ w. All (λ x. IsOfBase base x × (times_taken views x ≡ 1)) w.gone) views
 
 -- cells hold numbers of the base, each at its home or after it, and the last is empty
 pub record AreCopies (home : ℕ → ℕ) (base cells : List ℕ) : Type 0 where
@@ -74,7 +74,7 @@ pub record AreCopies (home : ℕ → ℕ) (base cells : List ℕ) : Type 0 where
 -- copy more than are owed, and none more once its removal was begun.
 pub record AreOwed (base cells : List ℕ) (views : List WithdrawView) : Type 0 where
   pub no_more : (x first : ℕ) → debts views x first ≤ copies cells x first
-  pub in_all : (x : ℕ) → IsOf base x → copies cells x (length base) + times_begun views x ≡ debts views x (length base) + 1
+  pub in_all : (x : ℕ) → IsOfBase base x → copies cells x (length base) + times_begun views x ≡ debts views x (length base) + 1
 
 -- The lowest copy of a live number is not owed, and stands in order: a cell from the number's home on, with no copy in
 -- it or before it, holds a greater word.
@@ -91,7 +91,7 @@ pub record Walks (home : ℕ → ℕ) (base : List ℕ) (views : List WithdrawVi
   pub within : place < length base
 
 pub record Owes (base : List ℕ) (x bound : ℕ) : Type 0 where
-  pub of_base : IsOf base x
+  pub of_base : IsOfBase base x
   pub within : bound < length base
 
 -- it searches upwards, from a hole that holds the number, or a lower word by now

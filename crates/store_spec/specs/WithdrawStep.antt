@@ -30,20 +30,43 @@ pub data FirstRow (home : ℕ → ℕ) (x : ℕ) : ℕ → WithdrawState → Wit
   found_gone : FirstRow home x 1 Rest Gone
   chose : FirstRow home x 0 (Chosen x (home x)) Quiet
 
--- Each later step: the state, the cell, the words that the step finds there and leaves there, the new state, and
--- the note.
-pub data WithdrawRow (home : ℕ → ℕ) : WithdrawState → ℕ → ℕ → ℕ → WithdrawState → WithdrawNote → Type 0 where
-  walked_on : {x place word : ℕ} → x < word → WithdrawRow home (Chosen x place) place word word (Chosen x (place + 1)) Quiet
-  began : {x place word : ℕ} → word ≤ x → WithdrawRow home (Chosen x place) place word word (Owing x place) Begun
-  found_owed : {x bound : ℕ} → WithdrawRow home (Owing x bound) bound x x (Up x bound (bound + 1)) Quiet
-  looked_lower : {x bound word : ℕ} → word ≢ x → WithdrawRow home (Owing x (bound + 1)) (bound + 1) word word (Owing x bound) Quiet
-  looked_higher : {x bound place word : ℕ} → ¬ Fits home x bound word → WithdrawRow home (Up x bound place) place word word (Up x bound (place + 1)) Quiet
-  found_candidate : {x bound place word : ℕ} → Fits home x bound word → WithdrawRow home (Up x bound (place + 1)) (place + 1) word word (Down x bound place word (place + 1)) Quiet
-  found_lower_candidate : {x bound place c source word : ℕ} → bound ≤ place → Fits home x bound word → WithdrawRow home (Down x bound (place + 1) c source) (place + 1) word word (Down x bound place word (place + 1)) Quiet
-  kept_candidate : {x bound place c source word : ℕ} → bound ≤ place → ¬ Fits home x bound word → WithdrawRow home (Down x bound (place + 1) c source) (place + 1) word word (Down x bound place c source) Quiet
-  emptied : {x bound source : ℕ} → WithdrawRow home (Down x bound bound 0 source) bound x 0 Rest Done
-  refilled : {x bound c source : ℕ} → c ≢ 0 → WithdrawRow home (Down x bound bound c source) bound x c (Owing c source) Quiet
-  lost : {x bound c source word : ℕ} → word ≢ x → WithdrawRow home (Down x (bound + 1) (bound + 1) c source) (bound + 1) word word (Owing x bound) Quiet
+-- Each later step. The lines of a row: its name and its conditions; the state, the cell, the words that the step finds
+-- there and leaves there; the new state and the note.
+pub data WithdrawRow (home : ℕ → ℕ)
+    : (state : WithdrawState) (cell found left : ℕ) (new : WithdrawState) (note : WithdrawNote) → Type 0 where
+  walked_on : {x place word : ℕ} → x < word
+      → WithdrawRow home (Chosen x place) place word word
+      (Chosen x (place + 1)) Quiet
+  began : {x place word : ℕ} → word ≤ x
+      → WithdrawRow home (Chosen x place) place word word
+      (Owing x place) Begun
+  found_owed : {x bound : ℕ}
+      → WithdrawRow home (Owing x bound) bound x x
+      (Up x bound (bound + 1)) Quiet
+  looked_lower : {x bound word : ℕ} → word ≢ x
+      → WithdrawRow home (Owing x (bound + 1)) (bound + 1) word word
+      (Owing x bound) Quiet
+  looked_higher : {x bound place word : ℕ} → ¬ Fits home x bound word
+      → WithdrawRow home (Up x bound place) place word word
+      (Up x bound (place + 1)) Quiet
+  found_candidate : {x bound place word : ℕ} → Fits home x bound word
+      → WithdrawRow home (Up x bound (place + 1)) (place + 1) word word
+      (Down x bound place word (place + 1)) Quiet
+  found_lower_candidate : {x bound place c source word : ℕ} → bound ≤ place → Fits home x bound word
+      → WithdrawRow home (Down x bound (place + 1) c source) (place + 1) word word
+      (Down x bound place word (place + 1)) Quiet
+  kept_candidate : {x bound place c source word : ℕ} → bound ≤ place → ¬ Fits home x bound word
+      → WithdrawRow home (Down x bound (place + 1) c source) (place + 1) word word
+      (Down x bound place c source) Quiet
+  emptied : {x bound source : ℕ}
+      → WithdrawRow home (Down x bound bound 0 source) bound x 0
+      Rest Done
+  refilled : {x bound c source : ℕ} → c ≢ 0
+      → WithdrawRow home (Down x bound bound c source) bound x c
+      (Owing c source) Quiet
+  lost : {x bound c source word : ℕ} → word ≢ x
+      → WithdrawRow home (Down x (bound + 1) (bound + 1) c source) (bound + 1) word word
+      (Owing x bound) Quiet
 
 -- what the next step does to a word; what it leaves there is what the row says
 abbrev pub withdraw_act : WithdrawState → Act
@@ -90,18 +113,24 @@ withdraw_view_after view x new Gone = record { state = new; begun = view.begun; 
 withdraw_view_after view x new Begun = record { state = new; begun = view.begun ++ x ∷ []; gone = view.gone }
 
 -- a number, and its cell in the base, the cells that the phase began with
-pub record IsSeated (base : List ℕ) (x cell : ℕ) : Type 0 where
+pub record StandsInBase (base : List ℕ) (x cell : ℕ) : Type 0 where
   pub some : x ≢ 0
   pub stands : slice_index base cell ≡ x
 
--- A step begins with a number of the base, or goes on: the state, the number, the word, what it finds there and
--- leaves there, the new state, and the note.
-pub data WithdrawMove (home : ℕ → ℕ) (base : List ℕ) : WithdrawState → ℕ → ℕ → ℕ → ℕ → WithdrawState → WithdrawNote → Type 0 where
-  begins : {x cell found : ℕ} {new : WithdrawState} {note : WithdrawNote} → IsSeated base x cell → FirstRow home x found new note → WithdrawMove home base Rest x (length base + cell) found 1 new note
-  goes_on : {state : WithdrawState} {cell found left : ℕ} {new : WithdrawState} {note : WithdrawNote} → WithdrawRow home state cell found left new note → WithdrawMove home base state (withdraw_number state) cell found left new note
+-- A step begins with a number of the base, or goes on. The third line: the state, the number, the word, what it finds
+-- there and leaves there, the new state, and the note.
+pub data WithdrawMove (home : ℕ → ℕ) (base : List ℕ)
+    : (state : WithdrawState) (number word found left : ℕ) (new : WithdrawState) (note : WithdrawNote) → Type 0 where
+  begins : {x cell found : ℕ} {new : WithdrawState} {note : WithdrawNote}
+      → StandsInBase base x cell → FirstRow home x found new note
+      → WithdrawMove home base Rest x (length base + cell) found 1 new note
+  goes_on : {state : WithdrawState} {cell found left : ℕ} {new : WithdrawState} {note : WithdrawNote}
+      → WithdrawRow home state cell found left new note
+      → WithdrawMove home base state (withdraw_number state) cell found left new note
 
 -- One step: one row of the table, on one of the words and in the view at `id`. All else stays.
-pub record WithdrawStep (home : ℕ → ℕ) (base words : List ℕ) (views : List WithdrawView) (id : ℕ) (now : List ℕ) (views_now : List WithdrawView) : Type 0 where
+pub record WithdrawStep (home : ℕ → ℕ) (base words : List ℕ) (views : List WithdrawView) (id : ℕ) (now : List ℕ)
+    (views_now : List WithdrawView) : Type 0 where
   pub view : WithdrawView
   pub acts : slice_get views id ≡ Some view
   pub number : ℕ

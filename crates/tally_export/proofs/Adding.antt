@@ -1,13 +1,6 @@
 -- The tally of two lists of ballots, one after the other.
 use Rattle.std.proofs.Common.{◌≡◌, ℕ, ◌+◌, ◌-◌, ◌*◌, ◌^◌, ◌<◌, ◌≤◌, Bool, false, true, cond, List, [], ◌∷◌, ◌++◌, length, ap, ◌∙◌, arith}
-use Rattle.std.proofs.lemmas.List.Elements.{filter-append}
-use Rattle.std.proofs.lemmas.List.Sums.{sum_by-append, sum_by-cons}
-use Rattle.std.specs.Int.{bit_at}
-use Rattle.std.specs.List.{filter, sum_by}
-use Rattle.std.specs.Prelude.{count_ones}
-use Rattle.store_spec.specs.Ballot.{Ballot}
-use Rattle.store_spec.specs.Election.{Election, IsElection, is_on_style}
-use Rattle.store_spec.specs.Report.{allowed_of, is_overvote, marked_in, overvotes, undervotes, votes}
+use Rattle.store_spec.proofs.Common.{Ballot, Election, IsElection, allowed_of, bit_at, count_ones, filter, filter-append, is_on_style, is_overvote, marked_in, overvotes, sum_by, sum_by-append, sum_by-cons, undervotes, votes}
 use Rattle.tally_export.proofs.Counting.{allowed_few, bit_few, one_few}
 use Rattle.tally_export.specs.Counted.{AddsBallots, AddsUp, IsTallyOf, IsUpTo, SumsFit}
 use Rattle.tally_export.specs.declared.counts.Tally.{Tally}

@@ -1,14 +1,6 @@
 -- The tally of ballots in another order, and records in any order.
 use Rattle.std.proofs.Common.{◌≡◌, ℕ, ◌+◌, ◌-◌, Bool, true, false, cond, List, [], ◌∷◌, refl, sym, ap, ◌∙◌, arith}
-use Rattle.std.proofs.lemmas.List.Sorted.{sum_by-IsPermutation}
-use Rattle.std.proofs.lemmas.List.Sums.{sum_by-cons}
-use Rattle.std.specs.Int.{bit_at}
-use Rattle.std.specs.List.{filter, sum_by}
-use Rattle.std.specs.List.Sorted.{IsPermutation}
-use Rattle.std.specs.Prelude.{count_ones}
-use Rattle.store_spec.specs.Ballot.{Ballot}
-use Rattle.store_spec.specs.Election.{Election, is_on_style}
-use Rattle.store_spec.specs.Report.{allowed_of, is_overvote, marked_in}
+use Rattle.store_spec.proofs.Common.{Ballot, Election, IsPermutation, allowed_of, bit_at, count_ones, filter, is_on_style, is_overvote, marked_in, sum_by, sum_by-IsPermutation, sum_by-cons}
 use Rattle.tally_export.specs.Counted.{IsTallyOf}
 use Rattle.tally_export.specs.declared.counts.Tally.{Tally}
 

@@ -1,16 +1,8 @@
 -- What a ballot adds to the counts of a contest.
 use Rattle.std.proofs.Common.{◌≡◌, ℕ, ◌-◌, ◌≤◌, Bool, true, false, cond, eqb, inl, inr, [], ◌∷◌, ap, subst, ◌∙◌, arith}
-use Rattle.std.proofs.lemmas.Bool.{ne_eqb}
-use Rattle.std.proofs.lemmas.List.Sums.{sum_by-cons}
+use Rattle.store_spec.proofs.Common.{Ballot, Contest, Election, IsContest, IsElection, Some, allowed_of, bit_at, choices_of, filter, ne_eqb, option_map_or, slice_get, sum_by, sum_by-cons}
 use Rattle.std.proofs.lemmas.Option.{slice_get_cases}
-use Rattle.std.specs.Int.{bit_at}
-use Rattle.std.specs.List.{filter, sum_by}
-use Rattle.std.specs.Option.{option_map_or}
-use Rattle.std.specs.Prelude.{slice_get, Some}
 use Rattle.ballot_record.proofs.Versions.{few_choices}
-use Rattle.store_spec.specs.Ballot.{Ballot}
-use Rattle.store_spec.specs.Election.{Contest, Election, IsContest, IsElection, choices_of}
-use Rattle.store_spec.specs.Report.{allowed_of}
 
 -- a sum over those that pass a test, where one ballot passes it and no other is there
 pub sum_on : (f : Ballot → ℕ) (p : Ballot → Bool) (b : Ballot) → p b ≡ true → sum_by f (filter p (b ∷ [])) ≡ f b

@@ -1,15 +1,11 @@
 -- The ballots of a store, listed by their places.
 use Rattle.std.proofs.Common.{◌≡◌, ℕ, ◌<◌, List, [], Option, Some, get_or, length, sym, ap, ◌∙◌, arith}
-use Rattle.std.proofs.lemmas.List.{get_or-map, get_or_default, length-map}
-use Rattle.std.proofs.lemmas.List.Elements.{Contains-get_or}
+use Rattle.store_spec.proofs.Common.{Ballot, Contains-get_or, ballot_of, cell_count, cells_of, get_or-map, get_or_default, length-map}
 use Rattle.ballot_record.proofs.BallotNumbers.{length-numbers_of}
 use Rattle.ballot_record.proofs.Lookups.{found_once}
 use Rattle.body_store.proofs.BallotSets.{held_layout, may_hold_set}
 use Rattle.body_store.specs.Contents.{Contents}
 use Rattle.body_store.specs.declared.lookup.Place.{Place}
-use Rattle.store_spec.specs.Ballot.{Ballot, ballot_of}
-use Rattle.store_spec.specs.Election.{cell_count}
-use Rattle.store_spec.specs.Image.{cells_of}
 use Rattle.tally_export.specs.Exported.{IsListed}
 
 abbrev nobody : Ballot

@@ -1,11 +1,9 @@
 -- A mark set with no mark behind its first.
 use Rattle.std.proofs.Common.{◌≡◌, ℕ, ◌+◌, ◌-◌, ◌*◌, ◌/◌, ◌%◌, ◌^◌, ◌<◌, ◌≤◌, false, inl, inr, bit_and, ltb, min, sym, ap, ◌∙◌, arith}
-use Rattle.std.proofs.lemmas.Bool.{cases_eq, cases_lt, le-ltb}
-use Rattle.std.proofs.lemmas.Nat.{div-add-mod', ones_cat, ones_le_self, pow_pos, zero_from_ones}
+use Rattle.store_spec.proofs.Common.{bit_at, cases_eq, cases_lt, count_ones, le-ltb, pow_pos, trailing_zeros}
+use Rattle.std.proofs.lemmas.Nat.{div-add-mod', ones_cat, ones_le_self, zero_from_ones}
 use Rattle.std.proofs.Math.Nat.{mod-lt}
 use Rattle.std.proofs.lemmas.Nat.Bits.{bit_at-pow_other, bit_at-pow_same, bit_at-trailing_zeros, bit_at-zero, bit_at_and, bit_at_cat_high, bit_at_cat_low, same_from_bits}
-use Rattle.std.specs.Int.{bit_at, trailing_zeros}
-use Rattle.std.specs.Prelude.{count_ones}
 use Rattle.ballot_record.specs.Record.{set_word}
 
 ones_of_nothing : count_ones 0 ≡ 0

@@ -1,16 +1,10 @@
 -- The counts of a ballot, added to a tally contest by contest.
 use Rattle.std.proofs.Common.{◌≡◌, ◌≢◌, ℕ, ◌+◌, ◌-◌, ◌/◌, ◌^◌, ◌<◌, ◌≤◌, Bool, true, false, bit_and, cond, eqb, inl, inr, List, [], ◌∷◌, get_or, length, replicate, refl, sym, ap, subst, ◌∙◌, arith}
-use Rattle.std.proofs.lemmas.Bool.{cases_eq, cases_lt, ne_eqb}
-use Rattle.std.proofs.lemmas.List.{get_or-replicate}
-use Rattle.std.proofs.lemmas.List.Elements.{recursion_from_All}
+use Rattle.store_spec.proofs.Common.{AllByRecursion, Ballot, Election, IsElection, IsValid, bit_at, cases_eq, cases_lt, count_ones, get_or-replicate, is_on_style, ne_eqb, overvotes, recursion_from_All, sum_by, undervotes, votes}
 use Rattle.std.proofs.lemmas.Nat.Bits.{shr_and_one}
-use Rattle.std.specs.Int.{bit_at}
-use Rattle.std.specs.List.{AllByRecursion, sum_by}
-use Rattle.std.specs.Prelude.{All, count_ones}
+use Rattle.std.specs.Prelude.{All}
 use Rattle.ballot_record.proofs.OnStyle.{past_contests}
-use Rattle.store_spec.specs.Ballot.{Ballot, IsValid}
-use Rattle.store_spec.specs.Election.{Election, IsElection, is_on_style}
-use Rattle.store_spec.specs.Report.{allowed_of, ballots_with, is_overvote, marked_in, overvotes, undervotes, votes}
+use Rattle.store_spec.specs.Report.{allowed_of, ballots_with, is_overvote, marked_in}
 use Rattle.tally_export.proofs.Adding.{overvotes_few, undervotes_few, votes_few}
 use Rattle.tally_export.proofs.Counting.{sum_off, sum_on}
 use Rattle.tally_export.specs.Counted.{AddsBallots, CountsSet, IsTallyOf, IsUpTo, choice_count}

@@ -1,16 +1,10 @@
 -- The ballots in ranges of the cells of a store: which they are, and how few.
 use Rattle.std.proofs.Common.{◌≡◌, ◌≢◌, ℕ, ◌+◌, ◌-◌, ◌<◌, ◌≤◌, List, [], ◌∷◌, ◌++◌, Some, None, drop, get_or, length, take, sym, ap, subst, ◌∙◌, arith, length-append}
-use Rattle.std.proofs.Math.Seq.{take-add}
-use Rattle.std.proofs.lemmas.List.{drop-drop, take_all, take-append-drop}
-use Rattle.std.proofs.lemmas.List.Sorted.{IsPermutation-sym, length_permutation}
-use Rattle.std.specs.List.Sorted.{IsPermutation}
+use Rattle.store_spec.proofs.Common.{Ballot, IsPermutation, IsPermutation-sym, ballot_of, cell_count, cells_of, drop-drop, length_permutation, take-add, take-append-drop, take_all}
 use Rattle.body_store.proofs.BallotSets.{MayHold, held_layout, may_hold_set}
 use Rattle.body_store.proofs.Spelled.{ballot_known, held_append, held_in_layout, held_next, held_past_empty, known_in_layout, none_with_zero}
 use Rattle.body_store.specs.Contents.{Contents, IsStored}
 use Rattle.body_store.specs.Held.{as_list, held_in}
-use Rattle.store_spec.specs.Ballot.{Ballot, ballot_of}
-use Rattle.store_spec.specs.Election.{cell_count}
-use Rattle.store_spec.specs.Image.{cells_of}
 use Rattle.tally_export.specs.Ranges.{ballots_in}
 
 abbrev cells_in : Contents → List ℕ

@@ -1,10 +1,6 @@
 -- How the text of a tally is put, line by line.
 use Rattle.std.proofs.Common.{◌≡◌, ℕ, zero, suc, ◌+◌, ◌-◌, ◌<◌, ◌≤◌, List, [], ◌∷◌, ◌++◌, get_or, take, map, refl, sym, ap, ◌∙◌, arith, append_assoc, get_or-take}
-use Rattle.std.proofs.lemmas.Grind.{flat_map-append}
-use Rattle.std.specs.List.{flat_map, range_with_len}
-use Rattle.store_spec.specs.Ballot.{Ballot}
-use Rattle.store_spec.specs.Election.{Election, choices_of}
-use Rattle.store_spec.specs.Report.{choice_line, contest_line, contest_lines, lines_text, overvotes, undervotes, votes}
+use Rattle.store_spec.proofs.Common.{Ballot, Election, choice_line, choices_of, contest_line, contest_lines, flat_map, flat_map-append, lines_text, overvotes, range_with_len, undervotes, votes}
 use Rattle.tally_export.specs.Counted.{IsTallyOf}
 use Rattle.tally_export.specs.declared.counts.Tally.{Tally}
 

@@ -1,13 +1,8 @@
 -- The lines of an export, of which a sink takes one part after another.
 use Rattle.std.proofs.Common.{◌≡◌, ℕ, ◌+◌, ◌≤◌, ◌<◌, List, [], ◌∷◌, ◌++◌, drop, get_or, length, Option, refl, ap, subst, ◌∙◌, drop-cons, add-one}
-use Rattle.std.proofs.lemmas.Grind.{flat_map-append}
-use Rattle.std.proofs.lemmas.List.{drop_all, map-append}
+use Rattle.store_spec.proofs.Common.{Ballot, Election, drop_all, flat_map-append, lines_text, map-append, record_line}
 use Rattle.std.specs.Prelude.{map}
 use Rattle.outside_io.proofs.Written.{IsWritten, more_gathered}
-use Rattle.store_spec.specs.Ballot.{Ballot}
-use Rattle.store_spec.specs.BallotLine.{record_line}
-use Rattle.store_spec.specs.Election.{Election}
-use Rattle.store_spec.specs.Report.{lines_text}
 use Rattle.tally_export.specs.Exported.{records_text}
 
 -- the lines of one list of ballots and then another

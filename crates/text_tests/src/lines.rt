@@ -3,7 +3,7 @@
 mod generated;
 
 use ballot_record::{Election, MAX_MARK_SETS, Record};
-use script_lines::{Entry, Line, read_entry, read_script_line};
+use script_lines::{Command, Entry, Line, Said, Work, read_said, read_script_line};
 
 fn read(line: &str) -> Option<Line> {
     read_script_line(line.as_bytes(), &Election::example())
@@ -58,7 +58,7 @@ fn lines_for_a_list(rt: HostRuntime) {
 }
 
 #[test]
-fn what_lines_bring_for_a_list(rt: HostRuntime) {
+fn what_lines_say(rt: HostRuntime) {
     let election = Election::example();
     let mut cast = Record::blank();
     let entries = [
@@ -67,13 +67,28 @@ fn what_lines_bring_for_a_list(rt: HostRuntime) {
         ("find 10 1", 10, Entry::Find { number: 1 }),
     ];
     for (line, tab, entry) in entries.iter() {
-        let brought = read_entry(line.as_bytes(), &election, &mut cast);
-        assert_eq!(rt; brought, Some((*tab, *entry)));
+        let said = Said::Item {
+            tab: *tab,
+            entry: *entry,
+        };
+        assert_eq!(rt; read_said(line.as_bytes(), &election, &mut cast), said);
     }
     assert_eq!(rt; cast, ballot(14, [0, 0b10]));
-    let others = ["", "close", "open find 10", "cast 1 9 1 5/-", "find 65 9"];
-    for line in others.iter() {
-        let brought = read_entry(line.as_bytes(), &election, &mut cast);
-        assert_eq!(rt; brought, None);
+    let open = Command::Open {
+        work: Work::Finding,
+        tabs: 10,
+    };
+    let others = [
+        ("", Said::Malformed),
+        ("close", Said::Command(Command::Close)),
+        ("open find 10", Said::Command(open)),
+        (
+            "cast 1 9 1 5/-",
+            Said::Command(Command::CastInvalid { tab: 1 }),
+        ),
+        ("find 65 9", Said::Malformed),
+    ];
+    for (line, said) in others.iter() {
+        assert_eq!(rt; read_said(line.as_bytes(), &election, &mut cast), *said);
     }
 }

@@ -1,14 +1,9 @@
 -- The ballots whose flags are not set.
 use Rattle.std.proofs.Common.{◌≡◌, ◌≢◌, ℕ, zero, suc, ◌<◌, List, [], ◌∷◌, Bool, true, false, cond, drop, length, get_or, replicate, set, refl, sym, ap, ◌∙◌, arith, not, ◌==◌, ◌||◌}
-use Rattle.std.proofs.lemmas.Bool.{cond-true, cond-false, eq-eqb, ne_eqb}
-use Rattle.std.proofs.lemmas.List.Elements.{Contains-get_or}
-use Rattle.std.proofs.lemmas.List.Kept.{AllPairs-cons}
-use Rattle.std.proofs.lemmas.List.Sums.{sum_by-cons}
-use Rattle.std.specs.List.{Contains, count_by, list_any}
+use Rattle.store_spec.proofs.Common.{Ballot, Contains, Contains-get_or, cond-false, cond-true, count_by, eq-eqb, list_any, ne_eqb, numbers_of, sum_by-cons}
 use Rattle.ballot_record.proofs.BallotNumbers.{ballot_with, contains_number}
 use Rattle.ballot_record.proofs.BallotSets.{Ascend}
 use Rattle.body_store.specs.Contents.{ballots_without}
-use Rattle.store_spec.specs.Ballot.{Ballot, numbers_of}
 use Rattle.ticket_sample.proofs.Holding.{filter_all}
 use Rattle.ticket_sample.specs.Comparing.{unset}
 

@@ -1,11 +1,6 @@
 -- The ballots of a store whose numbers are drawn.
 use Rattle.std.proofs.Common.{◌≡◌, ◌≢◌, ℕ, ◌+◌, ◌<◌, ◌≤◌, List, [], ◌∷◌, ◌++◌, Bool, true, length, get_or, take, Option, Some, None, Result, Ok, Err, refl, sym, ap, subst, ◌∙◌, arith, append-nil, inl, inr}
-use Rattle.std.proofs.lemmas.Bool.{cond-true, cond-false, lt-ltb}
-use Rattle.std.proofs.lemmas.List.{get_or-map, length-map, map_push, take_more}
-use Rattle.std.proofs.lemmas.List.Elements.{All-head, All-tail, Contains-get_or}
-use Rattle.std.specs.List.{All, Contains, filter}
-use Rattle.std.specs.Prelude.{IfOk, Vec}
-use Rattle.std.specs.declared.alloc.Global.{Global}
+use Rattle.store_spec.proofs.Common.{All, All-head, All-tail, Ballot, Contains, Contains-get_or, Election, Global, IfOk, Vec, ballot_of, cells_of, cond-false, cond-true, filter, get_or-map, length-map, lt-ltb, map_push, numbers_of, take_more}
 use Rattle.ballot_record.proofs.BallotNumbers.{pairs_of_numbers}
 use Rattle.ballot_record.proofs.BallotSets.{listing_from_set}
 use Rattle.ballot_record.proofs.Lookups.{AreDistinct, found_once}
@@ -17,9 +12,6 @@ use Rattle.body_store.specs.Contents.{Contents, IsStored, ballots_of}
 use Rattle.body_store.specs.Held.{as_list, held_in}
 use Rattle.body_store.specs.Places.{AreAt}
 use Rattle.body_store.specs.declared.lookup.Place.{Place}
-use Rattle.store_spec.specs.Ballot.{Ballot, ballot_of, numbers_of}
-use Rattle.store_spec.specs.Election.{Election}
-use Rattle.store_spec.specs.Image.{cells_of}
 use Rattle.ticket_sample.proofs.Splitting.{bool_cases, count_but_one, irreflexive}
 use Rattle.ticket_sample.proofs.Bounding.{before, lots_order}
 use Rattle.ticket_sample.specs.Drawing.{AreApart, StandIn, numbers_at}

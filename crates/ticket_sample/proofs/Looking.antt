@@ -1,18 +1,14 @@
 -- A ballot that is looked for in a sample whose places have flags.
 use Rattle.std.proofs.Common.{◌≡◌, ◌≢◌, ℕ, ◌<◌, ◌≤◌, ⊎_elim, List, [], ◌∷◌, Bool, true, false, length, get_or, set, sym, ap, subst, ◌∙◌, arith}
-use Rattle.std.proofs.lemmas.Bool.{cases_lt}
-use Rattle.std.proofs.lemmas.List.{get_or-map, length-map}
-use Rattle.std.proofs.lemmas.List.Elements.{Contains-get_or}
-use Rattle.std.specs.List.{Contains}
+use Rattle.store_spec.proofs.Common.{Ballot, Contains, Contains-get_or, cases_lt, get_or-map, length-map, numbers_of}
 use Rattle.ballot_record.proofs.BallotNumbers.{contains_number}
 use Rattle.ballot_record.proofs.BallotSets.{Ascend}
 use Rattle.ballot_record.specs.Record.{ballot}
 use Rattle.ballot_record.specs.declared.record.Record.{Record}
 use Rattle.body_store.specs.Contents.{ballots_of, ballots_without}
-use Rattle.store_spec.specs.Ballot.{Ballot, numbers_of}
 use Rattle.ticket_sample.proofs.Flags.{flag_set, flag_taken, flag_unset}
 use Rattle.ticket_sample.proofs.Searching.{no_record}
-use Rattle.ticket_sample.specs.Comparing.{IsDone, unset}
+use Rattle.ticket_sample.specs.Comparing.{IsNoneOfRest, unset}
 
 module _ (records : List Record) (flags : List Bool) (b : Ballot) (place : ℕ) (up : Ascend (ballots_of records)) (long : length flags ≡ length records)
     (within : place < length records) (there : get_or (numbers_of (ballots_of records)) place 0 ≡ b.number) where
@@ -32,10 +28,10 @@ module _ (records : List Record) (flags : List Bool) (b : Ballot) (place : ℕ) 
   pub in_sample : Contains (numbers_of sample) b.number
   in_sample = contains_number sample (get_or sample place b) b.number (Contains-get_or sample place b inside) (number_is b)
 
-  pub done_there : get_or flags place false ≡ true → IsDone (unset sample flags) b.number
+  pub done_there : get_or flags place false ≡ true → IsNoneOfRest (unset sample flags) b.number
   done_there is c = flag_set sample flags place b up inside flags_long is (subst (Contains (numbers_of (unset sample flags))) (sym (number_is b)) c)
 
-  pub fresh_there : get_or flags place false ≡ false → ¬ IsDone (unset sample flags) b.number
+  pub fresh_there : get_or flags place false ≡ false → ¬ IsNoneOfRest (unset sample flags) b.number
   fresh_there is done = done (contains_number (unset sample flags) (get_or sample place b) b.number (flag_unset sample flags place b inside flags_long is) (number_is b))
 
   pub same_there : ballot (get_or records place no_record) ≡ b → Contains sample b

@@ -1,12 +1,7 @@
 -- Lots of numbers, and the numbers that are drawn.
 use Rattle.std.proofs.Common.{◌≡◌, ℕ, ◌+◌, ◌<◌, List, [], ◌∷◌, ◌++◌, Bool, true, false, cond, length, get_or, map, take, refl, sym, ap, subst, ◌∙◌, arith, append-nil}
-use Rattle.std.proofs.lemmas.Bool.{cond-true, cond-false}
-use Rattle.std.proofs.lemmas.List.{get_or-map, length-map}
+use Rattle.store_spec.proofs.Common.{cond-false, cond-true, count_by, filter, get_or-map, is_lt, length-map, nat_lt, sum_by-cons}
 use Rattle.std.proofs.lemmas.List.Elements.{filter_more}
-use Rattle.std.proofs.lemmas.List.Sums.{sum_by-cons}
-use Rattle.std.specs.List.{count_by, filter}
-use Rattle.std.specs.Ordering.{is_lt}
-use Rattle.std.specs.Prelude.{nat_lt}
 use Rattle.body_store.specs.declared.lookup.Place.{Place}
 use Rattle.ticket_sample.specs.Drawing.{AreApart, IsBound, lots_of, numbers_at}
 use Rattle.ticket_sample.specs.Sample.{count_before, is_drawn}

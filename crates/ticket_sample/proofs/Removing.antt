@@ -1,13 +1,7 @@
 -- A set without a ballot that is not in its sample.
 use Rattle.std.proofs.Common.{◌≡◌, ℕ, ◌+◌, ◌≤◌, inl, inr, List, ◌∷◌, ◌++◌, Bool, true, false, cond, refl, sym, ap, ◌∙◌, arith}
-use Rattle.std.proofs.lemmas.Bool.{cond-true, cond-false, true≢false}
-use Rattle.std.proofs.lemmas.Bool.Decides.{nat_tests}
-use Rattle.std.proofs.lemmas.List.{map-append}
-use Rattle.std.proofs.lemmas.List.Elements.{Contains-append_right, filter-append, filter_agree}
-use Rattle.std.proofs.lemmas.List.Sums.{sum_by-append, sum_by-cons, sum_by-le-sum_by}
-use Rattle.std.specs.List.{Contains, filter}
-use Rattle.std.specs.Prelude.{nat_lt}
-use Rattle.store_spec.specs.Ballot.{Ballot, numbers_of}
+use Rattle.store_spec.proofs.Common.{Ballot, Contains, Contains-append_right, cond-false, cond-true, filter, filter-append, map-append, nat_lt, nat_tests, numbers_of, sum_by-append, sum_by-cons, sum_by-le-sum_by, true≢false}
+use Rattle.std.proofs.lemmas.List.Elements.{filter_agree}
 use Rattle.ticket_sample.proofs.Bounding.{lots_order}
 use Rattle.ticket_sample.proofs.Samples.{among_passing}
 use Rattle.ticket_sample.proofs.Splitting.{bool_cases, irreflexive}

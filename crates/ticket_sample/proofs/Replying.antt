@@ -1,8 +1,6 @@
 -- The reply to a line whose ballot was looked for.
 use Rattle.std.proofs.Common.{ℕ, List}
-use Rattle.store_spec.specs.Ballot.{Ballot}
-use Rattle.store_spec.specs.BallotLine.{Spells}
-use Rattle.store_spec.specs.Election.{Election}
+use Rattle.store_spec.proofs.Common.{Ballot, Election, Spells}
 use Rattle.ticket_sample.specs.Compared.{IsReplyTo}
 use Rattle.ticket_sample.specs.Comparing.{IsLook, Takes, TakesOut}
 use Rattle.ticket_sample.specs.declared.compare.CompareReply.{CompareReply}

@@ -1,15 +1,8 @@
 -- The laws of samples.
 use Rattle.std.proofs.Common.{◌≡◌, ℕ, zero, suc, ◌+◌, ◌<◌, ◌≤◌, inl, inr, List, [], ◌∷◌, Bool, true, length, sym, ap, subst, ◌∙◌, arith}
-use Rattle.std.proofs.lemmas.Bool.{cond-true, cond-false}
-use Rattle.std.proofs.lemmas.Bool.Decides.{nat_tests}
-use Rattle.std.proofs.lemmas.List.Elements.{All-filter}
-use Rattle.std.proofs.lemmas.List.Kept.{AllPairs-filter}
-use Rattle.std.proofs.lemmas.List.Sums.{count_by-le-length, length-filter}
-use Rattle.std.specs.List.{Contains, filter}
-use Rattle.std.specs.Prelude.{nat_lt, ◌↔◌}
+use Rattle.store_spec.proofs.Common.{All-filter, AllPairs-filter, Ballot, Contains, Election, IsBallotSet, IsValid, cond-false, cond-true, count_by-le-length, filter, length-filter, nat_lt, nat_tests, numbers_of}
+use Rattle.std.specs.Prelude.{◌↔◌}
 use Rattle.ballot_record.proofs.BallotSets.{same_members}
-use Rattle.store_spec.specs.Ballot.{Ballot, IsBallotSet, IsValid, numbers_of}
-use Rattle.store_spec.specs.Election.{Election}
 use Rattle.ticket_sample.proofs.Splitting.{bool_cases}
 use Rattle.ticket_sample.specs.Sample.{count_before, is_drawn, sample_of}
 

@@ -1,14 +1,11 @@
 -- Records in ascending order of number, and the numbers of their ballots.
 use Rattle.std.proofs.Common.{◌≡◌, ℕ, ◌<◌, ◌≤◌, ⊎_elim, List, [], length, get_or, ap, ◌∙◌, arith}
-use Rattle.std.proofs.lemmas.Bool.{cases_lt}
-use Rattle.std.proofs.lemmas.List.{get_or-map, length-map}
-use Rattle.std.specs.List.Sorted.{IsNonDecreasingBy}
+use Rattle.store_spec.proofs.Common.{Ballot, IsNonDecreasingBy, cases_lt, get_or-map, length-map, numbers_of}
 use Rattle.ballot_record.proofs.BallotNumbers.{length-numbers_of}
 use Rattle.ballot_record.proofs.BallotSets.{Ascend}
 use Rattle.ballot_record.specs.Record.{ballot}
 use Rattle.ballot_record.specs.declared.record.Record.{Record}
 use Rattle.body_store.specs.Contents.{ballots_of}
-use Rattle.store_spec.specs.Ballot.{Ballot, numbers_of}
 
 -- the record of no ballot
 abbrev pub no_record : Record

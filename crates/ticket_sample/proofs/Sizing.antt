@@ -1,17 +1,9 @@
 -- How many ballots a sample has.
 use Rattle.std.proofs.Common.{◌≡◌, ◌≢◌, ℕ, zero, suc, ◌+◌, ◌<◌, ◌≤◌, inl, inr, List, [], ◌∷◌, ◌++◌, Bool, true, false, cond, length, get_or, map, refl, sym, ap, subst, ◌∙◌, arith}
-use Rattle.std.proofs.lemmas.Bool.{cases_lt, cond-false}
-use Rattle.std.proofs.lemmas.List.{get_or-map, length-map}
-use Rattle.std.proofs.lemmas.List.Elements.{All-cons, All-contains, All-nil, Contains-append_right, Contains-get_or}
-use Rattle.std.proofs.lemmas.List.Sorted.{All-permutation, Contains-permutation, IsPermutation-cons, IsPermutation-map, IsPermutation-middle, IsPermutation-refl, IsPermutation-sym, IsPermutation-trans, length_permutation, sum_by-IsPermutation}
-use Rattle.std.proofs.lemmas.List.Sums.{length-filter, sum_by-append, sum_by-cons}
-use Rattle.std.specs.List.{All, Contains, count_by}
-use Rattle.std.specs.List.Sorted.{IsPermutation}
-use Rattle.std.specs.Prelude.{min, nat_lt}
+use Rattle.store_spec.proofs.Common.{All, All-cons, All-contains, All-nil, All-permutation, Ballot, Contains, Contains-append_right, Contains-get_or, Contains-permutation, Election, IsBallotSet, IsPermutation, IsPermutation-cons, IsPermutation-map, IsPermutation-middle, IsPermutation-refl, IsPermutation-sym, IsPermutation-trans, cases_lt, cond-false, count_by, get_or-map, length-filter, length-map, length_permutation, nat_lt, numbers_of, sum_by-IsPermutation, sum_by-append, sum_by-cons}
+use Rattle.std.specs.Prelude.{min}
 use Rattle.ballot_record.proofs.BallotNumbers.{contains_number, length-numbers_of, pairs_of_numbers}
 use Rattle.ballot_record.proofs.BallotSets.{listing_from_set}
-use Rattle.store_spec.specs.Ballot.{Ballot, IsBallotSet, numbers_of}
-use Rattle.store_spec.specs.Election.{Election}
 use Rattle.ticket_sample.proofs.Bounding.{before, lots_order, no_tie, numbers_apart}
 use Rattle.ticket_sample.proofs.Holding.{filter_all, never_last}
 use Rattle.ticket_sample.proofs.Lots.{count_lots, numbers_back}

@@ -18,7 +18,7 @@ IsReplyTo e sample Done bytes Differs =
     (b : Ballot) × Spells e bytes b × Contains (numbers_of sample) b.number × ¬ Contains sample b × ¬ Done b.number
 
 -- a line, none where it is too wide, and the reply to it
-pub record Answered : Type 0 where
+pub record AnsweredLine : Type 0 where
   pub line : Option (List ℕ)
   pub reply : CompareReply
 
@@ -34,7 +34,7 @@ IsOfNumber e (Some bytes) number = (b : Ballot) × Spells e bytes b × (b.number
 IsOfNumber e None number = ⊥
 
 -- a line of this number was answered by what came of comparing
-abbrev pub WasCompared : Election → List Answered → ℕ → Type 0
+abbrev pub WasCompared : Election → List AnsweredLine → ℕ → Type 0
 WasCompared e answers number = Any (λ one. IsOfNumber e one.line number × IsComparison one.reply) answers
 
 -- the reply to a line, none where it is too wide
@@ -43,16 +43,16 @@ IsReplyOr e sample Done None reply = reply ≡ Malformed
 IsReplyOr e sample Done (Some bytes) reply = IsReplyTo e sample Done bytes reply
 
 -- a line has its reply behind others that were answered
-abbrev pub IsReply : Election → List Ballot → List Answered → Answered → Type 0
-IsReply e sample before one = IsReplyOr e sample (WasCompared e before) one.line one.reply
+abbrev pub IsCompareReply : Election → List Ballot → List AnsweredLine → AnsweredLine → Type 0
+IsCompareReply e sample before one = IsReplyOr e sample (WasCompared e before) one.line one.reply
 
 -- each line has its reply behind those before it
-abbrev pub AreAnswered : Election → List Ballot → List Answered → Type 0
+abbrev pub AreAnswered : Election → List Ballot → List AnsweredLine → Type 0
 AreAnswered e sample answers =
-    (place : ℕ) (one : Answered) → slice_get answers place ≡ Some one → IsReply e sample (take place answers) one
+    (place : ℕ) (one : AnsweredLine) → slice_get answers place ≡ Some one → IsCompareReply e sample (take place answers) one
 
 -- so many ballots of the sample were compared with no line
-pub record AreMissing (e : Election) (sample : List Ballot) (answers : List Answered) (count : ℕ) : Type 0 where
+pub record AreMissing (e : Election) (sample : List Ballot) (answers : List AnsweredLine) (count : ℕ) : Type 0 where
   pub rest : List Ballot
   pub ascending : AllPairs (λ a b. a.number < b.number) rest
   pub each : (b : Ballot) → Contains rest b ↔ (Contains sample b × ¬ WasCompared e answers b.number)

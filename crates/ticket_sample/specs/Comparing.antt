@@ -52,5 +52,5 @@ Takes e bytes Differs old new = (b : Ballot) × Spells e bytes b × (new ≡ bal
 Takes e bytes other old new = new ≡ old
 
 -- a line with this number was compared with a ballot of the sample: it is none of the rest
-abbrev pub IsDone : List Ballot → ℕ → Type 0
-IsDone rest number = ¬ Contains (numbers_of rest) number
+abbrev pub IsNoneOfRest : List Ballot → ℕ → Type 0
+IsNoneOfRest rest number = ¬ Contains (numbers_of rest) number

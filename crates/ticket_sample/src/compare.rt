@@ -6,7 +6,7 @@ ghost use Rattle.ballot_record.specs.Record.{ballot};
 ghost use Rattle.store_spec.specs.Ballot.{numbers_of};
 ghost use Rattle.store_spec.specs.Election.{most_ballots};
 ghost use Rattle.ticket_sample.specs.Compared.{IsReplyTo};
-ghost use Rattle.ticket_sample.specs.Comparing.{IsDone, IsLook, Takes, TakesOut, unset};
+ghost use Rattle.ticket_sample.specs.Comparing.{IsLook, IsNoneOfRest, Takes, TakesOut, unset};
 
 use ballot_record::{Election, LineFault, Record, read_line_into};
 use outside_io::Memory;
@@ -62,7 +62,7 @@ impl Compare {
 
     /// Compares a line, and says what came of it. It takes no memory.
     pub fn line(&mut self, line: &[u8], election: &Election) -> CompareReply
-        ensures reply { IsReplyTo election.now self.old.sample (IsDone self.old.rest) line.now result }
+        ensures reply { IsReplyTo election.now self.old.sample (IsNoneOfRest self.old.rest) line.now result }
         ensures sample { self.new.sample ≡ self.old.sample }
         ensures rest { Takes election.now line.now result self.old.rest self.new.rest }
     {
@@ -112,7 +112,7 @@ fn look(sample: &[Record], compared: &mut Vec<bool>, read: &Record) -> CompareRe
     requires ascending { AllPairs (λ a b. a.number < b.number) (ballots_of sample.now) }
     requires flags { length compared.old.items ≡ length sample.now }
     ensures reply { IsLook (ballots_of sample.now)
-        (IsDone (unset (ballots_of sample.now) compared.old.items)) (ballot read.now) result }
+        (IsNoneOfRest (unset (ballots_of sample.now) compared.old.items)) (ballot read.now) result }
     ensures rest { TakesOut (ballot read.now) result
         (unset (ballots_of sample.now) compared.old.items) (unset (ballots_of sample.now) compared.new.items) }
     ensures flags { length compared.new.items ≡ length compared.old.items }

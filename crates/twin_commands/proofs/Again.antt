@@ -1,6 +1,6 @@
 -- What the next run makes of a disk that is left alone, beside a lost one.
 use Rattle.std.proofs.Common.{◌≡◌, ◌⊎◌, ℕ, List, [], ◌∷◌, Some, inl, inr, ⊎_elim, sym, subst}
-use Rattle.std.specs.List.{AllZip}
+use Rattle.store_spec.proofs.Common.{AllZip, Ballot, DiskModel, Election, HoldsSet, IsElection, IsUnused}
 use Rattle.checkpoint.proofs.Unused.{unused_holds}
 use Rattle.image_builder.proofs.Held.{one_held}
 use Rattle.run_outcome.specs.Row.{Content, OfOne}
@@ -8,14 +8,10 @@ use Rattle.run_outcome.specs.Status.{IsDecided}
 use Rattle.run_outcome.specs.World.{Reported, World}
 use Rattle.run_outcome.specs.declared.status.Status.{Status}
 use Rattle.run_outcome.specs.declared.status.Status.TheVariants as status
-use Rattle.store_spec.specs.Ballot.{Ballot}
-use Rattle.store_spec.specs.Disk.{DiskModel}
-use Rattle.store_spec.specs.Election.{Election, IsElection}
-use Rattle.store_spec.specs.Medium.{HoldsSet, IsUnused}
 use Rattle.twin_commands.proofs.Refused.{HoldsPair, pair_not_refused}
 use Rattle.twin_commands.proofs.TwinLaws.{not_begun, second_settled}
 use Rattle.twin_commands.specs.Standing.{BringsBack, IsLeftAlone, RunsOnOne}
-use Rattle.twin_commands.specs.Twin.{HasBegun, TwinEnds}
+use Rattle.twin_commands.specs.Twin.{TwinEnds, TwinHasBegun}
 use Rattle.twin_media.specs.Pairing.{IsPaired}
 use Rattle.twin_media.specs.declared.pairing.Paired.{Paired}
 use Rattle.twin_media.specs.declared.pairing.Paired.TheVariants.{Equal, Differed, FirstRestored, SecondRestored}
@@ -63,7 +59,7 @@ module _ {S K D : Type 0} (model : DiskModel D) (e : Election) (valid : IsElecti
     (told : before.streams.script.left ≡ Some content.script) (sees : model.seen before.disk ≡ Some content.disk) where
   begins : (two two_after : D) (second : List ℕ) → model.seen two ≡ Some second → HoldOne e content.disk second set
       → TwinEnds model e a report before.streams.script after.streams.script before.streams.sink after.streams.sink before.disk after.disk two two_after
-      → (begun : HasBegun model e a report before.streams.script after.streams.script before.streams.sink after.streams.sink before.disk after.disk two two_after) × (begun.set ≡ set)
+      → (begun : TwinHasBegun model e a report before.streams.script after.streams.script before.streams.sink after.streams.sink before.disk after.disk two two_after) × (begun.set ≡ set)
   begins two two_after second sees_two one ends = ⊎_elim
       (λ not. absurd (pair_not_refused e content.disk second a valid one.pair
       (not_begun model e before.disk after.disk two two_after content.disk second sees sees_two a report before.streams.script after.streams.script before.streams.sink after.streams.sink decided not)))
@@ -72,7 +68,7 @@ module _ {S K D : Type 0} (model : DiskModel D) (e : Election) (valid : IsElecti
 
   brings : (more now : List D) (others : List (List ℕ)) (two : List ℕ) → others ≡ two ∷ [] → HoldOne e content.disk two set → AllZip (λ disk told. model.seen disk ≡ Some told) more others
       → OfOne (TwinEnds model e a report before.streams.script after.streams.script before.streams.sink after.streams.sink before.disk after.disk) more now
-      → OfOne (λ two two_after. (begun : HasBegun model e a report before.streams.script after.streams.script before.streams.sink after.streams.sink before.disk after.disk two two_after) × (begun.set ≡ set)) more now
+      → OfOne (λ two two_after. (begun : TwinHasBegun model e a report before.streams.script after.streams.script before.streams.sink after.streams.sink before.disk after.disk two two_after) × (begun.set ≡ set)) more now
   brings (disk ∷ []) (now ∷ []) (second ∷ []) two only one each ends =
       let is : two ≡ second = cc in
       begins disk now second each.0 (subst (λ bytes. HoldOne e content.disk bytes set) is one) ends

@@ -1,40 +1,36 @@
 -- A session on a disk over two disks, as a session on each of them.
 use Rattle.std.proofs.Common.{◌≡◌, ◌≢◌, ◌⊎◌, ℕ, ◌+◌, ◌-◌, ◌<◌, ◌≤◌, min, List, [], length, Option, Some, None, Result, Ok, Err, ⊎_elim, refl, sym, ◌∙◌, subst, arith}
+use Rattle.store_spec.proofs.Common.{Ballot, DiskModel, Effect, Election, IsSettled, State, after_calls, last_count, leaves_now}
 use Rattle.std.specs.Prelude.{All}
 use Rattle.outside_io.specs.Outside.{Input, Output}
 use Rattle.any_store.specs.Disks.{one_store}
 use Rattle.any_store.specs.Disks.StoreDisks.{Alone}
 use Rattle.phase_gate.specs.Around.{with_rows}
-use Rattle.session_run.specs.Ends.{HandlingEnds, IsInterrupted, OfScript, StopsBehind}
+use Rattle.session_run.specs.Ends.{HandlingEnds, IsInterrupted, OfSource, StopsBehind}
 use Rattle.session_run.specs.History.{Stood, Wrote}
 use Rattle.session_run.specs.declared.fault.RunFault.{RunFault}
 use Rattle.session_run.specs.declared.fault.RunFault.TheVariants as run
-use Rattle.store_spec.specs.Ballot.{Ballot}
-use Rattle.store_spec.specs.Disk.{DiskModel, IsSettled, after_calls, leaves_now}
-use Rattle.store_spec.specs.Election.{Election}
-use Rattle.store_spec.specs.Fault.{last_count}
-use Rattle.store_spec.specs.Session.{Effect, State}
 use Rattle.twin_commands.proofs.Sides.{IsSide}
-use Rattle.twin_commands.specs.Twin.{beside}
+use Rattle.twin_commands.specs.Twin.{around_disk}
 use Rattle.twin_media.proofs.Apart.{first-left, second-left}
 use Rattle.twin_media.specs.Counts.{AreCounted}
 use Rattle.twin_media.specs.Leads.{TwinFails, TwinLeads}
 use Rattle.twin_media.specs.State.{TwinState, second_moment, twin_leaves}
 
 -- where no checkpoint failed, no count of faults rose
-pub no_fault_in : {S K T : Type 0} (model : DiskModel T) (tell : List ℕ → List ℕ) (e : Election) (set : List Ballot) (lines : List (Option (List ℕ))) (effects : List Effect) (state : State) (answer : Result (Unit {0}) RunFault) (old new : Input S) (sink sunk : Output K) (start now : T) (marks : List ℕ) (count held : ℕ) (rows : List (List ℕ))
-    → answer ≢ Err run.DiskFault → HandlingEnds (one_store model) tell e set lines effects state answer old new (beside sink start [] count) (with_rows (beside sunk now marks held) rows) → model.faults now ≡ model.faults start
-no_fault_in model tell e set lines effects state (Ok done) old new sink sunk start now marks count held rows not ends = ends.1.acknowledged.no_fault
-no_fault_in model tell e set lines effects state (Err run.TooLong) old new sink sunk start now marks count held rows not ends = ends.1.acknowledged.no_fault
-no_fault_in model tell e set lines effects state (Err run.ReadFault) old new sink sunk start now marks count held rows not ends = ends.1.acknowledged.no_fault
-no_fault_in model tell e set lines effects state (Err run.DiskFault) old new sink sunk start now marks count held rows not ends = absurd (not refl)
-no_fault_in model tell e set lines effects state (Err run.WriteFault) old new sink sunk start now marks count held rows not ends = ends.0.wrote.acknowledged.no_fault
-no_fault_in model tell e set lines effects state (Err run.Memory) old new sink sunk start now marks count held rows not ends =
+pub no_fault_in : {S K T : Type 0} (model : DiskModel T) (write : List ℕ → List ℕ) (e : Election) (set : List Ballot) (lines : List (Option (List ℕ))) (effects : List Effect) (state : State) (answer : Result (Unit {0}) RunFault) (old new : Input S) (sink sunk : Output K) (start now : T) (marks : List ℕ) (count held : ℕ) (rows : List (List ℕ))
+    → answer ≢ Err run.DiskFault → HandlingEnds (one_store model) write e set lines effects state answer old new (around_disk sink start [] count) (with_rows (around_disk sunk now marks held) rows) → model.faults now ≡ model.faults start
+no_fault_in model write e set lines effects state (Ok done) old new sink sunk start now marks count held rows not ends = ends.1.acknowledged.no_fault
+no_fault_in model write e set lines effects state (Err run.TooLong) old new sink sunk start now marks count held rows not ends = ends.1.acknowledged.no_fault
+no_fault_in model write e set lines effects state (Err run.ReadFault) old new sink sunk start now marks count held rows not ends = ends.1.acknowledged.no_fault
+no_fault_in model write e set lines effects state (Err run.DiskFault) old new sink sunk start now marks count held rows not ends = absurd (not refl)
+no_fault_in model write e set lines effects state (Err run.WriteFault) old new sink sunk start now marks count held rows not ends = ends.0.wrote.acknowledged.no_fault
+no_fault_in model write e set lines effects state (Err run.Memory) old new sink sunk start now marks count held rows not ends =
     ⊎_elim
-    (λ (none : OfScript old new (StopsBehind lines) × Wrote (one_store model) tell e set effects [] [] (beside sink start [] count) (with_rows (beside sunk now marks held) rows) × (held ≡ length state.set)). none.1.acknowledged.no_fault)
-    (λ (cut : IsInterrupted (one_store model) tell e set lines effects state old new (beside sink start [] count) (with_rows (beside sunk now marks held) rows)). cut.wrote.acknowledged.no_fault)
+    (λ (none : OfSource old new (StopsBehind lines) × Wrote (one_store model) write e set effects [] [] (around_disk sink start [] count) (with_rows (around_disk sunk now marks held) rows) × (held ≡ length state.set)). none.1.acknowledged.no_fault)
+    (λ (cut : IsInterrupted (one_store model) write e set lines effects state old new (around_disk sink start [] count) (with_rows (around_disk sunk now marks held) rows)). cut.wrote.acknowledged.no_fault)
     ends.0
-no_fault_in model tell e set lines effects state (Err other) old new sink sunk start now marks count held rows not ends = absurd ends
+no_fault_in model write e set lines effects state (Err other) old new sink sunk start now marks count held rows not ends = absurd ends
 
 module _ {A B T : Type 0} (m : DiskModel A) (leads : A → A → Type 0) (n : DiskModel B) (other_leads : B → B → Type 0) (view : T → TwinState A B) where
   abbrev pub both : DiskModel T

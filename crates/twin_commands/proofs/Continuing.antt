@@ -1,7 +1,6 @@
 -- What becomes of two disks that were made one.
 use Rattle.std.proofs.Common.{◌≡◌, ◌≢◌, ◌⊎◌, ℕ, ◌+◌, ◌≤◌, List, [], map, length, Option, Some, None, Result, Err, zero, suc, inl, inr, ⊎_elim, refl, sym, ◌∙◌, ap, subst, arith}
-use Rattle.std.specs.Option.{ForSome}
-use Rattle.std.specs.Prelude.{IfSome, is_some}
+use Rattle.store_spec.proofs.Common.{AddsNoCrashImage, Ballot, DiskModel, Election, ForSome, HoldsSet, IfSome, IsElection, IsMediumOf, LeavesOnly, Rose, begun, is_some}
 use Rattle.body_store.specs.Contents.{Contents, IsStored}
 use Rattle.crash_disk.proofs.Moments.{next_count-below, one_call, settled-only}
 use Rattle.image_builder.proofs.Held.{medium_holds}
@@ -21,15 +20,9 @@ use Rattle.session_run.specs.Ends.{GoesOn, HandlingEnds, HasBegun}
 use Rattle.session_run.specs.History.{Acknowledged, Stood}
 use Rattle.session_run.specs.declared.fault.RunFault.{RunFault}
 use Rattle.session_run.specs.declared.fault.RunFault.TheVariants as run
-use Rattle.store_spec.specs.Ballot.{Ballot}
-use Rattle.store_spec.specs.Disk.{AddsNoCrashImage, DiskModel, LeavesOnly}
-use Rattle.store_spec.specs.Election.{Election, IsElection}
-use Rattle.store_spec.specs.Fault.{Rose}
-use Rattle.store_spec.specs.Medium.{HoldsSet, IsMediumOf}
-use Rattle.store_spec.specs.Session.{begun}
 use Rattle.twin_commands.proofs.Beginning.{synced_begins}
 use Rattle.twin_commands.proofs.Both.{Begins, IsTwin, below, both, both_lead}
-use Rattle.twin_commands.specs.Twin.{Blames, Continues, FailsBoth, FailsSync, IsBlame, IsReady, SyncsAndGoesOn, TellsPart, TwinPlays, WentOn, beside, paired_text}
+use Rattle.twin_commands.specs.Twin.{Continues, FailsBoth, FailsSync, IsBlame, IsReady, SyncsAndGoesOn, WritesPart, TwinBlames, TwinPlays, WentOn, around_disk, paired_text}
 use Rattle.twin_commands.proofs.Playing.{first_apart, second_apart, twin_plays}
 use Rattle.twin_media.specs.declared.pairing.Paired.{Paired}
 use Rattle.twin_media.proofs.Apart.{first-apart, second-apart}
@@ -46,9 +39,9 @@ module _ {A B T : Type 0} (m : DiskModel A) (one_leads : A → A → Type 0) (n 
     (begins : Begins m one_leads n two_leads view start) (leads : both_lead m one_leads n two_leads view start now) where
   -- a call failed, and so one of the disks did
   pub blames_of : (a : Status) → Rose (view start).faults (view now).faults → (view start).faults ≡ 0 → ForSome (view now).failed (λ disk. disk ≤ 1) → IsBlame (m.calls (view now).first) (n.calls (view now).second) (view now).failed a
-      → Blames m n (view start).first (view now).first (view start).second (view now).second a
+      → TwinBlames m n (view start).first (view now).first (view start).second (view now).second a
   blames_of a rose none_yet few blame =
-      let P : Status → Type 0 = λ a. Blames m n (view start).first (view now).first (view start).second (view now).second a in
+      let P : Status → Type 0 = λ a. TwinBlames m n (view start).first (view now).first (view start).second (view now).second a in
       let failed : (view now).failed ≢ None = λ none. let same = leads.no_fault none in let low = begins.few in let more = rose (omega (arith, same, none_yet, low)) in absurd (omega (arith, same, more, none_yet)) in
       ⊎_elim
       (λ memory. subst P (sym memory.0) memory.1)
@@ -108,24 +101,24 @@ module _ {A B T : Type 0} (m : DiskModel A) (one_leads : A → A → Type 0) (n 
         reported = f.reported ∙ nothing;
       }
 
-      module _ (s : SyncsAndGoesOn (both m one_leads n two_leads view) (both_lead m one_leads n two_leads view) store.election store.ballots paired answer (m.calls (view start).first, n.calls (view start).second) old new sink (with_rows (beside sunk now report.marks report.held) report.others) report start) where
+      module _ (s : SyncsAndGoesOn (both m one_leads n two_leads view) (both_lead m one_leads n two_leads view) store.election store.ballots paired answer (m.calls (view start).first, n.calls (view start).second) old new sink (with_rows (around_disk sunk now report.marks report.held) report.others) report start) where
         next : (view s.mid).calls ≡ (view start).calls + 1
         next = let few = begins.few in s.images.counted ∙ next_count-below (view start).calls (omega (arith, begins.calls, few))
 
-        has : (mid : Output K) → HasBegun (one_store (both m one_leads n two_leads view)) store.election store.ballots (begun store.ballots) (beside mid start [] (length store.ballots)) (beside mid s.mid [] (length store.ballots))
+        has : (mid : Output K) → HasBegun (one_store (both m one_leads n two_leads view)) store.election store.ballots (begun store.ballots) (around_disk mid start [] (length store.ballots)) (around_disk mid s.mid [] (length store.ballots))
         has mid = synced_begins (both m one_leads n two_leads view) store mid start s.mid election stored medium_both s.same_bytes (ap is_some s.same_bytes) s.settled s.images s.steady
 
-        plays : (mid : Output K) → GoesOn (one_store (both m one_leads n two_leads view)) (λ text. text) store.election (begun store.ballots) answer old new (beside mid s.mid [] (length store.ballots)) (with_rows (beside sunk now report.marks report.held) report.others)
+        plays : (mid : Output K) → GoesOn (one_store (both m one_leads n two_leads view)) (λ text. text) store.election (begun store.ballots) answer old new (around_disk mid s.mid [] (length store.ballots)) (with_rows (around_disk sunk now report.marks report.held) report.others)
             → TwinPlays m n store.election store.ballots a report old new mid sunk (view start).first (view now).first (view start).second (view now).second
         plays mid goes =
-            let one = goes store.ballots (beside mid start [] (length store.ballots)) (has mid) in
+            let one = goes store.ballots (around_disk mid start [] (length store.ballots)) (has mid) in
             twin_plays m one_leads n two_leads view twins start s.mid now begins s.leads s.steady next leads alike report.marks s.stood
             store.election store.ballots a report old new mid sunk answer refl s.others fails told
-            (λ is. blames_of a (subst (λ r. HandlingEnds (one_store (both m one_leads n two_leads view)) (λ text. text) store.election one.0.set one.0.lines one.0.effects one.0.state r old new (beside mid start [] (length store.ballots)) (with_rows (beside sunk now report.marks report.held) report.others)) is one.0.ends).0.rose zero_faults few (blame is))
+            (λ is. blames_of a (subst (λ r. HandlingEnds (one_store (both m one_leads n two_leads view)) (λ text. text) store.election one.0.set one.0.lines one.0.effects one.0.state r old new (around_disk mid start [] (length store.ballots)) (with_rows (around_disk sunk now report.marks report.held) report.others)) is one.0.ends).0.rose zero_faults few (blame is))
             one
 
         cut : new ≡ old → now ≡ s.mid → report.marks ≡ [] → report.held ≡ length store.ballots → answer ≡ Err run.WriteFault → TakesSome sink.taken (paired_text paired) sunk.taken → Rose sink.faults sunk.faults
-            → TellsPart m n store.election store.ballots paired a report old new sink sunk (view start).first (view now).first (view start).second (view now).second
+            → WritesPart m n store.election store.ballots paired a report old new sink sunk (view start).first (view now).first (view start).second (view now).second
         cut script there none count is part rose =
             let mid_none : (view s.mid).failed ≡ None = s.leads.none_failed s.steady ∙ begins.none in
             let now_none : (view now).failed ≡ None = subst (λ t. (view t).failed ≡ None) (sym there) mid_none in
@@ -155,6 +148,6 @@ module _ {A B T : Type 0} (m : DiskModel A) (one_leads : A → A → Type 0) (n 
 
       pub continues : (was : Reported) → was ≡ nothing_reported
           → (((answer ≡ Err run.DiskFault) × FailsSync (both m one_leads n two_leads view) old new sink sunk was report start now)
-          ⊎ SyncsAndGoesOn (both m one_leads n two_leads view) (both_lead m one_leads n two_leads view) store.election store.ballots paired answer (m.calls (view start).first, n.calls (view start).second) old new sink (with_rows (beside sunk now report.marks report.held) report.others) report start)
+          ⊎ SyncsAndGoesOn (both m one_leads n two_leads view) (both_lead m one_leads n two_leads view) store.election store.ballots paired answer (m.calls (view start).first, n.calls (view start).second) old new sink (with_rows (around_disk sunk now report.marks report.held) report.others) report start)
           → Continues m n store.election store.ballots paired a report old new sink sunk (view start).first (view now).first (view start).second (view now).second
       continues was nothing either = ⊎_elim (λ failed. inl (fails_both was nothing failed.0 failed.1)) (λ s. inr (went_on s)) either

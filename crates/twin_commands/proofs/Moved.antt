@@ -1,13 +1,9 @@
 -- What was acknowledged on a disk over two disks, by the moments of one of the two.
 use Rattle.std.proofs.Common.{◌≡◌, ℕ, ◌+◌, ◌-◌, ◌*◌, ◌≤◌, List, [], ◌∷◌, map, subst, arith}
-use Rattle.std.proofs.lemmas.List.Elements.{All-head, All-tail}
+use Rattle.store_spec.proofs.Common.{All-head, All-tail, Ballot, Election, HoldsAcknowledged, HoldsOneOf, LeavesMediumOf, after_calls}
 use Rattle.std.specs.Prelude.{All}
 use Rattle.session_run.proofs.Stops.{marks_within}
 use Rattle.session_run.specs.History.{AreMarks}
-use Rattle.store_spec.specs.Ballot.{Ballot}
-use Rattle.store_spec.specs.Disk.{after_calls}
-use Rattle.store_spec.specs.Election.{Election}
-use Rattle.store_spec.specs.Stop.{HoldsAcknowledged, HoldsOneOf, LeavesMediumOf}
 
 -- marks that were all made by so many calls
 pub marks_by : (from k to : ℕ) (marks : List ℕ) (sets : List (List Ballot)) → from ≤ k → All (λ mark. mark ≤ k) marks → AreMarks from marks sets to → AreMarks from marks sets k

@@ -1,25 +1,20 @@
 -- Two disks were paired, and then made one.
 use Rattle.std.proofs.Common.{◌≡◌, ℕ, ◌<◌, List, Some, inl, inr, ⊎_elim, sym, ◌∙◌, subst}
-use Rattle.std.specs.Prelude.{is_some}
+use Rattle.store_spec.proofs.Common.{Ballot, DiskModel, Election, HoldsSet, IsBallotSet, IsWithinLimit, LeavesOnly, LeavesOnlyOnceSynced, Rose, is_some, last_count}
 use Rattle.crash_disk.proofs.Moments.{synced_then, weaker}
 use Rattle.checkpoint.proofs.Pages.{told_back}
 use Rattle.outside_io.specs.Outside.{Input, Output}
 use Rattle.run_outcome.specs.World.{Reported}
 use Rattle.run_outcome.specs.declared.status.Status.{Status}
 use Rattle.run_outcome.specs.declared.status.Status.TheVariants as status
-use Rattle.store_spec.specs.Ballot.{Ballot, IsBallotSet, IsWithinLimit}
-use Rattle.store_spec.specs.Disk.{DiskModel, LeavesOnly, LeavesOnlyOnceSynced}
-use Rattle.store_spec.specs.Election.{Election}
-use Rattle.store_spec.specs.Fault.{Rose, last_count}
-use Rattle.store_spec.specs.Medium.{HoldsSet}
-use Rattle.twin_commands.specs.Twin.{Blames, Continues, IsReady, TwinEnds}
+use Rattle.twin_commands.specs.Twin.{Continues, IsReady, TwinBlames, TwinEnds}
 use Rattle.twin_media.specs.Pairing.{BothKept, IsKeptOr, IsPaired, IsPairSet}
 use Rattle.twin_media.specs.declared.pairing.Paired.{Paired}
 
 module _ {D : Type 0} (model : DiskModel D) where
   -- counts of faults that did not rise in the pairing
   blames_since : (a : Status) (one ready one_after two other_ready two_after : D) → model.faults ready ≡ model.faults one → model.faults other_ready ≡ model.faults two
-      → Blames model model ready one_after other_ready two_after a → Blames model model one one_after two two_after a
+      → TwinBlames model model ready one_after other_ready two_after a → TwinBlames model model one one_after two two_after a
   blames_since status.DiskFault one ready one_after two other_ready two_after same other rose = subst (λ k. Rose k (model.faults one_after)) same rose
   blames_since (status.OtherDiskFault index) one ready one_after two other_ready two_after same other rose = (rose.0, subst (λ k. Rose k (model.faults two_after)) other rose.1)
   blames_since status.Memory one ready one_after two other_ready two_after same other end = end

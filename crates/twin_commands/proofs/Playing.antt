@@ -1,7 +1,6 @@
 -- A session on both disks is what the command promises of each.
 use Rattle.std.proofs.Common.{◌≡◌, ◌≢◌, ◌⊎◌, ℕ, ◌+◌, ◌≤◌, List, [], ◌∷◌, map, length, Option, None, Result, Ok, Err, inl, inr, refl, sym, ◌∙◌, subst, arith}
-use Rattle.std.proofs.lemmas.List.{map-id}
-use Rattle.std.proofs.lemmas.Simd.{map-map}
+use Rattle.store_spec.proofs.Common.{Ballot, DiskModel, Effect, Election, Plays, State, acknowledged_in, begun, map-id, map-map}
 use Rattle.std.specs.Prelude.{All}
 use Rattle.outside_io.specs.Outside.{Input, Output}
 use Rattle.phase_gate.specs.Around.{with_rows}
@@ -15,14 +14,10 @@ use Rattle.session_run.specs.Ends.{BegunWith, HandlingEnds}
 use Rattle.session_run.specs.History.{Acknowledged, Stood, Tried}
 use Rattle.session_run.specs.declared.fault.RunFault.{RunFault}
 use Rattle.session_run.specs.declared.fault.RunFault.TheVariants as run
-use Rattle.store_spec.specs.Ballot.{Ballot}
-use Rattle.store_spec.specs.Disk.{DiskModel}
-use Rattle.store_spec.specs.Election.{Election}
-use Rattle.store_spec.specs.Session.{Effect, Plays, State, acknowledged_in, begun}
 use Rattle.twin_commands.proofs.Both.{Begins, IsTwin, both, both_lead, first_counts, first_side, marked_by, no_fault_in, second_counts, second_side, shift_of}
 use Rattle.twin_commands.proofs.Handles.{at_checkpoint, handled}
 use Rattle.twin_commands.proofs.Sides.{side_acknowledged, side_crashes, side_marked, side_once}
-use Rattle.twin_commands.specs.Twin.{Blames, TwinHandles, TwinPlays, beside}
+use Rattle.twin_commands.specs.Twin.{TwinBlames, TwinHandles, TwinPlays, around_disk}
 use Rattle.twin_media.specs.Leads.{TwinFails}
 use Rattle.twin_media.specs.State.{TwinState}
 
@@ -62,22 +57,22 @@ module _ {A B T : Type 0} (m : DiskModel A) (one_leads : A → A → Type 0) (n 
           marks sets was.marked all called (sym (alike none)) (second_counts m one_leads n two_leads view twins start now begins leads ends none) (λ bytes sees. begins.other_law (view now).second bytes sees) (leads.steady none).1 was
 
       both_handled : (answer : Result (Unit {0}) RunFault) → answer ≢ Err run.DiskFault
-          → HandlingEnds (one_store (both m one_leads n two_leads view)) (λ text. text) e set lines effects state answer old new (beside sink start [] (length set)) (with_rows (beside sunk now marks held) rows)
-          → HandlingEnds (one_store m) (λ text. text) e set lines effects state answer old new (beside sink (view start).first [] (length set)) (beside sunk (view now).first marks held)
-          × HandlingEnds (one_store n) (λ text. text) e set lines effects state answer old new (beside sink (view start).second [] (length set)) (beside sunk (view now).second others held)
+          → HandlingEnds (one_store (both m one_leads n two_leads view)) (λ text. text) e set lines effects state answer old new (around_disk sink start [] (length set)) (with_rows (around_disk sunk now marks held) rows)
+          → HandlingEnds (one_store m) (λ text. text) e set lines effects state answer old new (around_disk sink (view start).first [] (length set)) (around_disk sunk (view now).first marks held)
+          × HandlingEnds (one_store n) (λ text. text) e set lines effects state answer old new (around_disk sink (view start).second [] (length set)) (around_disk sunk (view now).second others held)
       both_handled answer not was = (
         handled (both m one_leads n two_leads view) m (λ text. text) e set lines effects state old new sink sunk start now (view start).first (view now).first marks marks (length set) held rows first_apart answer not was,
         handled (both m one_leads n two_leads view) n (λ text. text) e set lines effects state old new sink sunk start now (view start).second (view now).second marks others (length set) held rows second_apart answer not was,
       )
 
     not_failed : (answer : Result (Unit {0}) RunFault) → answer ≢ Err run.DiskFault
-        → HandlingEnds (one_store (both m one_leads n two_leads view)) (λ text. text) e set lines effects state answer old new (beside sink start [] (length set)) (with_rows (beside sunk now marks held) rows) → (view now).failed ≡ None
+        → HandlingEnds (one_store (both m one_leads n two_leads view)) (λ text. text) e set lines effects state answer old new (around_disk sink start [] (length set)) (with_rows (around_disk sunk now marks held) rows) → (view now).failed ≡ None
     not_failed answer not was = leads.none_failed (no_fault_in (both m one_leads n two_leads view) (λ text. text) e set lines effects state answer old new sink sunk start now marks (length set) held rows not was) ∙ begins.none
 
     went_well : (answer : Result (Unit {0}) RunFault) → (not : answer ≢ Err run.DiskFault)
-        → HandlingEnds (one_store (both m one_leads n two_leads view)) (λ text. text) e set lines effects state answer old new (beside sink start [] (length set)) (with_rows (beside sunk now marks held) rows)
-        → HandlingEnds (one_store m) (λ text. text) e set lines effects state answer old new (beside sink (view start).first [] (length set)) (beside sunk (view now).first marks held)
-        × HandlingEnds (one_store n) (λ text. text) e set lines effects state answer old new (beside sink (view start).second [] (length set)) (beside sunk (view now).second others held)
+        → HandlingEnds (one_store (both m one_leads n two_leads view)) (λ text. text) e set lines effects state answer old new (around_disk sink start [] (length set)) (with_rows (around_disk sunk now marks held) rows)
+        → HandlingEnds (one_store m) (λ text. text) e set lines effects state answer old new (around_disk sink (view start).first [] (length set)) (around_disk sunk (view now).first marks held)
+        × HandlingEnds (one_store n) (λ text. text) e set lines effects state answer old new (around_disk sink (view start).second [] (length set)) (around_disk sunk (view now).second others held)
     went_well answer not was = both_handled (not_failed answer not was) answer not was
 
     -- where a checkpoint failed
@@ -103,9 +98,9 @@ module _ {A B T : Type 0} (m : DiskModel A) (one_leads : A → A → Type 0) (n 
         }
 
     both_handle : (answer : Result (Unit {0}) RunFault) → (answer ≡ Err run.DiskFault → TwinFails (view start) (view now)) → (answer ≢ Err run.DiskFault → a ≡ ended_as run_status answer)
-        → (answer ≡ Err run.DiskFault → Blames m n (view start).first (view now).first (view start).second (view now).second a)
-        → HandlingEnds (one_store (both m one_leads n two_leads view)) (λ text. text) e set lines effects state answer old new (beside sink start [] (length set)) (with_rows (beside sunk now marks held) rows)
-        → TwinHandles m n e set lines effects state answer a old new (beside sink (view start).first [] (length set)) (beside sunk (view now).first marks held) (beside sink (view start).second [] (length set)) (beside sunk (view now).second others held)
+        → (answer ≡ Err run.DiskFault → TwinBlames m n (view start).first (view now).first (view start).second (view now).second a)
+        → HandlingEnds (one_store (both m one_leads n two_leads view)) (λ text. text) e set lines effects state answer old new (around_disk sink start [] (length set)) (with_rows (around_disk sunk now marks held) rows)
+        → TwinHandles m n e set lines effects state answer a old new (around_disk sink (view start).first [] (length set)) (around_disk sunk (view now).first marks held) (around_disk sink (view start).second [] (length set)) (around_disk sunk (view now).second others held)
     both_handle (Err run.DiskFault) fails told blame was = (
       at_checkpoint (both m one_leads n two_leads view) m (λ text. text) e set lines effects state old new sink sunk start now (view start).first (view now).first marks marks (length set) held rows was.0.stops,
       first_tried (fails refl) was.0.tried,
@@ -128,8 +123,8 @@ module _ {A B T : Type 0} (m : DiskModel A) (one_leads : A → A → Type 0) (n 
   pub twin_plays : {S K : Type 0} (e : Election) (set : List Ballot) (a : Status) (report : Reported) (old new : Input S) (sink sunk : Output K) (answer : Result (Unit {0}) RunFault)
       → report.marks ≡ marks → report.others ≡ map (λ mark. shift_of m one_leads n two_leads view start mark ∷ []) marks
       → (answer ≡ Err run.DiskFault → TwinFails (view start) (view now)) → (answer ≢ Err run.DiskFault → a ≡ ended_as run_status answer)
-      → (answer ≡ Err run.DiskFault → Blames m n (view start).first (view now).first (view start).second (view now).second a)
-      → BegunWith (one_store (both m one_leads n two_leads view)) (λ text. text) e set answer old new (beside sink start [] (length set)) (with_rows (beside sunk now marks report.held) report.others)
+      → (answer ≡ Err run.DiskFault → TwinBlames m n (view start).first (view now).first (view start).second (view now).second a)
+      → BegunWith (one_store (both m one_leads n two_leads view)) (λ text. text) e set answer old new (around_disk sink start [] (length set)) (with_rows (around_disk sunk now marks report.held) report.others)
       → TwinPlays m n e set a report old new sink sunk (view start).first (view now).first (view start).second (view now).second
   twin_plays e set a report old new sink sunk answer same lists fails told blame one =
       let b = one.0 in
@@ -141,7 +136,7 @@ module _ {A B T : Type 0} (m : DiskModel A) (one_leads : A → A → Type 0) (n 
         plays = subst (λ set. Plays e 1 (begun set) b.lines b.effects b.state) one.1 b.plays;
         marks = others;
         others = lists_of report lists;
-        handles = subst (λ ms. TwinHandles m n e set b.lines b.effects b.state answer a old new (beside sink (view start).first [] (length set)) (beside sunk (view now).first ms report.held) (beside sink (view start).second [] (length set)) (beside sunk (view now).second others report.held)) (sym same)
+        handles = subst (λ ms. TwinHandles m n e set b.lines b.effects b.state answer a old new (around_disk sink (view start).first [] (length set)) (around_disk sunk (view now).first ms report.held) (around_disk sink (view start).second [] (length set)) (around_disk sunk (view now).second others report.held)) (sym same)
             (both_handle e set b.lines b.effects b.state a old new sink sunk report.held report.others answer fails told blame
-            (subst (λ set_here. HandlingEnds (one_store (both m one_leads n two_leads view)) (λ text. text) e set_here b.lines b.effects b.state answer old new (beside sink start [] (length set)) (with_rows (beside sunk now marks report.held) report.others)) one.1 b.ends));
+            (subst (λ set_here. HandlingEnds (one_store (both m one_leads n two_leads view)) (λ text. text) e set_here b.lines b.effects b.state answer old new (around_disk sink start [] (length set)) (with_rows (around_disk sunk now marks report.held) report.others)) one.1 b.ends));
       }

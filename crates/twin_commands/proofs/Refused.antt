@@ -1,5 +1,6 @@
 -- Why two disks are no pair, as far as their bytes tell.
 use Rattle.std.proofs.Common.{◌≡◌, ◌≢◌, ◌⊎◌, ℕ, ◌<◌, List, length, inl, inr, ⊎_elim, sym, ◌∙◌, ap, arith}
+use Rattle.store_spec.proofs.Common.{Ballot, Election, HoldsSet, IsElection, IsUnused, medium_size}
 use Rattle.checkpoint.proofs.Unused.{unused_holds, unused_small}
 use Rattle.recovery.proofs.Refusals.{one_refusal, refused_holds}
 use Rattle.recovery.specs.Refused.{IsRefusedMedium}
@@ -7,9 +8,6 @@ use Rattle.recovery.specs.declared.fault.RecoverFault.{RecoverFault}
 use Rattle.recovery.specs.declared.fault.RecoverFault.TheVariants as recover
 use Rattle.run_outcome.specs.declared.status.Status.{Status}
 use Rattle.run_outcome.specs.declared.status.Status.TheVariants as status
-use Rattle.store_spec.specs.Ballot.{Ballot}
-use Rattle.store_spec.specs.Election.{Election, IsElection, medium_size}
-use Rattle.store_spec.specs.Medium.{HoldsSet, IsUnused}
 use Rattle.twin_commands.specs.Twin.{first_status, second_status}
 use Rattle.twin_media.specs.Pairing.{IsLostOrHolds, IsPaired, IsPairSet, IsRefusedDisk}
 use Rattle.twin_media.specs.declared.fault.DiskWhy.{DiskWhy}

@@ -1,14 +1,9 @@
 -- What a session on a disk over two disks leaves of one of the two.
 use Rattle.std.proofs.Common.{◌≡◌, ℕ, ◌+◌, ◌-◌, ◌<◌, ◌≤◌, List, [], map, Some, sym, ◌∙◌, subst, arith}
-use Rattle.std.specs.Prelude.{All, IfSome, is_some}
+use Rattle.store_spec.proofs.Common.{Ballot, DiskModel, Election, HoldsAcknowledged, HoldsSet, IfSome, IsMediumOf, IsSettled, after_calls, is_some, last_count, leaves_now}
+use Rattle.std.specs.Prelude.{All}
 use Rattle.crash_disk.proofs.Moments.{settled-only}
 use Rattle.session_run.specs.History.{Acknowledged, AreMarks, HoldsOne, LosesNothing, LosesNothingOnceSynced, latest}
-use Rattle.store_spec.specs.Ballot.{Ballot}
-use Rattle.store_spec.specs.Disk.{DiskModel, IsSettled, after_calls, leaves_now}
-use Rattle.store_spec.specs.Election.{Election}
-use Rattle.store_spec.specs.Fault.{last_count}
-use Rattle.store_spec.specs.Medium.{HoldsSet, IsMediumOf}
-use Rattle.store_spec.specs.Stop.{HoldsAcknowledged}
 use Rattle.twin_commands.proofs.Moved.{acknowledged_moved, marks_by, marks_moved}
 
 -- One of the two, from `s` to `d`, while the twin went from `start` to `now`. Its counts rose as the twin's did, up to the

@@ -1,7 +1,6 @@
 -- Which set a stop leaves on one of two disks.
 use Rattle.std.proofs.Common.{◌≡◌, ℕ, ◌+◌, ◌<◌, ◌≤◌, List, [], ◌∷◌, Some, inl, inr, ⊎_elim, refl, sym, subst, arith}
-use Rattle.std.proofs.lemmas.Bool.{cases_lt}
-use Rattle.std.specs.Prelude.{Any, IsSome}
+use Rattle.store_spec.proofs.Common.{Any, Ballot, DiskModel, Election, HoldsAcknowledged, HoldsSet, IsElection, IsMediumOf, IsSome, IsUnused, LeavesOnly, LeavesOnlyOnceSynced, SyncsFirst, after_calls, cases_lt, last_count, leaves_now}
 use Rattle.checkpoint.proofs.Unused.{unused_holds}
 use Rattle.crash_disk.proofs.Moments.{settled-only, started, syncs_first}
 use Rattle.image_builder.proofs.Held.{medium_holds, one_held}
@@ -9,12 +8,6 @@ use Rattle.outside_io.proofs.Told.{some_told}
 use Rattle.any_store.specs.Checkpointed.{IsMediumNow}
 use Rattle.run_outcome.proofs.Laws.{at_told}
 use Rattle.session_run.specs.History.{HoldsOne, LosesNothing}
-use Rattle.store_spec.specs.Ballot.{Ballot}
-use Rattle.store_spec.specs.Disk.{DiskModel, LeavesOnly, LeavesOnlyOnceSynced, SyncsFirst, after_calls, leaves_now}
-use Rattle.store_spec.specs.Election.{Election, IsElection}
-use Rattle.store_spec.specs.Fault.{last_count}
-use Rattle.store_spec.specs.Medium.{HoldsSet, IsMediumOf, IsUnused}
-use Rattle.store_spec.specs.Stop.{HoldsAcknowledged}
 use Rattle.twin_commands.specs.Standing.{HoldsOwnOr, IsLostOr, StandsAt}
 use Rattle.twin_commands.specs.Twin.{LeavesPair}
 use Rattle.twin_media.specs.Pairing.{BothKept, IsKeptOr, IsPairSet, PairLeaves}

@@ -1,6 +1,6 @@
 -- The laws of `twin`: a script and the bytes of two disks decide how it ends, but for faults and want of memory.
 use Rattle.std.proofs.Common.{◌≡◌, ◌⊎◌, ℕ, ◌<◌, List, [], ◌∷◌, length, Some, Result, Ok, Err, inl, inr, ⊎_elim, refl, sym, ◌∙◌, subst}
-use Rattle.std.specs.List.{AllZip}
+use Rattle.store_spec.proofs.Common.{AllZip, Ballot, DiskModel, Effect, Election, IsElection, IsUnused, State, last_count}
 use Rattle.any_store.specs.Disks.{one_store}
 use Rattle.outside_io.specs.Outside.{Input, Output}
 use Rattle.phase_gate.specs.Around.{Around}
@@ -14,15 +14,9 @@ use Rattle.session_commands.proofs.SessionLaws.{ScriptDecides, handling_decides,
 use Rattle.session_commands.specs.Session.{run_status}
 use Rattle.session_run.specs.declared.fault.RunFault.{RunFault}
 use Rattle.session_run.specs.declared.fault.RunFault.TheVariants as run
-use Rattle.store_spec.specs.Ballot.{Ballot}
-use Rattle.store_spec.specs.Disk.{DiskModel}
-use Rattle.store_spec.specs.Election.{Election, IsElection}
-use Rattle.store_spec.specs.Fault.{last_count}
-use Rattle.store_spec.specs.Session.{Effect, State}
 use Rattle.twin_commands.proofs.Refused.{HoldsPair, PairRefused, one_pair_refused, pair_not_refused}
-use Rattle.twin_commands.specs.Twin.{Blames, beside, HasBegun, NotBegun, NotPaired, TellsPart, TwinEnds, TwinHandles, pair_status, twin_row}
+use Rattle.twin_commands.specs.Twin.{TwinBlames, around_disk, TwinHasBegun, TwinNotBegun, NotPaired, WritesPart, TwinEnds, TwinHandles, pair_status, twin_row}
 use Rattle.twin_media.specs.Pairing.{IsLostOrHolds, IsRefusedDisk}
-use Rattle.store_spec.specs.Medium.{IsUnused}
 use Rattle.twin_media.specs.declared.fault.DiskWhy.TheVariants.{TooLarge, OtherElection, Damaged}
 use Rattle.twin_media.specs.declared.fault.PairFault.{PairFault}
 use Rattle.twin_media.specs.declared.fault.PairFault.TheVariants as faults
@@ -53,14 +47,14 @@ one_twin e content a b valid x y =
 -- ---- faults are not decided
 
 -- a failed call on both is no decided status
-blames_undecided : {A B : Type 0} (m : DiskModel A) (n : DiskModel B) (one one_after : A) (two two_after : B) (a : Status) → IsDecided a → Blames m n one one_after two two_after a → ⊥
+blames_undecided : {A B : Type 0} (m : DiskModel A) (n : DiskModel B) (one one_after : A) (two two_after : B) (a : Status) → IsDecided a → TwinBlames m n one one_after two two_after a → ⊥
 blames_undecided m n one one_after two two_after status.DiskFault decided blames = decided
 blames_undecided m n one one_after two two_after (status.OtherDiskFault index) decided blames = decided
 blames_undecided m n one one_after two two_after status.Memory decided blames = decided
 blames_undecided m n one one_after two two_after other decided blames = blames
 
 blames_settled : {A B : Type 0} (m : DiskModel A) (n : DiskModel B) (one one_after : A) (two two_after : B) (a : Status) → IsSteady (m.faults one) (m.faults one_after) → IsSteady (n.faults two) (n.faults two_after)
-    → Blames m n one one_after two two_after a → a ≡ status.Memory
+    → TwinBlames m n one one_after two two_after a → a ≡ status.Memory
 blames_settled m n one one_after two two_after status.DiskFault still other blames = absurd (not_risen (m.faults one) (m.faults one_after) still blames)
 blames_settled m n one one_after two two_after (status.OtherDiskFault index) still other blames = absurd (not_risen (n.faults two) (n.faults two_after) other blames.1)
 blames_settled m n one one_after two two_after status.Memory still other blames = refl
@@ -79,7 +73,7 @@ module _ {D : Type 0} (model : DiskModel D) (e : Election) (one one_after two tw
   refused_decides faults.SecondFault decided not = absurd decided
   refused_decides faults.Memory decided not = absurd decided
 
-  pub not_begun : {S K : Type 0} (a : Status) (report : Reported) (old new : Input S) (sink sunk : Output K) → IsDecided a → NotBegun model e a report old new sink sunk one one_after two two_after → PairRefused e first second a
+  pub not_begun : {S K : Type 0} (a : Status) (report : Reported) (old new : Input S) (sink sunk : Output K) → IsDecided a → TwinNotBegun model e a report old new sink sunk one one_after two two_after → PairRefused e first second a
   not_begun a report old new sink sunk decided not = ⊎_elim
       (λ (no : (fault : PairFault) × (a ≡ pair_status fault) × NotPaired model e fault one one_after two two_after).
       subst (PairRefused e first second) (sym no.1) (refused_decides no.0 (subst IsDecided no.1 decided) no.2))
@@ -98,13 +92,13 @@ module _ {S K A B : Type 0} (m : DiskModel A) (n : DiskModel B) (e : Election) (
   handles_decides a lines effects state (Err other) first first_after second second_after decided ends =
       subst (ScriptDecides text) (sym ends.0) (handling_decides (one_store m) (λ text. text) e set lines effects state old new first first_after (Err other) text told (subst IsDecided ends.0 decided) ends.1)
 
-  part_undecided : {D : Type 0} (model : DiskModel D) (paired : _) (a : Status) (sink sunk : Output K) (ready one_after other_ready two_after : D) → IsDecided a → TellsPart model model e set paired a report old new sink sunk ready one_after other_ready two_after → ⊥
+  part_undecided : {D : Type 0} (model : DiskModel D) (paired : _) (a : Status) (sink sunk : Output K) (ready one_after other_ready two_after : D) → IsDecided a → WritesPart model model e set paired a report old new sink sunk ready one_after other_ready two_after → ⊥
   part_undecided model paired a sink sunk ready one_after other_ready two_after decided tells =
       ⊎_elim (λ write. subst IsDecided write.0 decided) (λ memory. subst IsDecided memory.0 decided) tells.why
 
 module _ {S K D : Type 0} (model : DiskModel D) (e : Election) (a : Status) (report : Reported) (old new : Input S) (sink sunk : Output K) (one one_after two two_after : D) where
   -- the script and the bytes of both disks tell how a session on both ended
-  begun_decides : (text first second : List ℕ) → old.left ≡ Some text → model.seen one ≡ Some first → model.seen two ≡ Some second → IsDecided a → HasBegun model e a report old new sink sunk one one_after two two_after → PairDecides e text first second a
+  begun_decides : (text first second : List ℕ) → old.left ≡ Some text → model.seen one ≡ Some first → model.seen two ≡ Some second → IsDecided a → TwinHasBegun model e a report old new sink sunk one one_after two two_after → PairDecides e text first second a
   begun_decides text first second told sees sees_two decided begun = inr (
     (begun.set, (begun.paired, begun.are.found first second sees sees_two)),
     ⊎_elim
@@ -134,13 +128,13 @@ module _ {S K D : Type 0} (model : DiskModel D) (e : Election) (a : Status) (rep
     pair_settled faults.SecondFault not = absurd (not_risen (model.faults two) (model.faults two_after) second not.refuses)
     pair_settled faults.Memory not = inr refl
 
-    not_settled : NotBegun model e a report old new sink sunk one one_after two two_after → IsDecided a ⊎ (a ≡ status.Memory)
+    not_settled : TwinNotBegun model e a report old new sink sunk one one_after two two_after → IsDecided a ⊎ (a ≡ status.Memory)
     not_settled not = ⊎_elim
         (λ (no : (fault : PairFault) × (a ≡ pair_status fault) × NotPaired model e fault one one_after two two_after). settled_as a (pair_status no.0) no.1 (pair_settled no.0 no.2))
         (λ blames. inr (blames_settled model model one one_after two two_after a first second blames))
         not.refuses
 
-    module _ (begun : HasBegun model e a report old new sink sunk one one_after two two_after) where
+    module _ (begun : TwinHasBegun model e a report old new sink sunk one one_after two two_after) where
       ready_steady : IsSteady (model.faults begun.ready) (model.faults one_after)
       ready_steady = record { same = first.same ∙ sym begun.are.first.no_fault; below = subst (λ n. n < last_count) (sym begun.are.first.no_fault) first.below }
 
@@ -151,12 +145,12 @@ module _ {S K D : Type 0} (model : DiskModel D) (e : Election) (a : Status) (rep
       mid_steady mid same = subst (λ n. IsSteady n sunk.faults) (sym same) sunk_steady
 
       handles_settled : (mid : Output K) → mid.faults ≡ sink.faults → (lines : List _) (effects : List Effect) (state : State) (answer : Result (Unit {0}) RunFault) (marks others : List ℕ) (held count : ℕ)
-          → TwinHandles model model e begun.set lines effects state answer a old new (beside mid begun.ready [] held) (beside sunk one_after marks count) (beside mid begun.other_ready [] held) (beside sunk two_after others count)
+          → TwinHandles model model e begun.set lines effects state answer a old new (around_disk mid begun.ready [] held) (around_disk sunk one_after marks count) (around_disk mid begun.other_ready [] held) (around_disk sunk two_after others count)
           → IsDecided a ⊎ (a ≡ status.Memory)
       handles_settled mid same lines effects state (Err run.DiskFault) marks others held count ends = inr (blames_settled model model begun.ready one_after begun.other_ready two_after a ready_steady other_steady ends.3)
       handles_settled mid same lines effects state (Ok done) marks others held count ends = settled_as a status.Ok ends.0 (inl tt)
       handles_settled mid same lines effects state (Err other) marks others held count ends = settled_as a (run_status other) ends.0
-          (handling_settled (one_store model) (λ text. text) e begun.set lines effects state old new (beside mid begun.ready [] held) (beside sunk one_after marks count) (Err other) script (mid_steady mid same) (λ is. cc) ends.1)
+          (handling_settled (one_store model) (λ text. text) e begun.set lines effects state old new (around_disk mid begun.ready [] held) (around_disk sunk one_after marks count) (Err other) script (mid_steady mid same) (λ is. cc) ends.1)
 
       begun_settled : IsDecided a ⊎ (a ≡ status.Memory)
       begun_settled = ⊎_elim

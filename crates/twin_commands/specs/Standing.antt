@@ -7,7 +7,7 @@ use Rattle.store_spec.specs.Ballot.{Ballot}
 use Rattle.store_spec.specs.Disk.{DiskModel, after_calls}
 use Rattle.store_spec.specs.Election.{Election}
 use Rattle.store_spec.specs.Medium.{HoldsSet, IsUnused}
-use Rattle.twin_commands.specs.Twin.{HasBegun, twin_row}
+use Rattle.twin_commands.specs.Twin.{TwinHasBegun, twin_row}
 use Rattle.twin_media.specs.Pairing.{IsPairSet}
 
 -- ---- the set that stands
@@ -41,7 +41,7 @@ IsLeftAlone e image content = (lost : List ℕ) × IsUnused e lost
 -- both disks became the medium of this set, and a session began on them
 abbrev pub BringsBack : {S K D : Type 0} → DiskModel D → Election → List Ballot → Status → Reported → World S K D → World S K D → Type 0
 BringsBack model e set status report before after =
-    OfOne (λ two two_after. (begun : HasBegun model e status report before.streams.script after.streams.script before.streams.sink
+    OfOne (λ two two_after. (begun : TwinHasBegun model e status report before.streams.script after.streams.script before.streams.sink
     after.streams.sink before.disk after.disk two two_after) × (begun.set ≡ set)) before.more after.more
 
 -- A run of `twin` in which no call failed, under this election, over two disks of which one has these bytes and the other

@@ -64,11 +64,11 @@ pair_status faults.Memory = status.Memory
 
 -- Why a call on both disks failed, as a status: one of them failed, the first or the second. Where the
 -- count of calls of one is at its end, that is told as want of memory.
-abbrev pub Blames : {A B : Type 0} → DiskModel A → DiskModel B → A → A → B → B → Status → Type 0
-Blames m n one one_after two two_after status.DiskFault = Rose (m.faults one) (m.faults one_after)
-Blames m n one one_after two two_after (status.OtherDiskFault index) = (index ≡ 1) × Rose (n.faults two) (n.faults two_after)
-Blames m n one one_after two two_after status.Memory = (last_count ≤ m.calls one_after + 2) ⊎ (last_count ≤ n.calls two_after + 2)
-Blames m n one one_after two two_after other = ⊥
+abbrev pub TwinBlames : {A B : Type 0} → DiskModel A → DiskModel B → A → A → B → B → Status → Type 0
+TwinBlames m n one one_after two two_after status.DiskFault = Rose (m.faults one) (m.faults one_after)
+TwinBlames m n one one_after two two_after (status.OtherDiskFault index) = (index ≡ 1) × Rose (n.faults two) (n.faults two_after)
+TwinBlames m n one one_after two two_after status.Memory = (last_count ≤ m.calls one_after + 2) ⊎ (last_count ≤ n.calls two_after + 2)
+TwinBlames m n one one_after two two_after other = ⊥
 
 -- the status of a failed call on both, by the disk that is named and the counts of calls of both
 abbrev pub IsBlame : ℕ → ℕ → Option ℕ → Status → Type 0
@@ -90,7 +90,7 @@ pub record NotPaired {D : Type 0} (model : DiskModel D) (e : Election) (fault : 
 abbrev pub TwinRefuses : {D : Type 0} → DiskModel D → Election → D → D → D → D → Status → Type 0
 TwinRefuses model e one one_after two two_after a =
     ((fault : PairFault) × (a ≡ pair_status fault) × NotPaired model e fault one one_after two two_after)
-    ⊎ Blames model model one one_after two two_after a
+    ⊎ TwinBlames model model one one_after two two_after a
 
 -- what a crash leaves of both disks, where they tell their bytes; or no call was made
 abbrev pub LeavesPair : {D : Type 0} → DiskModel D → Election → D → D → D → D → Type 0
@@ -98,7 +98,7 @@ LeavesPair model e one one_after two two_after = (a b : List ℕ) → model.seen
     → ((one_after ≡ one) × (two_after ≡ two)) ⊎ PairLeaves model model e a b one one_after two two_after
 
 -- nothing was read of the script or written to the sink, and nothing is reported
-pub record NotBegun {S K D : Type 0} (model : DiskModel D) (e : Election) (a : Status) (report : Reported)
+pub record TwinNotBegun {S K D : Type 0} (model : DiskModel D) (e : Election) (a : Status) (report : Reported)
     (old new : Input S) (sink sunk : Output K) (one one_after two two_after : D) : Type 0 where
   pub refuses : TwinRefuses model e one one_after two two_after a
   pub leaves : LeavesPair model e one one_after two two_after
@@ -130,8 +130,8 @@ pub record ArePaired {D : Type 0} (model : DiskModel D) (e : Election) (paired :
 -- ---- a session on both
 
 -- one of the disks as a session meets it, with its own marks, and no further disk
-abbrev pub beside : {K D : Type 0} → Output K → D → List ℕ → ℕ → Around K D
-beside sink disk marks held = record { sink = sink; disk = disk; marks = marks; others = []; held = held }
+abbrev pub around_disk : {K D : Type 0} → Output K → D → List ℕ → ℕ → Around K D
+around_disk sink disk marks held = record { sink = sink; disk = disk; marks = marks; others = []; held = held }
 
 -- How the handling of lines ended on both disks, once these were handled: on each as in a session on it alone, but that only
 -- one of them failed where a checkpoint did.
@@ -142,7 +142,7 @@ TwinHandles m n e set lines effects state (Err run.DiskFault) a old new first fi
     IsAtCheckpoint (λ text. text) e lines effects state old new first first_after
     × Tried m e set first.disk first_after.disk first_after.marks (acknowledged_in effects) state.set
     × Tried n e set second.disk second_after.disk second_after.marks (acknowledged_in effects) state.set
-    × Blames m n first.disk first_after.disk second.disk second_after.disk a
+    × TwinBlames m n first.disk first_after.disk second.disk second_after.disk a
     × (new.faults ≡ old.faults) × (first_after.sink.faults ≡ first.sink.faults)
 TwinHandles m n e set lines effects state answer a old new first first_after second second_after =
     (a ≡ ended_as run_status answer)
@@ -160,11 +160,11 @@ pub record TwinPlays {S K A B : Type 0} (m : DiskModel A) (n : DiskModel B) (e :
   pub marks : List ℕ
   pub others : report.others ≡ map (λ mark. mark ∷ []) marks
   pub handles : TwinHandles m n e set lines effects state answer a old new
-      (beside mid ready [] (length set)) (beside sunk one_after report.marks report.held)
-      (beside mid other_ready [] (length set)) (beside sunk two_after marks report.held)
+      (around_disk mid ready [] (length set)) (around_disk sunk one_after report.marks report.held)
+      (around_disk mid other_ready [] (length set)) (around_disk sunk two_after marks report.held)
 
 -- the sink took a part of that line alone, and no line was handled
-pub record TellsPart {S K A B : Type 0} (m : DiskModel A) (n : DiskModel B) (e : Election) (set : List Ballot) (paired : Paired) (a : Status)
+pub record WritesPart {S K A B : Type 0} (m : DiskModel A) (n : DiskModel B) (e : Election) (set : List Ballot) (paired : Paired) (a : Status)
     (report : Reported) (old new : Input S) (sink sunk : Output K) (ready one_after : A) (other_ready two_after : B) : Type 0 where
   pub script : new ≡ old
   pub part : TakesSome sink.taken (paired_text paired) sunk.taken
@@ -176,7 +176,7 @@ pub record TellsPart {S K A B : Type 0} (m : DiskModel A) (n : DiskModel B) (e :
   pub second : Acknowledged n e set [] other_ready two_after []
 
 -- the line was written whole, and then a script was handled
-pub record TellsPaired {S K A B : Type 0} (m : DiskModel A) (n : DiskModel B) (e : Election) (set : List Ballot) (paired : Paired)
+pub record WritesPaired {S K A B : Type 0} (m : DiskModel A) (n : DiskModel B) (e : Election) (set : List Ballot) (paired : Paired)
     (a : Status) (report : Reported) (old new : Input S) (sink sunk : Output K)
     (ready one_after : A) (other_ready two_after : B) : Type 0 where
   pub mid : Output K
@@ -185,7 +185,7 @@ pub record TellsPaired {S K A B : Type 0} (m : DiskModel A) (n : DiskModel B) (e
   pub plays : TwinPlays m n e set a report old new mid sunk ready one_after other_ready two_after
 
 -- Two disks became a pair, whose counts of calls then are reported, and a session began on both.
-pub record HasBegun {S K D : Type 0} (model : DiskModel D) (e : Election) (a : Status) (report : Reported)
+pub record TwinHasBegun {S K D : Type 0} (model : DiskModel D) (e : Election) (a : Status) (report : Reported)
     (old new : Input S) (sink sunk : Output K) (one one_after two two_after : D) : Type 0 where
   pub paired : Paired
   pub set : List Ballot
@@ -193,8 +193,8 @@ pub record HasBegun {S K D : Type 0} (model : DiskModel D) (e : Election) (a : S
   pub other_ready : D
   pub are : ArePaired model e paired set one ready one_after two other_ready two_after
   pub begun : report.begun ≡ Some (model.calls ready, model.calls other_ready)
-  pub goes_on : TellsPart model model e set paired a report old new sink sunk ready one_after other_ready two_after
-      ⊎ TellsPaired model model e set paired a report old new sink sunk ready one_after other_ready two_after
+  pub goes_on : WritesPart model model e set paired a report old new sink sunk ready one_after other_ready two_after
+      ⊎ WritesPaired model model e set paired a report old new sink sunk ready one_after other_ready two_after
 
 -- What a session on one disk does behind that line, from the medium of this set on: a part of the line was written alone,
 -- or the lines of the script were handled.
@@ -204,13 +204,13 @@ GoesOnBehind {S} {K} model e set paired answer old new sink after disk =
     ((new ≡ old) × (after.disk ≡ disk) × (after.marks ≡ []) × (after.held ≡ length set)
     × (answer ≡ Err run.WriteFault) × TakesSome sink.taken (paired_text paired) after.sink.taken × Rose sink.faults after.sink.faults)
     ⊎ ((mid : Output K) × TakesAll sink.taken (paired_text paired) mid.taken × (mid.faults ≡ sink.faults)
-    × GoesOn (one_store model) (λ text. text) e (begun set) answer old new (beside mid disk [] (length set)) after)
+    × GoesOn (one_store model) (λ text. text) e (begun set) answer old new (around_disk mid disk [] (length set)) after)
 
 -- Two disks that were made the medium of this set are one, and a call on both failed before anything was told. A crash
 -- leaves the set of each.
 pub record FailsBoth {S K A B : Type 0} (m : DiskModel A) (n : DiskModel B) (e : Election) (set : List Ballot) (a : Status)
     (report : Reported) (old new : Input S) (sink sunk : Output K) (ready one_after : A) (other_ready two_after : B) : Type 0 where
-  pub blames : Blames m n ready one_after other_ready two_after a
+  pub blames : TwinBlames m n ready one_after other_ready two_after a
   pub first : (bytes : List ℕ) → m.seen ready ≡ Some bytes → LeavesOnly m.calls m.may_leave ready one_after (λ image. HoldsSet e image set)
   pub second : (bytes : List ℕ) → n.seen other_ready ≡ Some bytes → LeavesOnly n.calls n.may_leave other_ready two_after (λ image. HoldsSet e image set)
   pub script : new ≡ old
@@ -223,8 +223,8 @@ pub record WentOn {S K A B : Type 0} (m : DiskModel A) (n : DiskModel B) (e : El
   pub begun : report.begun ≡ Some (m.calls ready, n.calls other_ready)
   pub first : IsReady m e set ready ready one_after
   pub second : IsReady n e set other_ready other_ready two_after
-  pub goes_on : TellsPart m n e set paired a report old new sink sunk ready one_after other_ready two_after
-      ⊎ TellsPaired m n e set paired a report old new sink sunk ready one_after other_ready two_after
+  pub goes_on : WritesPart m n e set paired a report old new sink sunk ready one_after other_ready two_after
+      ⊎ WritesPaired m n e set paired a report old new sink sunk ready one_after other_ready two_after
 
 abbrev pub Continues : {S K A B : Type 0} → DiskModel A → DiskModel B → Election → List Ballot → Paired → Status → Reported → Input S
     → Input S → Output K → Output K → A → A → B → B → Type 0
@@ -258,8 +258,8 @@ pub record SyncsAndGoesOn {S K D : Type 0} (model : DiskModel D) (leads_to : D �
 abbrev pub TwinEnds : {S K D : Type 0} → DiskModel D → Election → Status → Reported → Input S → Input S → Output K
     → Output K → D → D → D → D → Type 0
 TwinEnds model e a report old new sink sunk one one_after two two_after =
-    NotBegun model e a report old new sink sunk one one_after two two_after
-    ⊎ HasBegun model e a report old new sink sunk one one_after two two_after
+    TwinNotBegun model e a report old new sink sunk one one_after two two_after
+    ⊎ TwinHasBegun model e a report old new sink sunk one one_after two two_after
 
 -- ---- the row
 

@@ -26,7 +26,7 @@ use body_store::Closed;
 use crash_disk::Disk;
 use image_builder::Scratch;
 use outside_io::{Lines, Sink, Source, Turns};
-use phase_gate::{Report, Session, Telling};
+use phase_gate::{Report, Session, Writing};
 use run_outcome::Status;
 use session_commands::fault;
 use session_run::{RunFault, play};
@@ -84,7 +84,7 @@ fn go_on<R: Threads + Sync, S: Source, K: Sink, D: Disk, T: Turns>(
     if out.write_all(line_of(paired)).is_err() {
         return Err(RunFault::WriteFault);
     }
-    let session = Session::telling(alloc, store, Telling::All);
+    let session = Session::writing(alloc, store, Writing::All);
     play(
         rt, alloc, session, lines, script, out, disk, turns, scratch, report,
     )

@@ -1,7 +1,6 @@
 -- What a run on a twin does to each of the two disks by itself.
 use Rattle.std.proofs.Common.{◌≡◌, ℕ, ◌+◌, ◌-◌, ◌≤◌, ◌<◌, min, List, inl, inr, subst, arith}
-use Rattle.store_spec.specs.Fault.{last_count}
-use Rattle.store_spec.specs.Disk.{DiskModel, after_calls, LeavesOnly}
+use Rattle.store_spec.proofs.Common.{DiskModel, LeavesOnly, after_calls, last_count}
 use Rattle.twin_media.specs.State.{TwinState, second_moment, twin_leaves}
 use Rattle.twin_media.specs.Leads.{SideLeads}
 

@@ -1,6 +1,6 @@
 -- What a disk that was found to hold this or that is and becomes.
 use Rattle.std.proofs.Common.{◌≡◌, ℕ, ◌<◌, ◌≤◌, inl, inr, ⊎_elim, List, length, Option, Some, None, refl, sym, ◌∙◌, ap, subst, arith}
-use Rattle.std.proofs.lemmas.Bool.{cases_lt}
+use Rattle.store_spec.proofs.Common.{A, B, Ballot, Election, HoldsSet, IsBallotSet, IsOpen, IsUnused, IsWithinLimit, LeavesOnly, LeavesOnlyOnceSynced, cases_lt, image_of, last_count, medium_size}
 use Rattle.std.specs.Prelude.{◌≢◌}
 use Rattle.bank_medium.specs.Banks.{bank_named}
 use Rattle.body_store.specs.Contents.{Contents, IsStored}
@@ -10,13 +10,6 @@ use Rattle.image_builder.proofs.OneSet.{one_set}
 use Rattle.recovery.proofs.Agreeing.{read_holds}
 use Rattle.recovery.specs.Refused.{IsRefusedMedium}
 use Rattle.recovery.specs.declared.fault.RecoverFault.TheVariants.{NoStore}
-use Rattle.store_spec.specs.Ballot.{Ballot, IsBallotSet, IsWithinLimit}
-use Rattle.store_spec.specs.Disk.{LeavesOnly, LeavesOnlyOnceSynced}
-use Rattle.store_spec.specs.Election.{Election, medium_size}
-use Rattle.store_spec.specs.Fault.{last_count}
-use Rattle.store_spec.specs.Image.{image_of}
-use Rattle.store_spec.specs.Medium.{HoldsSet, IsOpen, IsUnused}
-use Rattle.store_spec.specs.Medium.Bank.{A, B}
 use Rattle.twin_media.specs.Finding.{HasFound, IsHeld}
 use Rattle.twin_media.specs.Pairing.{IsKeptOr}
 use Rattle.twin_media.specs.declared.finding.Held.{Held}

@@ -1,12 +1,8 @@
 -- Two disks that were found to hold this or that become a pair.
 use Rattle.std.proofs.Common.{◌≡◌, ℕ, ◌<◌, ⊎_elim, List, Option, Some, None, sym, subst}
-use Rattle.std.specs.Prelude.{◌≢◌, IfSome}
+use Rattle.store_spec.proofs.Common.{Ballot, DiskModel, Election, HoldsSet, IfSome, LeavesOnly, LeavesOnlyOnceSynced, last_count}
+use Rattle.std.specs.Prelude.{◌≢◌}
 use Rattle.outside_io.proofs.Told.{told_holds}
-use Rattle.store_spec.specs.Ballot.{Ballot}
-use Rattle.store_spec.specs.Disk.{DiskModel, LeavesOnly, LeavesOnlyOnceSynced}
-use Rattle.store_spec.specs.Election.{Election}
-use Rattle.store_spec.specs.Fault.{last_count}
-use Rattle.store_spec.specs.Medium.{HoldsSet}
 use Rattle.twin_media.proofs.Kept.{held_holds, kept_once}
 use Rattle.twin_media.specs.Finding.{HasFound}
 use Rattle.twin_media.specs.Pairing.{AreCompared, BothKept, IsKeptOr, IsPaired, IsPairSet}

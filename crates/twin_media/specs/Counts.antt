@@ -19,7 +19,7 @@ pub record IsInStep (first_calls second_calls first_begun second_begun passed ca
   pub all : calls ≡ passed + 1
 
 -- a call failed in place of both disks: after one that failed, or where a disk can count no more calls
-abbrev pub IsRefused : Option ℕ → Option ℕ → ℕ → ℕ → Type 0
-IsRefused old new first_calls second_calls =
+abbrev pub IsTwinRefused : Option ℕ → Option ℕ → ℕ → ℕ → Type 0
+IsTwinRefused old new first_calls second_calls =
     (IsSome old × (new ≡ old))
     ⊎ ((old ≡ None) × (((new ≡ Some 0) × (last_count ≤ first_calls + 2)) ⊎ ((new ≡ Some 1) × (last_count ≤ second_calls + 2))))

@@ -16,8 +16,8 @@ pub record IsHeld (e : Election) (held : Held) (bytes : List ℕ) : Type 0 where
   pub read : IsReadAs e bytes (bank_named held.bank) held.store.ballots
   pub choice : IsChoice e bytes (bank_named held.bank) held.open_too
 
-abbrev pub IsOf : Election → Held → Type 0
-IsOf e held = (held.store.election ≡ e) × IsStored held.store
+abbrev pub IsHeldUnder : Election → Held → Type 0
+IsHeldUnder e held = (held.store.election ≡ e) × IsStored held.store
 
 -- the bytes are lost, or this was read from them
 abbrev pub HasFound : Election → Option Held → List ℕ → Type 0
@@ -35,6 +35,6 @@ FindRefuses e DiskFault bytes = Unit {0}
 FindRefuses e Memory bytes = Unit {0}
 
 -- nothing was written, unless the disk failed
-abbrev pub IsUnchangedAt : FindFault → Option (List ℕ) → Option (List ℕ) → Type 0
-IsUnchangedAt DiskFault old new = Unit {0}
-IsUnchangedAt fault old new = new ≡ old
+abbrev pub IsUnchangedByFind : FindFault → Option (List ℕ) → Option (List ℕ) → Type 0
+IsUnchangedByFind DiskFault old new = Unit {0}
+IsUnchangedByFind fault old new = new ≡ old

@@ -1,5 +1,5 @@
 -- A twin as its parts.
-use Rattle.outside_io.specs.Count.{count_of}
+use Rattle.outside_io.specs.Count.{count_value}
 use Rattle.twin_media.specs.State.{TwinState}
 use Rattle.twin_media.specs.declared.twin.Twin.{Twin}
 
@@ -14,5 +14,5 @@ state_of twin = record {
   passed = twin.passed;
   failed = twin.failed;
   calls = twin.calls;
-  faults = count_of twin.faults;
+  faults = count_value twin.faults;
 }

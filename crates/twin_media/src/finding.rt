@@ -6,11 +6,12 @@ ghost use Rattle.body_store.specs.Contents.{IsStored};
 ghost use Rattle.outside_io.specs.Told.{AsTold};
 ghost use Rattle.recovery.specs.ReadsOnly.{WritesNothing};
 ghost use Rattle.recovery.specs.Refused.{IsRefusedMedium};
+ghost use Rattle.crash_disk.specs.MadeCalls.{MakesCalls};
 ghost use Rattle.store_spec.specs.Ballot.{Ballot};
 ghost use Rattle.store_spec.specs.Disk.{leaves_now, IsSettled, LeavesOnly, LeavesOnlyOnceSynced, SyncsFirst};
 ghost use Rattle.store_spec.specs.Fault.{last_count, CountsFault, CountsFaultIf};
 ghost use Rattle.store_spec.specs.Medium.{HoldsSet, IsMediumOf, IsUnused};
-ghost use Rattle.twin_media.specs.Finding.{FindRefuses, HasFound, IsFound, IsHeld, IsOf, IsUnchangedAt};
+ghost use Rattle.twin_media.specs.Finding.{FindRefuses, HasFound, IsFound, IsHeld, IsHeldUnder, IsUnchangedByFind};
 ghost use Rattle.twin_media.specs.Pairing.{IsKeptOr};
 
 use crate::fault::{DiskWhy, FindFault};
@@ -36,13 +37,12 @@ pub(crate) struct Held {
 fn read<D: Disk>(alloc: Global, disk: &mut D, election: &Election) -> Result<Held, RecoverFault>
     ensures held { IfOk result
         (λ held. IfSome (D.seen disk.old) (IsHeld election.now held)) }
-    ensures store { IfOk result (IsOf election.now) }
+    ensures store { IfOk result (IsHeldUnder election.now) }
     ensures refused { IfErr result
         (λ fault. IfSome (D.seen disk.old) (λ bytes. IsRefusedMedium election.now bytes fault)) }
     ensures reads { WritesNothing D.seen D.calls D.may_leave disk.old disk.new }
-    ensures fault { CountsFaultIf (IsErrOf result RecoverFault.DiskFault)
-        (D.faults disk.old) (D.faults disk.new) }
-    ensures leads { D.leads_to disk.old disk.new }
+    ensures calls { MakesCalls D.seen D.calls D.faults D.leads_to (CountsFaultIf (IsErrOf result RecoverFault.DiskFault))
+        disk.old disk.new }
 {
     let (bank, open_too) = choose(disk, election)?;
     let store = read_bank(alloc, disk, election, bank)?;
@@ -61,12 +61,11 @@ fn look<D: Disk>(
 ) -> Result<Option<Held>, FindFault>
     ensures found { IfOk result
         (λ found. IfSome (D.seen disk.old) (HasFound election.now found)) }
-    ensures store { IfOk result (λ found. IfSome found (IsOf election.now)) }
+    ensures store { IfOk result (λ found. IfSome found (IsHeldUnder election.now)) }
     ensures refused { IfErr result (λ why. IfSome (D.seen disk.old) (FindRefuses election.now why)) }
     ensures reads { WritesNothing D.seen D.calls D.may_leave disk.old disk.new }
-    ensures fault { CountsFaultIf (IsErrOf result FindFault.DiskFault)
-        (D.faults disk.old) (D.faults disk.new) }
-    ensures leads { D.leads_to disk.old disk.new }
+    ensures calls { MakesCalls D.seen D.calls D.faults D.leads_to (CountsFaultIf (IsErrOf result FindFault.DiskFault))
+        disk.old disk.new }
 {
     let size = disk.size()?;
     if size > election.medium_bytes() {
@@ -92,23 +91,21 @@ pub(crate) fn find<D: Disk>(
 ) -> Result<Option<Held>, FindFault>
     ensures found { IfOk result
         (λ found. IfSome (D.seen disk.old) (HasFound election.now found)) }
-    ensures store { IfOk result (λ found. IfSome found (IsOf election.now)) }
+    ensures store { IfOk result (λ found. IfSome found (IsHeldUnder election.now)) }
     ensures same_bytes { OnOk result (D.seen disk.new ≡ D.seen disk.old) }
     ensures settled { OnOk result (IsSettled D.seen D.calls D.may_leave disk.new) }
     ensures once_synced { OnOk result ((bytes : List ℕ) → D.seen disk.old ≡ Some bytes
         → LeavesOnlyOnceSynced D.calls D.may_leave disk.old disk.new (λ image. image ≡ bytes)) }
     ensures refused { IfErr result (λ why. IfSome (D.seen disk.old) (FindRefuses election.now why)) }
-    ensures unchanged { IfErr result (λ why. IsUnchangedAt why (D.seen disk.old) (D.seen disk.new)) }
-    ensures told { is_some (D.seen disk.new) ≡ is_some (D.seen disk.old) }
+    ensures unchanged { IfErr result (λ why. IsUnchangedByFind why (D.seen disk.old) (D.seen disk.new)) }
     ensures any_moment { (bytes : List ℕ) → D.seen disk.old ≡ Some bytes
         → SyncsFirst D.calls D.may_leave disk.old disk.new (λ image. image ≡ bytes) }
     ensures unharmed { (bytes : List ℕ) → D.seen disk.old ≡ Some bytes
         → LeavesOnly D.calls D.may_leave disk.old disk.new
         (leaves_now D.calls D.may_leave disk.old) }
     ensures called { D.calls disk.new < last_count → D.calls disk.old < D.calls disk.new }
-    ensures fault { CountsFaultIf (IsErrOf result FindFault.DiskFault)
-        (D.faults disk.old) (D.faults disk.new) }
-    ensures leads { D.leads_to disk.old disk.new }
+    ensures calls { MakesCalls D.seen D.calls D.faults D.leads_to (CountsFaultIf (IsErrOf result FindFault.DiskFault))
+        disk.old disk.new }
 {
     settle(disk)?;
     look(alloc, disk, election)
@@ -129,19 +126,16 @@ fn mend<D: Disk>(
     held: &Held,
     scratch: &mut Scratch,
 ) -> Result<(), Failed>
-    requires store { IsOf election.now held.now }
+    requires store { IsHeldUnder election.now held.now }
     requires settled { IsSettled D.seen D.calls D.may_leave disk.old }
     requires held { ForSome (D.seen disk.old) (IsHeld election.now held.now) }
     ensures medium { OnOk result (AsTold D.seen disk.old disk.new
         (λ _ bytes. IsMediumOf election.now bytes held.now.store.ballots)) }
     ensures settled { OnOk result (IsSettled D.seen D.calls D.may_leave disk.new) }
-    ensures told { is_some (D.seen disk.new) ≡ is_some (D.seen disk.old) }
     ensures any_moment { (bytes : List ℕ) → D.seen disk.old ≡ Some bytes
         → LeavesOnly D.calls D.may_leave disk.old disk.new
         (λ image. HoldsSet election.now image held.now.store.ballots) }
-    ensures later { D.calls disk.old ≤ D.calls disk.new }
-    ensures fault { CountsFault result (D.faults disk.old) (D.faults disk.new) }
-    ensures leads { D.leads_to disk.old disk.new }
+    ensures calls { MakesCalls D.seen D.calls D.faults D.leads_to (CountsFault result) disk.old disk.new }
 {
     let made = held.store.image();
     let found = &mut scratch.found;
@@ -157,20 +151,17 @@ fn renew<D: Disk>(
     store: &Closed,
     scratch: &mut Scratch,
 ) -> Result<(), Failed>
-    requires store { IsOf election.now held.now }
+    requires store { IsHeldUnder election.now held.now }
     requires own { store.now.election ≡ election.now }
     requires settled { IsSettled D.seen D.calls D.may_leave disk.old }
     requires held { ForSome (D.seen disk.old) (IsHeld election.now held.now) }
     ensures medium { OnOk result (AsTold D.seen disk.old disk.new
         (λ _ bytes. IsMediumOf election.now bytes store.now.ballots)) }
     ensures settled { OnOk result (IsSettled D.seen D.calls D.may_leave disk.new) }
-    ensures told { is_some (D.seen disk.new) ≡ is_some (D.seen disk.old) }
     ensures any_moment { (bytes : List ℕ) → D.seen disk.old ≡ Some bytes
         → LeavesOnly D.calls D.may_leave disk.old disk.new
         (IsKeptOr election.now (λ set. set ≡ store.now.ballots) bytes) }
-    ensures later { D.calls disk.old ≤ D.calls disk.new }
-    ensures fault { CountsFault result (D.faults disk.old) (D.faults disk.new) }
-    ensures leads { D.leads_to disk.old disk.new }
+    ensures calls { MakesCalls D.seen D.calls D.faults D.leads_to (CountsFault result) disk.old disk.new }
 {
     mend(disk, election, held, scratch)?;
     if same_set(&held.store, store) {
@@ -187,20 +178,17 @@ pub(crate) fn make<D: Disk>(
     store: &Closed,
     scratch: &mut Scratch,
 ) -> Result<(), Failed>
-    requires store { IfSome found (λ held. IsOf election.now held.now) }
+    requires store { IfSome found (λ held. IsHeldUnder election.now held.now) }
     requires own { store.now.election ≡ election.now }
     requires settled { IsSettled D.seen D.calls D.may_leave disk.old }
     requires found { ForSome (D.seen disk.old) (IsFound election.now found) }
     ensures medium { OnOk result (AsTold D.seen disk.old disk.new
         (λ _ bytes. IsMediumOf election.now bytes store.now.ballots)) }
     ensures settled { OnOk result (IsSettled D.seen D.calls D.may_leave disk.new) }
-    ensures told { is_some (D.seen disk.new) ≡ is_some (D.seen disk.old) }
     ensures any_moment { (bytes : List ℕ) → D.seen disk.old ≡ Some bytes
         → LeavesOnly D.calls D.may_leave disk.old disk.new
         (IsKeptOr election.now (λ set. set ≡ store.now.ballots) bytes) }
-    ensures later { D.calls disk.old ≤ D.calls disk.new }
-    ensures fault { CountsFault result (D.faults disk.old) (D.faults disk.new) }
-    ensures leads { D.leads_to disk.old disk.new }
+    ensures calls { MakesCalls D.seen D.calls D.faults D.leads_to (CountsFault result) disk.old disk.new }
 {
     match found {
         Some(held) => renew(disk, election, held, store, scratch),

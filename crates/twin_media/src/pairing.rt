@@ -8,7 +8,7 @@ ghost use Rattle.store_spec.specs.Ballot.{Ballot};
 ghost use Rattle.store_spec.specs.Disk.{disk_model, IsSettled, LeavesOnly, LeavesOnlyOnceSynced};
 ghost use Rattle.store_spec.specs.Fault.{last_count, CountsFaultIf};
 ghost use Rattle.store_spec.specs.Medium.{IsMediumOf};
-ghost use Rattle.twin_media.specs.Finding.{IsFound, IsOf};
+ghost use Rattle.twin_media.specs.Finding.{IsFound, IsHeldUnder};
 ghost use Rattle.twin_media.specs.Pairing.{AreCompared, BothKept, IsKeptOr, IsPaired, IsPairSet, IsUnwrittenPair, MakeRefuses, PairLeaves, PairRefuses};
 
 use crate::fault::PairFault;
@@ -54,8 +54,8 @@ fn make_both<A: Disk, B: Disk>(
     store: &Closed,
     scratch: &mut Scratch,
 ) -> Result<(), PairFault>
-    requires one { IfSome one (λ held. IsOf election.now held.now) }
-    requires two { IfSome two (λ held. IsOf election.now held.now) }
+    requires one { IfSome one (λ held. IsHeldUnder election.now held.now) }
+    requires two { IfSome two (λ held. IsHeldUnder election.now held.now) }
     requires own { store.now.election ≡ election.now }
     requires first_settled { IsSettled A.seen A.calls A.may_leave first.old }
     requires second_settled { IsSettled B.seen B.calls B.may_leave second.old }

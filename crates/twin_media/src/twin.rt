@@ -4,8 +4,8 @@ ghost use Rattle.std.specs.Prelude.{◌≡◌, ◌↔◌, ◌⊎◌, ℕ, ◌+�
 ghost use Rattle.std.specs.Option.{ForSome};
 ghost use Rattle.std.proofs.Props.{props};
 ghost use Rattle.store_spec.specs.Fault.{last_count, next_count, Rose};
-ghost use Rattle.outside_io.specs.Count.{count_of};
-ghost use Rattle.twin_media.specs.Counts.{AreCounted, IsInStep, IsRefused};
+ghost use Rattle.outside_io.specs.Count.{count_value};
+ghost use Rattle.twin_media.specs.Counts.{AreCounted, IsInStep, IsTwinRefused};
 
 use crash_disk::Disk;
 use outside_io::{Count, Failed};
@@ -39,7 +39,7 @@ pub struct Twin<'a, A: Disk, B: Disk> {
     ghost alike: { failed ≡ None → A.seen first.now ≡ B.seen second.now } by { Prim.hlevel props },
     ghost counted: { AreCounted failed (A.calls first.now) (B.calls second.now) first_begun second_begun passed calls },
     ghost within: { calls ≤ last_count },
-    ghost sound: { failed ≡ None → count_of faults ≡ 0 },
+    ghost sound: { failed ≡ None → count_value faults ≡ 0 },
     ghost named: { ForSome failed (λ disk. disk ≤ 1) },
 }
 
@@ -58,7 +58,7 @@ impl<'a, A: Disk, B: Disk> Twin<'a, A, B> {
         ensures passed { result.passed ≡ A.calls first.old }
         ensures failed { result.failed ≡ None }
         ensures calls { result.calls ≡ A.calls first.old }
-        ensures faults { count_of result.faults ≡ 0 }
+        ensures faults { count_value result.faults ≡ 0 }
         ensures settled { IsSettled ⟦<Twin<'a, A, B> as Disk>⟧.seen
             ⟦<Twin<'a, A, B> as Disk>⟧.calls ⟦<Twin<'a, A, B> as Disk>⟧.may_leave result }
     {
@@ -80,7 +80,7 @@ impl<'a, A: Disk, B: Disk> Twin<'a, A, B> {
     /// value, or up to two before it, counts as one that failed.
     pub fn failed(&self) -> Option<u32>
         ensures failed { result ≡ self.now.failed }
-        ensures none { result ≡ None → count_of self.now.faults ≡ 0 }
+        ensures none { result ≡ None → count_value self.now.faults ≡ 0 }
         ensures named { ForSome result (λ disk. disk ≤ 1) }
     {
         self.failed
@@ -119,10 +119,10 @@ impl<'a, A: Disk, B: Disk> Twin<'a, A, B> {
         ensures first_goes_on { OnOk result (A.calls self.old.first.now + 2 < last_count) }
         ensures under_way { OnOk result (self.new.failed ≡ Some disk) }
         ensures no_fault { OnOk result (self.new.faults ≡ self.old.faults) }
-        ensures refused { OnErr result (IsRefused self.old.failed self.new.failed
+        ensures refused { OnErr result (IsTwinRefused self.old.failed self.new.failed
             (A.calls self.old.first.now) (B.calls self.old.second.now)) }
         ensures fault { OnErr result
-            (count_of self.new.faults ≡ next_count (count_of self.old.faults)) }
+            (count_value self.new.faults ≡ next_count (count_value self.old.faults)) }
     {
         self.calls = self.calls.saturating_add(1);
         if self.failed.is_none() {
@@ -145,7 +145,7 @@ impl<'a, A: Disk, B: Disk> Twin<'a, A, B> {
         requires counted { IsInStep (A.calls self.old.first.now) (B.calls self.old.second.now)
             self.old.first_begun self.old.second_begun self.old.passed self.old.calls }
         requires alike { A.seen self.old.first.now ≡ B.seen self.old.second.now }
-        requires sound { count_of self.old.faults ≡ 0 }
+        requires sound { count_value self.old.faults ≡ 0 }
         ensures first { self.new.first ≡ self.old.first }
         ensures second { self.new.second ≡ self.old.second }
         ensures first_begun { self.new.first_begun ≡ self.old.first_begun }
@@ -173,7 +173,7 @@ impl<'a, A: Disk, B: Disk> Disk for Twin<'a, A, B> {
 
     ghost calls = { λ twin. twin.calls };
 
-    ghost faults = { λ twin. count_of twin.faults };
+    ghost faults = { λ twin. count_value twin.faults };
 
     ghost leads_to = { λ old new. TwinLeads
         (disk_model A.seen A.calls A.may_leave A.faults) A.leads_to

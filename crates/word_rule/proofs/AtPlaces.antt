@@ -1,8 +1,6 @@
 -- Workers and the lists that they work off, place by place.
 use Rattle.std.proofs.Common.{◌≡◌, ◌<◌, ◌∙◌, ℕ, All, List, ap, arith, get_or, length, subst, sym}
-use Rattle.std.proofs.lemmas.List.{get_or_default}
-use Rattle.std.proofs.lemmas.Slice.Zip.{get_or-zip, length-zip}
-use Rattle.std.specs.List.{zip}
+use Rattle.store_spec.proofs.Common.{get_or-zip, get_or_default, length-zip, zip}
 
 -- what holds of all pairs of two lists holds of the two elements at one place
 pub at_one_place : {A B : Type 0} (P : A × B → Type 0) (xs : List A) (ys : List B) (k : ℕ) (d : A × B) → length xs ≡ length ys → All P (zip xs ys) → k < length xs → P (get_or xs k d.0, get_or ys k d.1)

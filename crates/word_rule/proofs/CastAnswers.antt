@@ -1,21 +1,17 @@
 -- What a step leaves of a seat, from what it told and from the table of steps.
 use Rattle.std.proofs.Common.{◌≡◌, ℕ, [], refl, sym, ap, ◌∙◌, subst, pos_of_ne-zero}
+use Rattle.store_spec.proofs.Common.{Act, CastNote, CastState, CastView, Falls, GoesFrom, Probing, Rest, cast_act, cast_measure, cast_number, cast_view_after, fresh_cast_view, left_by, numbers_in, word_of}
 use Rattle.atomic_table.specs.Table.{Allows, Me}
 use Rattle.atomic_table.specs.declared.shared.Seat.{Seat}
 use Rattle.step_core.proofs.CastBegins.{begins_on}
 use Rattle.step_core.specs.CastTables.{BeginsAt, FitsIn, LeadsTo}
 use Rattle.step_core.specs.Shape.{table_of}
 use Rattle.step_core.specs.declared.shape.Shape.{Shape}
-use Rattle.store_spec.specs.Act.{Act, left_by, word_of}
-use Rattle.store_spec.specs.CastStep.{CastNote, CastState, CastView, GoesFrom, cast_act, cast_measure, fresh_cast_view, cast_number, cast_view_after}
 use Rattle.store_spec.specs.CastStep as definition
-use Rattle.store_spec.specs.CastStep.CastState.{Rest, Probing}
-use Rattle.store_spec.specs.Layout.{numbers_in}
-use Rattle.store_spec.specs.Measure.{Falls}
 use Rattle.word_rule.proofs.CastFound.{one_row}
 use Rattle.word_rule.proofs.CastKept.{allows, state_after}
 use Rattle.word_rule.specs.CastSeats.{IsCast, IsToldAlike, MakesRow, StepsFrom, begins}
-use Rattle.word_rule.specs.CastWords.{IsAbout, MayBegin, StandsFor}
+use Rattle.word_rule.specs.CastWords.{IsAbout, MayBeginWith, StandsFor}
 use Rattle.word_rule.specs.Places.{IsSeat}
 use Rattle.word_rule.specs.Seats.{IsSeated, SharedWords, words_of}
 use Rattle.word_rule.specs.Steps.{step_of}
@@ -111,9 +107,9 @@ has_stepped of state from seat now found new note about table fits told leads =
 -- ---- the first step of a number
 
 -- a number that may be begun with at a seat's words
-pub may_begin : (of : SharedWords) (seat : OneSeat) (x : ℕ) → words_of seat.table_id seat.me.0 ≡ of → MayBegin of x → definition.MayBegin (table_of seat.me.0.shape) (numbers_in seat.me.0.base) x
+pub may_begin : (of : SharedWords) (seat : OneSeat) (x : ℕ) → words_of seat.table_id seat.me.0 ≡ of → MayBeginWith of x → definition.MayBegin (table_of seat.me.0.shape) (numbers_in seat.me.0.base) x
 may_begin of seat x belongs may =
-    let own = subst (λ (w : SharedWords). MayBegin w x) (sym belongs) may in
+    let own = subst (λ (w : SharedWords). MayBeginWith w x) (sym belongs) may in
     record { some = own.some; not_held = own.not_held; claims = pos_of_ne-zero own.claims }
 
 pub allows_first : (opening : Opening) (slots id : ℕ) (me : Here) (x : ℕ) (shape : Shape) (act : Act) → shape ≡ me.0.shape → act ≡ cast_act (table_of shape) (Probing x 0) → me.0.weight ≡ 1 → me.0.view.state ≡ Rest → definition.MayBegin (table_of me.0.shape) (numbers_in me.0.base) x → Allows (IsSeated IsCast fresh_cast_view opening) slots id me (word_of act) (left_by act) (begins (step_of slots act) me)

@@ -1,10 +1,7 @@
 -- All seats of casting at rest give the cells, and tell what their lists are like.
 use Rattle.std.proofs.Common.{◌≡◌, ℕ, ◌≤◌, List, ◌++◌, length, take, refl, ap, ◌∙◌, subst}
-use Rattle.std.specs.List.{All, Contains}
+use Rattle.store_spec.proofs.Common.{All, CastView, Contains, EachOnce, fresh_cast_view, joined_cast_view, layout_of, numbers_in}
 use Rattle.step_core.specs.Shape.{homes_of, table_of}
-use Rattle.store_spec.specs.CastInvariant.{EachOnce}
-use Rattle.store_spec.specs.CastStep.{CastView, fresh_cast_view, joined_view}
-use Rattle.store_spec.specs.Layout.{layout_of, numbers_in}
 use Rattle.word_rule.proofs.CastEnds.{ends}
 use Rattle.word_rule.proofs.Closing.{each_list}
 use Rattle.word_rule.specs.CastSeats.{IsAtRest, IsCast}
@@ -12,7 +9,7 @@ use Rattle.word_rule.specs.CastWords.{AgreeOn, accepted_by, cells_after}
 use Rattle.word_rule.specs.Places.{HaveEnded, Place}
 use Rattle.word_rule.specs.Seats.{SharedWords}
 
-pub closes : (words : SharedWords) (places : List (Place CastView)) (last : List ℕ) → HaveEnded IsCast fresh_cast_view joined_view IsAtRest words places last → (take words.shape.cells last ≡ cells_after words places) × AgreeOn words places
+pub closes : (words : SharedWords) (places : List (Place CastView)) (last : List ℕ) → HaveEnded IsCast fresh_cast_view joined_cast_view IsAtRest words places last → (take words.shape.cells last ≡ cells_after words places) × AgreeOn words places
 closes words places last h =
     let end = ends (table_of words.shape) (numbers_in words.base) last h.views h.id h.view h.kept.room h.kept.invariant h.stands h.others h.at_rest in
     let accepted : h.view.accepted ≡ accepted_by places = h.lists (λ v. v.accepted) (λ v u. refl) in

@@ -1,17 +1,11 @@
 -- What the words and the lists of all seats are like once one seat has taken in all others.
 use Rattle.std.proofs.Common.{◌≡◌, ◌≢◌, ℕ, ◌<◌, ◌≤◌, Some, List, ◌++◌, length, get_or, take, drop, refl, ap, ◌∙◌, subst, arith}
-use Rattle.std.proofs.lemmas.List.Elements.{All-contains, All-contains_itself, All-weaker}
-use Rattle.std.proofs.lemmas.List.Sums.{sum_by-append}
-use Rattle.std.specs.List.{All, Contains}
-use Rattle.std.specs.Prelude.{slice_get}
+use Rattle.store_spec.proofs.Common.{All, All-contains, All-contains_itself, All-weaker, CastInvariant, CastView, Contains, EachOnce, HasRoomFor, IsClaimed, Rest, Table, accepted_of, fresh_cast_view, layout_of, slice_get, sum_by-append}
 use Rattle.step_core.proofs.CastAtRest.{accepted_once, full_for, rest_layout, same-back, same-contains}
 use Rattle.step_core.proofs.CastHands.{all_count, claims_size, counts_few, is_some}
 use Rattle.step_core.proofs.CastRows.{met_is}
+use Rattle.step_core.proofs.SameNumbers.{weigh}
 use Rattle.step_core.proofs.Sets.{counted, is_one}
-use Rattle.store_spec.specs.CastInvariant.{CastInvariant, EachOnce, HasRoomFor, IsClaimed, accepted_of}
-use Rattle.store_spec.specs.CastStep.{CastView, Table, fresh_cast_view}
-use Rattle.store_spec.specs.CastStep.CastState.{Rest}
-use Rattle.store_spec.specs.Layout.{layout_of}
 use Rattle.word_rule.proofs.Joined.{all_such, one_has_all}
 
 pub record AtTheEnd (t : Table) (base cells : List ℕ) (view : CastView) : Type 0 where
@@ -41,7 +35,7 @@ ends t base words views id view room h stands others rest =
           absurd (omega arith))
           (accepted_of views) (All-contains_itself (accepted_of views)));
       few = subst (λ (xs : List ℕ). length xs ≤ t.claims) accepted
-          (omega (arith, all_count (accepted_of views) h.claimed.some, h.claimed.accepted is_some refl, counts_few (drop t.cells words), claims_size t base words views h));
+          (omega (arith, all_count (accepted_of views) h.claimed.some, weigh h.claimed.accepted is_some refl, counts_few (drop t.cells words), claims_size t base words views h));
       taken = subst (λ (xs : List ℕ). All (Contains xs) view.taken) accepted (All-weaker (IsClaimed (drop t.cells words)) (Contains (accepted_of views))
           (λ x claimed. same-contains (drop t.cells words) (accepted_of views) x (same-back (accepted_of views) (drop t.cells words) h.claimed.accepted) claimed.0 claimed.1)
           view.taken met.taken);

@@ -1,13 +1,9 @@
 -- Each word that a step of casting may find has its row, and one alone.
 use Rattle.std.proofs.Common.{◌≡◌, ◌≢◌, if◌then◌else◌, ◌==◌, ℕ, ◌+◌, ◌<◌, ◌≤◌, ⊎_elim, refl, sym, ap, ◌∙◌, arith}
-use Rattle.std.proofs.lemmas.Bool.{cases_eq, cases_lt, cond-true, cond-false, eq-eqb, ne_eqb, le-ltb, lt-ltb}
-use Rattle.std.specs.Prelude.{nat_lt}
+use Rattle.store_spec.proofs.Common.{Carrying, CastNote, CastRow, CastState, Claimed, Placed, Probing, Ready, Rest, Table, Taken, cases_eq, cases_lt, claim_met, claim_passed, claim_won, claims_full, cond-false, cond-true, displaces, eq-eqb, le-ltb, look_passes, look_ready, lost_passes, lost_ready, lt-ltb, nat_lt, ne_eqb, takes_empty}
 use Rattle.step_core.proofs.CastLeads.{leads_displaced, leads_empty, leads_full, leads_look, leads_lost, leads_met, leads_passed, leads_won}
 use Rattle.step_core.specs.CastTables.{FitsIn, LeadsTo, MayFind}
-use Rattle.store_spec.specs.CastStep.{CastNote, CastRow, CastState, Table}
-use Rattle.store_spec.specs.CastStep.CastNote.{Quiet, Claimed, Taken, Full, Placed}
-use Rattle.store_spec.specs.CastStep.CastRow.{claim_won, claim_met, claim_passed, claims_full, look_passes, look_ready, takes_empty, displaces, lost_passes, lost_ready}
-use Rattle.store_spec.specs.CastStep.CastState.{Rest, Probing, Carrying, Ready}
+use Rattle.store_spec.specs.CastStep.CastNote.{Quiet, Full}
 
 abbrev End : Type 0
 End = CastState × CastNote

@@ -1,11 +1,7 @@
 -- What a step from a hand leads to, and what is left of the steps until it is empty.
 use Rattle.std.proofs.Common.{◌≡◌, ◌≢◌, ℕ, suc, ◌+◌, ◌-◌, ◌*◌, ◌<◌, ◌≤◌, inl, inr, [], ◌∷◌, refl, sym, ap, ◌∙◌, subst, arith}
-use Rattle.std.proofs.Math.Nat.{mul-le-mul_right}
-use Rattle.store_spec.specs.CastStep.{CastNote, CastRow, CastState, CastView, Table, cast_measure, cast_number, cast_view_after}
-use Rattle.store_spec.specs.CastStep.CastNote.{Quiet, Claimed, Taken, Full, Placed}
-use Rattle.store_spec.specs.CastStep.CastRow.{claim_won, claim_met, claim_passed, claims_full, look_passes, look_ready, takes_empty, displaces, lost_passes, lost_ready}
-use Rattle.store_spec.specs.CastStep.CastState.{Rest, Probing, Carrying, Ready}
-use Rattle.store_spec.specs.Measure.{Falls}
+use Rattle.store_spec.proofs.Common.{Carrying, CastNote, CastRow, CastState, CastView, Claimed, Falls, Placed, Probing, Ready, Rest, Table, Taken, cast_measure, cast_number, cast_view_after, claim_met, claim_passed, claim_won, claims_full, displaces, look_passes, look_ready, lost_passes, lost_ready, mul-le-mul_right, takes_empty}
+use Rattle.store_spec.specs.CastStep.CastNote.{Quiet, Full}
 use Rattle.word_rule.specs.CastSeats.{MakesNextRow, MakesRow}
 use Rattle.word_rule.specs.Chain.{Rows}
 use Rattle.word_rule.specs.Chain.Rows.{one_more}

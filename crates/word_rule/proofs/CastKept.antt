@@ -1,19 +1,13 @@
 -- A step of a seat of casting is a row of the table, which the rule of the words allows.
 use Rattle.std.proofs.Common.{◌≡◌, ◌≢◌, ℕ, Some, List, get_or, map, set, refl, sym, subst}
-use Rattle.std.specs.Prelude.{slice_get}
+use Rattle.store_spec.proofs.Common.{Carrying, CastInvariant, CastNote, CastRow, CastState, CastView, Claimed, Falls, GoesFrom, HasRoomFor, Placed, Probing, Ready, Rest, Table, Taken, cast_act, cast_measure, cast_number, cast_view_after, fresh_cast_view, left_by, numbers_in, slice_get, word_of}
 use Rattle.atomic_table.specs.Table.{Allows, Me, keeps, stepped}
 use Rattle.step_core.proofs.CastRows.{keeps_row}
 use Rattle.step_core.proofs.CastSteps.{begins, begun, falls_at, finds_at, fits_at, keeps_step}
 use Rattle.step_core.proofs.Sets.{stands-map, stands-set}
 use Rattle.step_core.specs.CastTables.{FitsIn, LeadsTo, MayFind}
 use Rattle.step_core.specs.Shape.{table_of}
-use Rattle.store_spec.specs.Act.{left_by, word_of}
-use Rattle.store_spec.specs.CastInvariant.{CastInvariant, HasRoomFor}
-use Rattle.store_spec.specs.CastStep.{CastNote, CastRow, CastState, CastView, GoesFrom, Table, cast_act, cast_measure, fresh_cast_view, cast_number, cast_view_after}
-use Rattle.store_spec.specs.CastStep.CastNote.{Quiet, Claimed, Taken, Full, Placed}
-use Rattle.store_spec.specs.CastStep.CastState.{Rest, Probing, Carrying, Ready}
-use Rattle.store_spec.specs.Layout.{numbers_in}
-use Rattle.store_spec.specs.Measure.{Falls}
+use Rattle.store_spec.specs.CastStep.CastNote.{Quiet, Full}
 use Rattle.word_rule.proofs.CastFound.{a_row}
 use Rattle.word_rule.proofs.CastTold.{told_alike}
 use Rattle.word_rule.proofs.Weights.{at_slice, knows_opening, steps}

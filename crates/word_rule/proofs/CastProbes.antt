@@ -1,11 +1,9 @@
 -- Probes for a number, of which those before the last one told nothing.
 use Rattle.std.proofs.Common.{◌≡◌, ◌≢◌, ℕ, ◌+◌, ◌-◌, ◌<◌, refl, sym, ap, ◌∙◌, subst}
-use Rattle.store_spec.specs.CastStep.{CastNote, CastRow, CastState, CastView, Table, cast_number, cast_view_after}
-use Rattle.store_spec.specs.CastStep.CastNote.{Quiet, Claimed, Taken, Full, Placed}
-use Rattle.store_spec.specs.CastStep.CastRow.{claim_won, claim_met, claim_passed, claims_full, look_passes, look_ready, takes_empty, displaces, lost_passes, lost_ready}
-use Rattle.store_spec.specs.CastStep.CastState.{Rest, Probing, Carrying, Ready}
+use Rattle.store_spec.proofs.Common.{Carrying, CastNote, CastRow, CastState, CastView, Claimed, Placed, Probing, Ready, Rest, Table, Taken, cast_number, cast_view_after, claim_met, claim_passed, claim_won, claims_full, displaces, look_passes, look_ready, lost_passes, lost_ready, takes_empty}
+use Rattle.store_spec.specs.CastStep.CastNote.{Quiet, Full}
 use Rattle.word_rule.proofs.CastKept.{state_after}
-use Rattle.word_rule.specs.CastSeats.{IsAnswer, IsToldAlike, MakesRow, Probes}
+use Rattle.word_rule.specs.CastSeats.{IsAnswerNote, IsToldAlike, MakesRow, Probes}
 
 -- the state after a probe, by its note
 abbrev pub IsProbeAfter : Table → ℕ → ℕ → CastState → CastNote → Type 0
@@ -105,7 +103,7 @@ tries_left t (Ready v i s) = 0
 
 -- what is told of a number, and the view after it
 pub record IsCastSo (number : ℕ) (old now : CastView) (note : CastNote) : Type 0 where
-  pub answers : IsAnswer note
+  pub answers : IsAnswerNote note
   pub view : now ≡ cast_view_after old number Rest note
 
 -- where the number that was claimed is placed
@@ -116,7 +114,7 @@ placed_so t number v i old mid now Taken carrying p placed = let clash : Carryin
 placed_so t number v i old mid now Full carrying p placed = let clash : Carrying v i ≡ Rest = sym carrying ∙ probe_after t number old mid Full p in absurd cc
 placed_so t number v i old mid now Placed carrying p placed = absurd (probe_after t number old mid Placed p)
 
-rested : (t : Table) (number : ℕ) (old now : CastView) (note : CastNote) → IsAnswer note → now.state ≡ Rest → Probes t number old note now → IsCastSo number old now note
+rested : (t : Table) (number : ℕ) (old now : CastView) (note : CastNote) → IsAnswerNote note → now.state ≡ Rest → Probes t number old note now → IsCastSo number old now note
 rested t number old now note answers rests p = record { answers = answers; view = p.row.is ∙ ap (λ (s : CastState). cast_view_after old number s note) rests }
 
 -- where none was claimed

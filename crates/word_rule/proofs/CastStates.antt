@@ -1,9 +1,9 @@
 -- What the code's states are not, as the table has them.
 use Rattle.std.proofs.Common.{◌≢◌, ℕ, refl}
+use Rattle.store_spec.proofs.Common.{Carrying, Probing}
 use Rattle.step_core.specs.CastTables.{state_of}
 use Rattle.step_core.specs.declared.cast.CastState.{CastState}
 use Rattle.step_core.specs.declared.cast.CastState.TheVariants as states
-use Rattle.store_spec.specs.CastStep.CastState.{Probing, Carrying}
 
 pub not_probing : (state : CastState) → ((x k : ℕ) → state ≢ states.Probing x k) → (x k : ℕ) → state_of state ≢ Probing x k
 not_probing states.Rest other x k same = absurd cc

@@ -1,17 +1,10 @@
 -- What a step of casting tells of a number again.
 use Rattle.std.proofs.Common.{◌≡◌, ℕ, ◌<◌, ⊎_elim, Some, List, length, get_or, set, drop, refl, sym, ap, ◌∙◌, subst}
-use Rattle.std.proofs.lemmas.List.{get_or_default}
-use Rattle.std.proofs.lemmas.List.Elements.{All-contains, Contains-push}
-use Rattle.std.specs.List.{Contains}
-use Rattle.std.specs.Prelude.{slice_get}
+use Rattle.store_spec.proofs.Common.{All-contains, CastInvariant, CastNote, CastRow, CastState, CastView, Claimed, Contains, Contains-push, HasMet, HoldsOther, IsClaimed, Probing, Table, Taken, cast_number, cast_view_after, claim_met, claim_passed, claim_won, claim_word, claims_full, displaces, get_or_default, look_passes, look_ready, lost_passes, lost_ready, slice_get, takes_empty}
 use Rattle.step_core.proofs.CastAtRest.{IsNewIn, claim_is_new, full_for}
 use Rattle.step_core.proofs.CastRows.{met_is}
 use Rattle.step_core.proofs.Sets.{contains-flat_map, stands-set}
-use Rattle.store_spec.specs.CastInvariant.{CastInvariant, HasMet, HoldsOther, IsClaimed}
-use Rattle.store_spec.specs.CastStep.{CastNote, CastRow, CastState, CastView, Table, claim_word, cast_number, cast_view_after}
-use Rattle.store_spec.specs.CastStep.CastNote.{Claimed, Taken, Full}
-use Rattle.store_spec.specs.CastStep.CastRow.{claim_won, claim_met, claim_passed, claims_full, look_passes, look_ready, takes_empty, displaces, lost_passes, lost_ready}
-use Rattle.store_spec.specs.CastStep.CastState.{Probing}
+use Rattle.store_spec.specs.CastStep.CastNote.{Full}
 use Rattle.word_rule.specs.CastSeats.{IsToldAlike}
 
 -- a number that was found taken is not one that met full claim words

@@ -1,7 +1,6 @@
 -- The end of a table, by a seat that has taken in all others.
 use Rattle.std.proofs.Common.{◌≡◌, ℕ, List, length, map, ◌∙◌, arith}
-use Rattle.std.proofs.lemmas.List.{get_or-map, length-map}
-use Rattle.std.specs.List.{All, flat_map}
+use Rattle.store_spec.proofs.Common.{All, flat_map, get_or-map, length-map}
 use Rattle.atomic_table.specs.declared.shared.Seat.{Seat}
 use Rattle.atomic_table.specs.declared.shared.Shared.{Shared}
 use Rattle.step_core.proofs.Sets.{All-from_flat_map, All-from_map, stands-map}

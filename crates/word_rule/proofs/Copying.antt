@@ -1,8 +1,6 @@
 -- Words that are copied, one after another.
 use Rattle.std.proofs.Common.{◌≡◌, ℕ, ◌+◌, ◌<◌, List, [], ◌∷◌, ◌++◌, length, take, get_or, ap, ◌∙◌, sym}
-use Rattle.std.proofs.lemmas.List.{take_more}
-use Rattle.std.proofs.lemmas.Option.{get_or_from_slice_get}
-use mathlib.Core.Option.{some}
+use Rattle.store_spec.proofs.Common.{get_or_from_slice_get, some, take_more}
 use lib.ListN.{get_elem?}
 use Rattle.word_rule.proofs.Weights.{at_slice}
 

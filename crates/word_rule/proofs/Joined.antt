@@ -1,9 +1,6 @@
 -- The lists of views of which all but one are as new.
 use Rattle.std.proofs.Common.{◌≡◌, ◌≢◌, ℕ, zero, suc, ◌<◌, ⊎_elim, List, [], ◌∷◌, ◌++◌, length, get_or, Some, slice_get, refl, sym, ap, ◌∙◌, subst, append-nil, arith}
-use Rattle.std.proofs.lemmas.Bool.{cases_eq}
-use Rattle.std.proofs.lemmas.List.Concat.{flat_map-cons}
-use Rattle.std.proofs.lemmas.Option.{get_or_from_slice_get, slice_get_within}
-use Rattle.std.specs.List.{All, flat_map}
+use Rattle.store_spec.proofs.Common.{All, cases_eq, flat_map, flat_map-cons, get_or_from_slice_get, slice_get_within}
 
 module _ {V : Type 0} (list : V → List ℕ) where
   -- views with nothing in their lists have nothing in all of them

@@ -1,8 +1,6 @@
 -- Lists of which each entry is made from one of another list.
-use Rattle.std.proofs.Common.{◌≡◌, List, [], ◌∷◌, ◌++◌, length, map, refl, sym, ap, ◌∙◌, arith}
-use Rattle.std.proofs.lemmas.List.{map_push}
-use Rattle.std.proofs.lemmas.List.Elements.{All-head, All-tail}
-use Rattle.std.specs.List.{All, zip}
+use Rattle.std.proofs.Common.{◌≡◌, List, [], ◌∷◌, ◌++◌, map, sym, ap, ◌∙◌}
+use Rattle.store_spec.proofs.Common.{map_push}
 
 -- one more of both
 pub one_more : {X Y : Type 0} (f : X → Y) (xs : List X) (ys now : List Y) (x : X) (y : Y) → now ≡ ys ++ y ∷ [] → ys ≡ map f xs → y ≡ f x → now ≡ map f (xs ++ x ∷ [])

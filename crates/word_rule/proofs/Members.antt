@@ -1,9 +1,6 @@
 -- What is in lists that are filtered, changed and joined.
 use Rattle.std.proofs.Common.{◌≡◌, zero, suc, ◌⊎◌, ⊎_elim, inl, inr, Bool, true, false, List, [], ◌∷◌, get_or, map, refl, sym, ap, ◌∙◌, subst, arith}
-use Rattle.std.proofs.lemmas.Bool.{cases_Bool, cond-false, cond-true}
-use Rattle.std.proofs.lemmas.List.{get_or-map, length-map}
-use Rattle.std.proofs.lemmas.List.Elements.{Contains-append_cases, Contains-append_left, Contains-append_right, Contains-get_or}
-use Rattle.std.specs.List.{All, Contains, filter, flat_map}
+use Rattle.store_spec.proofs.Common.{All, Contains, Contains-append_cases, Contains-append_left, Contains-append_right, Contains-get_or, cases_Bool, cond-false, cond-true, filter, flat_map, get_or-map, length-map}
 
 -- what holds of each member holds of all
 pub all_members : {X : Type 0} (P : X → Type 0) (xs : List X) → ((x : X) → Contains xs x → P x) → All P xs

@@ -1,9 +1,6 @@
 -- New words and their first seat, and the seats that are dealt.
 use Rattle.std.proofs.Common.{◌≡◌, ◌≢◌, ℕ, ◌+◌, List, [], ◌∷◌, ◌++◌, length, replicate, take, refl, sym, ap, ◌∙◌, subst, arith}
-use Rattle.std.proofs.Math.Seq.{take-append_seam}
-use Rattle.std.proofs.lemmas.List.{length-append, length-replicate}
-use Rattle.std.proofs.lemmas.List.Elements.{All-cons, All-nil}
-use Rattle.std.proofs.lemmas.List.Sums.{sum_by-cons}
+use Rattle.store_spec.proofs.Common.{All-cons, All-nil, length-append, length-replicate, sum_by-cons, take-append_seam}
 use Rattle.atomic_table.specs.Table as table
 use Rattle.step_core.specs.declared.shape.Shape.{Shape}
 use Rattle.word_rule.specs.Seats.{IsSeated, Opens, base_of, knows}

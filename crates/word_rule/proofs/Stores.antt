@@ -1,9 +1,6 @@
 -- The words of a store: its homes, and the numbers in its cells.
 use Rattle.std.proofs.Common.{◌≡◌, ◌≢◌, ℕ, ◌+◌, ◌^◌, ◌<◌, ◌≤◌, ⊎_elim, List, ◌++◌, length, sym, ap, ◌∙◌, subst, arith}
-use Rattle.std.proofs.lemmas.Bool.{cases_eq}
-use Rattle.std.proofs.lemmas.List.Elements.{All-contains}
-use Rattle.std.proofs.lemmas.List.Sums.{sum_by-append}
-use Rattle.std.specs.List.{AllPairs, Contains}
+use Rattle.store_spec.proofs.Common.{All-contains, AllPairs, Ballot, Contains, Election, HasRoom, IsLayout, IsOrdered, cases_eq, cell_count, cells_of, count_of, home_in, home_of, laid_out, layout_of, numbers_in, numbers_of, sum_by-append, times, without}
 use Rattle.layout_def.proofs.Ascending.{length-ascending}
 use Rattle.layout_def.proofs.Fronts.{distinct_in, holds_own}
 use Rattle.layout_def.proofs.LaidOut.{layout_of_is}
@@ -12,14 +9,7 @@ use Rattle.step_core.proofs.Listings.{no_zero_in_cells, same_ascending, times_wi
 use Rattle.step_core.proofs.Sets.{counted, is_one, none_counted, once_distinct, stands_counted}
 use Rattle.step_core.specs.Shape.{homes_of}
 use Rattle.step_core.specs.declared.shape.Shape.{Shape}
-use Rattle.store_spec.specs.Ballot.{Ballot, numbers_of}
-use Rattle.store_spec.specs.CastInvariant.{count_of}
-use Rattle.store_spec.specs.Election.{Election, cell_count, most_bits}
-use Rattle.store_spec.specs.Home.{home_in, home_of}
-use Rattle.store_spec.specs.Image.{cells_of}
-use Rattle.store_spec.specs.Layout.{HasRoom, IsLayout, IsOrdered, laid_out, layout_of, numbers_in}
-use Rattle.store_spec.specs.WithdrawInvariant.{times}
-use Rattle.store_spec.specs.WithdrawPhase.{without}
+use Rattle.store_spec.specs.Election.{most_bits}
 use Rattle.word_rule.specs.Seats.{SharedWords}
 use Rattle.word_rule.specs.Stores.{AreWordsOf, IsShapeOf}
 

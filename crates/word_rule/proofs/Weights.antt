@@ -1,12 +1,7 @@
 -- The rule of seats is kept where a seat is cut off, where one takes in another, and at a step of the phase. A seat that
 -- stands for all knows the views of all.
 use Rattle.std.proofs.Common.{◌≡◌, ◌≢◌, ℕ, zero, suc, ◌+◌, ◌<◌, ◌≤◌, Some, List, [], ◌∷◌, ◌++◌, length, map, get_or, set, refl, sym, ap, ◌∙◌, subst, arith}
-use Rattle.std.proofs.lemmas.List.{map-append, map-set}
-use Rattle.std.proofs.lemmas.List.Elements.{All-append, All-cons, All-nil, All-set}
-use Rattle.std.proofs.lemmas.List.Sums.{get_or-le-sum_by, sum_by-append, sum_by-cons, sum_by-set}
-use Rattle.std.proofs.lemmas.Option.{get_or_from_slice_get}
-use Rattle.std.specs.List.{All, sum_by}
-use Rattle.std.specs.Prelude.{slice_get}
+use Rattle.store_spec.proofs.Common.{All, All-append, All-cons, All-nil, All-set, get_or-le-sum_by, get_or_from_slice_get, map-append, map-set, slice_get, sum_by, sum_by-append, sum_by-cons, sum_by-set}
 use mathlib.Core.Option.{some, some-injective, some-ne-none}
 use lib.ListN.{get_elem?}
 use Rattle.atomic_table.proofs.Lists.{set_else}

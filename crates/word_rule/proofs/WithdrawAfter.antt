@@ -1,19 +1,15 @@
 -- The state and the note that the tables give for what a step found are those that the rule gave the seat.
 use Rattle.std.proofs.Common.{◌≡◌, ℕ, ◌+◌, ◌-◌, ◌==◌, ◌⊎◌, if◌then◌else◌, get_or, refl, sym, ◌∙◌, ap, subst, arith}
-use Rattle.std.specs.List.{Contains}
+use Rattle.store_spec.proofs.Common.{Chosen, Contains, FirstRow, Gone, Quiet, StandsInBase, WithdrawNote, WithdrawView, chose, found_gone, left_by, withdraw_act, withdraw_number, withdraw_view_after, word_of}
 use Rattle.atomic_table.specs.Table.{Me, Step}
 use Rattle.step_core.proofs.WithdrawOneRow.{one_row}
 use Rattle.step_core.specs.Shape.{homes_of}
 use Rattle.step_core.specs.WithdrawTables.{FitsIn, LeadsTo, state_of}
 use Rattle.step_core.specs.declared.shape.Shape.{Shape}
 use Rattle.step_core.specs.declared.withdraw.WithdrawState.{WithdrawState}
-use Rattle.store_spec.specs.Act.{left_by, word_of}
-use Rattle.store_spec.specs.WithdrawStep.FirstRow.{chose, found_gone}
-use Rattle.store_spec.specs.WithdrawStep.WithdrawNote.{Gone, Quiet}
-use Rattle.store_spec.specs.WithdrawStep.WithdrawState.{Rest, Chosen}
+use Rattle.store_spec.specs.WithdrawStep.WithdrawState.{Rest}
 use Rattle.store_spec.specs.WithdrawStep as definition
-use Rattle.store_spec.specs.WithdrawStep.{FirstRow, IsSeated, WithdrawNote, WithdrawView, withdraw_number, withdraw_view_after, withdraw_act}
-use Rattle.word_rule.specs.WithdrawSeats.{Began, WentOn, flagged_by}
+use Rattle.word_rule.specs.WithdrawSeats.{Began, TookNextRow, flagged_by}
 use Rattle.word_rule.specs.WithdrawWords.{MakesFirstRow, MakesRow}
 use Rattle.word_rule.specs.declared.seats.Known.{Known}
 
@@ -36,7 +32,7 @@ pub record SeatAfter (state : WithdrawState) (me now : Me (Unit {0}) (Known With
   pub fits : FitsIn now.0.shape.cells now.0.view.state
 
 -- a cell's flag is that of the number which the cell held
-pub flagged_is : (known : Known WithdrawView) (x cell word : ℕ) → IsSeated known.base x cell → word ≡ known.shape.cells + cell → flagged_by known word ≡ x
+pub flagged_is : (known : Known WithdrawView) (x cell word : ℕ) → StandsInBase known.base x cell → word ≡ known.shape.cells + cell → flagged_by known word ≡ x
 flagged_is known x cell word seated is = ap (λ (k : ℕ). get_or known.base k 0) (let k : word - known.shape.cells ≡ cell = omega arith in k) ∙ seated.stands
 
 module _ (shape : Shape) (state : WithdrawState) (note : WithdrawNote) (step : Step (Unit {0})) (me now : Me (Unit {0}) (Known WithdrawView)) (found : ℕ) (same : me.0.shape ≡ shape) where
@@ -75,7 +71,7 @@ module _ (shape : Shape) (state : WithdrawState) (note : WithdrawNote) (step : S
         let set : found ≡ 1 = subst (λ (n : ℕ). Contains me.0.view.begun n ⊎ Contains me.0.view.gone n → found ≡ 1) flagged told.told.again taken in
         (flag_row (homes_of shape) x found (state_of state) note row).1 ∙ ap (λ (f : ℕ). if f == 1 then Gone else Quiet) set
 
-  module _ (told : WentOn step me found now) (row : LeadsTo (homes_of shape) me.0.view.state found (state_of state) note) where
+  module _ (told : TookNextRow step me found now) (row : LeadsTo (homes_of shape) me.0.view.state found (state_of state) note) where
     pub same_later : (state_of state ≡ told.view.state) × (note ≡ told.told.note)
     same_later =
         let act = withdraw_act me.0.view.state in

@@ -1,20 +1,17 @@
 -- The rule of withdrawing allows the first step for a number, and the later steps.
 use Rattle.std.proofs.Common.{◌≡◌, ◌≢◌, ℕ, ◌+◌, ◌-◌, List, length, map, get_or, set, Some, slice_get, refl, sym, ◌∙◌, ap, subst, arith}
-use mathlib.Core.Option.{some}
+use Rattle.store_spec.proofs.Common.{Act, WithdrawInvariant, WithdrawView, fresh_withdraw_view, left_by, some, withdraw_act, word_of}
 use lib.ListN.{get_elem?}
 use Rattle.atomic_table.specs.Table.{Allows, Me, State, Step}
 use Rattle.atomic_table.specs.Table.Act.{keeps}
 use Rattle.step_core.proofs.Sets.{stands-map}
 use Rattle.step_core.specs.Shape.{homes_of}
-use Rattle.store_spec.specs.Act.{Act, left_by, word_of}
-use Rattle.store_spec.specs.WithdrawInvariant.{WithdrawInvariant}
 use Rattle.store_spec.specs.WithdrawStep as numbers
-use Rattle.store_spec.specs.WithdrawStep.{WithdrawView, fresh_withdraw_view, withdraw_act}
 use Rattle.store_spec.specs.WithdrawStep.WithdrawState.{Rest}
 use Rattle.word_rule.proofs.Weights.{at_slice, knows_opening, steps}
 use Rattle.word_rule.proofs.WithdrawStepKeeps.{first_view, next_view}
 use Rattle.word_rule.specs.Seats.{IsSeated, knows}
-use Rattle.word_rule.specs.WithdrawSeats.{Began, Begins, GoesOn, IsWithdrawn, WentOn, flagged_by}
+use Rattle.word_rule.specs.WithdrawSeats.{Began, Begins, IsWithdrawn, TakesNextRow, TookNextRow, flagged_by}
 use Rattle.word_rule.specs.declared.seats.Known.{Known}
 use Rattle.word_rule.specs.declared.seats.Opening.{Opening}
 
@@ -40,7 +37,7 @@ module _ (opening : Opening) (slots id : ℕ) (me : Me (Unit {0}) (Known Withdra
     put now view kept = steps IsWithdrawn fresh_withdraw_view opening s id me.0 now view _ rule at some_weight
         (subst (λ (k : Known WithdrawView). WithdrawInvariant (homes_of k.shape) k.base now (set views id view)) like kept) refl refl
 
-  own_act_allowed : (step : Step (Unit {0})) → me.0.view.state ≢ Rest → let act = withdraw_act me.0.view.state in Allows (IsSeated IsWithdrawn fresh_withdraw_view opening) slots id me (word_of act) (left_by act) (WentOn step me)
+  own_act_allowed : (step : Step (Unit {0})) → me.0.view.state ≢ Rest → let act = withdraw_act me.0.view.state in Allows (IsSeated IsWithdrawn fresh_withdraw_view opening) slots id me (word_of act) (left_by act) (TookNextRow step me)
   own_act_allowed step moves = λ s rule none at small.
       let act = withdraw_act me.0.view.state in
       let found = get_or s.words (word_of act) 0 in
@@ -52,15 +49,15 @@ module _ (opening : Opening) (slots id : ℕ) (me : Me (Unit {0}) (Known Withdra
         record {
           view = next.after;
           is = refl;
-          told = subst (λ (n : ℕ). GoesOn (homes_of me.0.shape) n found me.0.view next.after) size next.tells;
+          told = subst (λ (n : ℕ). TakesNextRow (homes_of me.0.shape) n found me.0.view next.after) size next.tells;
         },
       )
 
   -- a later step, by the act of the seat's state
-  pub later_allowed : (act : Act) (step : Step (Unit {0})) → me.0.view.state ≢ Rest → act ≡ withdraw_act me.0.view.state → Allows (IsSeated IsWithdrawn fresh_withdraw_view opening) slots id me (word_of act) (left_by act) (WentOn step me)
-  later_allowed act step moves is = subst (λ (a : Act). Allows (IsSeated IsWithdrawn fresh_withdraw_view opening) slots id me (word_of a) (left_by a) (WentOn step me)) (sym is) (own_act_allowed step moves)
+  pub later_allowed : (act : Act) (step : Step (Unit {0})) → me.0.view.state ≢ Rest → act ≡ withdraw_act me.0.view.state → Allows (IsSeated IsWithdrawn fresh_withdraw_view opening) slots id me (word_of act) (left_by act) (TookNextRow step me)
+  later_allowed act step moves is = subst (λ (a : Act). Allows (IsSeated IsWithdrawn fresh_withdraw_view opening) slots id me (word_of a) (left_by a) (TookNextRow step me)) (sym is) (own_act_allowed step moves)
 
-  flag_swap_allowed : (x cell : ℕ) (step : Step (Unit {0})) → me.0.view.state ≡ Rest → numbers.IsSeated me.0.base x cell → step.word ≡ me.0.shape.cells + cell → Allows (IsSeated IsWithdrawn fresh_withdraw_view opening) slots id me (me.0.shape.cells + cell) (λ found. 1) (Began step me)
+  flag_swap_allowed : (x cell : ℕ) (step : Step (Unit {0})) → me.0.view.state ≡ Rest → numbers.StandsInBase me.0.base x cell → step.word ≡ me.0.shape.cells + cell → Allows (IsSeated IsWithdrawn fresh_withdraw_view opening) slots id me (me.0.shape.cells + cell) (λ found. 1) (Began step me)
   flag_swap_allowed x cell step rests seated word_is = λ s rule none at small.
       let word = length me.0.base + cell in
       let first = first_view (homes_of me.0.shape) me.0.base s.words _ id me.0.view (invariant s rule at) (has s rule at) x cell rests seated in
@@ -81,5 +78,5 @@ module _ (opening : Opening) (slots id : ℕ) (me : Me (Unit {0}) (Known Withdra
       )
 
   -- the first step for a number, a swap of its flag
-  pub first_allowed : (x cell word : ℕ) (step : Step (Unit {0})) → me.0.view.state ≡ Rest → numbers.IsSeated me.0.base x cell → step.word ≡ word → word ≡ me.0.shape.cells + cell → Allows (IsSeated IsWithdrawn fresh_withdraw_view opening) slots id me word (λ found. 1) (Began step me)
+  pub first_allowed : (x cell word : ℕ) (step : Step (Unit {0})) → me.0.view.state ≡ Rest → numbers.StandsInBase me.0.base x cell → step.word ≡ word → word ≡ me.0.shape.cells + cell → Allows (IsSeated IsWithdrawn fresh_withdraw_view opening) slots id me word (λ found. 1) (Began step me)
   first_allowed x cell word step rests seated word_is flag_is = subst (λ (w : ℕ). Allows (IsSeated IsWithdrawn fresh_withdraw_view opening) slots id me w (λ found. 1) (Began step me)) (sym flag_is) (flag_swap_allowed x cell step rests seated (word_is ∙ flag_is))

@@ -1,6 +1,6 @@
 -- What a step leaves of a seat of withdrawing, from what it told and from the table of steps.
 use Rattle.std.proofs.Common.{◌≡◌, ◌≢◌, ◌⊎◌, ℕ, ◌+◌, List, length, sym, ◌∙◌, ap, subst, arith}
-use Rattle.std.specs.List.{Contains}
+use Rattle.store_spec.proofs.Common.{Act, Contains, Falls, FirstRow, Gone, StandsInBase, WithdrawNote, WithdrawView, fresh_withdraw_view, left_by, withdraw_act, withdraw_measure, word_of}
 use Rattle.atomic_table.specs.Table.{Allows, Me, Step}
 use Rattle.atomic_table.specs.declared.shared.Seat.{Seat}
 use Rattle.atomic_table.specs.declared.shared.Shared.{Shared}
@@ -8,18 +8,14 @@ use Rattle.step_core.specs.Shape.{homes_of}
 use Rattle.step_core.specs.WithdrawTables.{FitsIn, LeadsTo, state_of}
 use Rattle.step_core.specs.declared.shape.Shape.{Shape}
 use Rattle.step_core.specs.declared.withdraw.WithdrawState.{WithdrawState}
-use Rattle.store_spec.specs.Act.{Act, left_by, word_of}
-use Rattle.store_spec.specs.Measure.{Falls}
-use Rattle.store_spec.specs.WithdrawStep.{FirstRow, IsSeated, WithdrawNote, WithdrawView, fresh_withdraw_view, withdraw_act, withdraw_measure}
 use Rattle.store_spec.specs.WithdrawStep as definition
-use Rattle.store_spec.specs.WithdrawStep.WithdrawNote.{Gone}
 use Rattle.store_spec.specs.WithdrawStep.WithdrawState.{Rest}
 use Rattle.word_rule.proofs.WithdrawAfter.{SeatAfter, after_first, after_later, first_row_made, flagged_is, gone_again, row_made, same_later}
 use Rattle.word_rule.proofs.WithdrawAllows.{first_allowed, later_allowed}
 use Rattle.word_rule.specs.Places.{AreWords, words_seen}
 use Rattle.word_rule.specs.Seats as rule
 use Rattle.word_rule.specs.Seats.{SharedWords, words_of}
-use Rattle.word_rule.specs.WithdrawSeats.{Began, IsWithdrawn, WentOn}
+use Rattle.word_rule.specs.WithdrawSeats.{Began, IsWithdrawn, TookNextRow}
 use Rattle.word_rule.specs.WithdrawWords.{IsAbout, MakesFirstRow, MakesRow, MayEmpty}
 use Rattle.word_rule.specs.declared.seats.Known.{Known}
 use Rattle.word_rule.specs.declared.seats.Opening.{Opening}
@@ -64,14 +60,14 @@ module _ {Q : Type 0} (shape : Shape) (shared : Words Q) (of : SharedWords) (sta
   some_weight = λ z. let one = about.single.weight in let no : ⊥ = omega arith in no
 
   -- the act of a state, as the code has it
-  pub allows_act : (slots : ℕ) (step : Step (Unit {0})) (act : Act) → state ≢ Rest → act ≡ withdraw_act state → Allows (rule.IsSeated IsWithdrawn fresh_withdraw_view shared.key) slots seat.id seat.me (word_of act) (left_by act) (WentOn step seat.me)
+  pub allows_act : (slots : ℕ) (step : Step (Unit {0})) (act : Act) → state ≢ Rest → act ≡ withdraw_act state → Allows (rule.IsSeated IsWithdrawn fresh_withdraw_view shared.key) slots seat.id seat.me (word_of act) (left_by act) (TookNextRow step seat.me)
   allows_act slots step act moves is = later_allowed shared.key slots seat.id seat.me some_weight base_size act step
       (λ e. moves (sym about.state_is ∙ e)) (is ∙ ap withdraw_act (sym about.state_is))
 
   -- the first step for a number
-  module _ (x place : ℕ) (seated : IsSeated of.base x place) where
-    seated_here : IsSeated seat.me.0.base x place
-    seated_here = subst (λ (l : List ℕ). IsSeated l x place) (sym (ap (λ (v : SharedWords). v.base) about.belongs)) seated
+  module _ (x place : ℕ) (seated : StandsInBase of.base x place) where
+    seated_here : StandsInBase seat.me.0.base x place
+    seated_here = subst (λ (l : List ℕ). StandsInBase l x place) (sym (ap (λ (v : SharedWords). v.base) about.belongs)) seated
 
     pub allows_first : (slots word : ℕ) (step : Step (Unit {0})) → state ≡ Rest → step.word ≡ word → word ≡ shape.cells + place → Allows (rule.IsSeated IsWithdrawn fresh_withdraw_view shared.key) slots seat.id seat.me word (λ found. 1) (Began step seat.me)
     allows_first slots word step rests word_is flag_is = first_allowed shared.key slots seat.id seat.me some_weight base_size x place word step (about.state_is ∙ rests) seated_here word_is
@@ -83,10 +79,10 @@ pub record HasBegun (of : SharedWords) (x : ℕ) (seat now : OneSeat) (new : Wit
   pub row : MakesFirstRow (homes_of of.shape) x seat.me.0.view note now.me.0.view
   pub again : Contains seat.me.0.view.begun x ⊎ Contains seat.me.0.view.gone x → note ≡ Gone
 
-pub has_begun : (of : SharedWords) (state : definition.WithdrawState) (seat now : OneSeat) (x place : ℕ) (step : Step (Unit {0})) (found : ℕ) (new : WithdrawState) (note : WithdrawNote) → IsAbout of state seat → IsSeated of.base x place → now.table_id ≡ seat.table_id → step.word ≡ of.shape.cells + place → Began step seat.me found now.me → FirstRow (homes_of of.shape) x found (state_of new) note → HasBegun of x seat now new note
+pub has_begun : (of : SharedWords) (state : definition.WithdrawState) (seat now : OneSeat) (x place : ℕ) (step : Step (Unit {0})) (found : ℕ) (new : WithdrawState) (note : WithdrawNote) → IsAbout of state seat → StandsInBase of.base x place → now.table_id ≡ seat.table_id → step.word ≡ of.shape.cells + place → Began step seat.me found now.me → FirstRow (homes_of of.shape) x found (state_of new) note → HasBegun of x seat now new note
 has_begun of state seat now x place step found new note about seated table word_is told row =
     let same = shape_of_seat of state seat about in
-    let here = subst (λ (l : List ℕ). IsSeated l x place) (sym (ap (λ (v : SharedWords). v.base) about.belongs)) seated in
+    let here = subst (λ (l : List ℕ). StandsInBase l x place) (sym (ap (λ (v : SharedWords). v.base) about.belongs)) seated in
     let flagged = flagged_is seat.me.0 x place step.word here (word_is ∙ ap (λ (h : Shape). h.cells + place) (sym same)) in
     record {
       about = still_about of state seat now new told.view about table told.is (after_first of.shape new note step seat.me now.me found same x told flagged row);
@@ -100,7 +96,7 @@ pub record HasStepped (of : SharedWords) (state : definition.WithdrawState) (sea
   pub row : MakesRow (homes_of of.shape) seat.me.0.view note now.me.0.view
   pub falls : Falls (withdraw_measure of.shape.cells (state_of new)) (withdraw_measure of.shape.cells state)
 
-pub has_stepped : (of : SharedWords) (state : definition.WithdrawState) (seat now : OneSeat) (step : Step (Unit {0})) (found : ℕ) (new : WithdrawState) (note : WithdrawNote) → IsAbout of state seat → now.table_id ≡ seat.table_id → WentOn step seat.me found now.me → LeadsTo (homes_of of.shape) state found (state_of new) note → HasStepped of state seat now new note
+pub has_stepped : (of : SharedWords) (state : definition.WithdrawState) (seat now : OneSeat) (step : Step (Unit {0})) (found : ℕ) (new : WithdrawState) (note : WithdrawNote) → IsAbout of state seat → now.table_id ≡ seat.table_id → TookNextRow step seat.me found now.me → LeadsTo (homes_of of.shape) state found (state_of new) note → HasStepped of state seat now new note
 has_stepped of state seat now step found new note about table told leads =
     let same = shape_of_seat of state seat about in
     let row = subst (λ (s : definition.WithdrawState). LeadsTo (homes_of of.shape) s found (state_of new) note) (sym about.state_is) leads in

@@ -1,15 +1,14 @@
 -- The rule of withdrawing holds when the words are new, and where seats are made and taken in.
 use Rattle.std.proofs.Common.{◌≡◌, ℕ, List, [], ◌∷◌, ◌++◌, replicate, refl, subst}
-use Rattle.std.proofs.lemmas.List.Elements.{All-cons, All-nil}
+use Rattle.store_spec.proofs.Common.{All-cons, All-nil, fresh_withdraw_view}
 use Rattle.step_core.proofs.WithdrawSeats as laws
 use Rattle.step_core.specs.Shape.{homes_of}
 use Rattle.step_core.specs.declared.shape.Shape.{Shape}
-use Rattle.store_spec.specs.WithdrawStep.{fresh_withdraw_view}
 use Rattle.word_rule.specs.Seats.{KeepsSeats, Opens}
-use Rattle.word_rule.specs.WithdrawSeats.{IsAtRest, IsWithdrawn, joined_view}
+use Rattle.word_rule.specs.WithdrawSeats.{IsAtRest, IsWithdrawn, joined_withdraw_view}
 use Rattle.word_rule.specs.WithdrawWords.{MayEmpty}
 
-pub keeps_seats : KeepsSeats IsWithdrawn fresh_withdraw_view joined_view IsAtRest
+pub keeps_seats : KeepsSeats IsWithdrawn fresh_withdraw_view joined_withdraw_view IsAtRest
 keeps_seats = record {
   made = λ shape base words views h. laws.seat_made (homes_of shape) base words views h;
   taken = λ shape base words views id other view gone h apart has has_gone rests rests_gone. laws.taken_in (homes_of shape) base words views id other view gone h has has_gone apart rests rests_gone;

@@ -1,10 +1,6 @@
 -- The steps of a seat for one number, by their rows.
 use Rattle.std.proofs.Common.{◌≡◌, ◌≢◌, ◌⊎◌, ℕ, inl, inr, List, [], ◌∷◌, ◌++◌, refl, sym, ◌∙◌, ap, subst, append-nil}
-use Rattle.store_spec.specs.Act.{left_by, word_of}
-use Rattle.store_spec.specs.WithdrawStep.{FirstRow, WithdrawNote, WithdrawRow, WithdrawState, WithdrawView, withdraw_number, withdraw_view_after, withdraw_act}
-use Rattle.store_spec.specs.WithdrawStep.FirstRow.{chose, found_gone}
-use Rattle.store_spec.specs.WithdrawStep.WithdrawNote.{Gone, Quiet}
-use Rattle.store_spec.specs.WithdrawStep.WithdrawRow.{walked_on, began, found_owed, looked_lower, looked_higher, found_candidate, found_lower_candidate, kept_candidate, emptied, refilled, lost}
+use Rattle.store_spec.proofs.Common.{FirstRow, Gone, Quiet, WithdrawNote, WithdrawRow, WithdrawState, WithdrawView, began, chose, emptied, found_candidate, found_gone, found_lower_candidate, found_owed, kept_candidate, left_by, looked_higher, looked_lower, lost, refilled, walked_on, withdraw_act, withdraw_number, withdraw_view_after, word_of}
 use Rattle.store_spec.specs.WithdrawStep.WithdrawState.{Rest}
 use Rattle.word_rule.specs.WithdrawRemoval.{HasFoundGone, HasRemoved, IsRemoving, begun_by_now}
 use Rattle.word_rule.specs.WithdrawWords.{MakesFirstRow, MakesRow}

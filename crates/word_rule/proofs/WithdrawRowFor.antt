@@ -1,12 +1,9 @@
 -- Each word that a step may find has its row.
 use Rattle.std.proofs.Common.{◌≡◌, ◌≢◌, ℕ, ◌+◌, ◌-◌, ◌<◌, ◌≤◌, ◌⊎◌, inl, inr, ⊎_elim, refl, sym, subst, arith}
-use Rattle.std.proofs.lemmas.Bool.{cases_eq, cases_lt}
+use Rattle.store_spec.proofs.Common.{Begun, Chosen, Done, Down, FirstRow, Fits, Gone, Owing, Quiet, Up, WithdrawNote, WithdrawState, began, cases_eq, cases_lt, looked_higher, walked_on}
 use Rattle.step_core.proofs.WithdrawLeads.{leads_gone, leads_chosen, leads_found, leads_lower, leads_candidate, leads_lower_candidate, leads_kept, leads_emptied, leads_refilled, leads_lost}
 use Rattle.step_core.specs.WithdrawTables.{FitsIn, LeadsTo, MayFind}
-use Rattle.store_spec.specs.WithdrawStep.{Fits, FirstRow, WithdrawNote, WithdrawState}
-use Rattle.store_spec.specs.WithdrawStep.WithdrawNote.{Quiet, Gone, Begun, Done}
-use Rattle.store_spec.specs.WithdrawStep.WithdrawRow.{walked_on, began, looked_higher}
-use Rattle.store_spec.specs.WithdrawStep.WithdrawState.{Rest, Chosen, Owing, Up, Down}
+use Rattle.store_spec.specs.WithdrawStep.WithdrawState.{Rest}
 
 abbrev pub First : (ℕ → ℕ) → ℕ → ℕ → Type 0
 First home x found = (new : WithdrawState) × (note : WithdrawNote) × FirstRow home x found new note

@@ -1,17 +1,12 @@
 -- A step of a withdrawer by its row keeps the withdrawing invariant, and tells what it is said to tell.
 use Rattle.std.proofs.Common.{◌≡◌, ◌≢◌, ℕ, ◌+◌, ◌≤◌, List, length, get_or, set, Some, slice_get, refl, sym, ◌∙◌, ap, subst, arith}
-use Rattle.std.proofs.lemmas.List.{get_or-drop, get_or-set_same, length-set}
-use Rattle.std.proofs.lemmas.Option.{slice_get-get_or, slice_get_within}
+use Rattle.store_spec.proofs.Common.{Begun, Done, FirstRow, Gone, Quiet, StandsInBase, WithdrawInvariant, WithdrawNote, WithdrawState, WithdrawView, cell_words, get_or-drop, get_or-set_same, left_by, length-set, slice_get-get_or, slice_get_within, withdraw_act, withdraw_number, withdraw_view_after, word_of}
 use Rattle.step_core.proofs.WithdrawReady.{found_taken, may_find, row_falls, sound_of, within_cells}
 use Rattle.step_core.proofs.WithdrawRows.{keeps_first, keeps_row}
 use Rattle.step_core.specs.WithdrawTables.{FitsIn, LeadsTo}
-use Rattle.store_spec.specs.Act.{left_by, word_of}
-use Rattle.store_spec.specs.WithdrawInvariant.{WithdrawInvariant, cell_words}
-use Rattle.store_spec.specs.WithdrawStep.{FirstRow, IsSeated, WithdrawNote, WithdrawState, WithdrawView, withdraw_number, withdraw_view_after, withdraw_act}
-use Rattle.store_spec.specs.WithdrawStep.WithdrawNote.{Quiet, Gone, Begun, Done}
 use Rattle.store_spec.specs.WithdrawStep.WithdrawState.{Rest}
 use Rattle.word_rule.proofs.WithdrawRowFor.{first_row_for, row_for}
-use Rattle.word_rule.specs.WithdrawSeats.{Begins, GoesOn}
+use Rattle.word_rule.specs.WithdrawSeats.{Begins, TakesNextRow}
 
 -- the state after a step is the new one, whatever the note
 after_state : (view : WithdrawView) (x : ℕ) (new : WithdrawState) (note : WithdrawNote) → (withdraw_view_after view x new note).state ≡ new
@@ -34,7 +29,7 @@ module _ (home : ℕ → ℕ) (base words : List ℕ) (views : List WithdrawView
   pub record NextView (found : ℕ) (now : List ℕ) : Type 0 where
     pub after : WithdrawView
     pub keeps : WithdrawInvariant home base now (set views id after)
-    pub tells : GoesOn home (length base) found view after
+    pub tells : TakesNextRow home (length base) found view after
 
   pub next_view : view.state ≢ Rest → let act = withdraw_act view.state in let found = get_or words (word_of act) 0 in NextView found (set words (word_of act) (left_by act found))
   next_view moves =
@@ -67,7 +62,7 @@ module _ (home : ℕ → ℕ) (base words : List ℕ) (views : List WithdrawView
     pub keeps : WithdrawInvariant home base now (set views id after)
     pub tells : Begins home (length base) x found view after
 
-  pub first_view : (x cell : ℕ) → view.state ≡ Rest → IsSeated base x cell → let found = get_or words (length base + cell) 0 in FirstView x found (set words (length base + cell) 1)
+  pub first_view : (x cell : ℕ) → view.state ≡ Rest → StandsInBase base x cell → let found = get_or words (length base + cell) 0 in FirstView x found (set words (length base + cell) 1)
   first_view x cell rests seated =
       let found = get_or words (length base + cell) 0 in
       let now = set words (length base + cell) 1 in

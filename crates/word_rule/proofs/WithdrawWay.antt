@@ -1,12 +1,9 @@
 -- The states that a seat of withdrawing goes through for one number, and what its steps keep.
 use Rattle.std.proofs.Common.{◌≡◌, ◌<◌, ℕ, refl, sym, ◌∙◌, subst, append-nil, arith}
+use Rattle.store_spec.proofs.Common.{Chosen, Down, Falls, Owing, Up, WithdrawNote, WithdrawRow, WithdrawState, WithdrawView, began, emptied, found_candidate, found_lower_candidate, found_owed, kept_candidate, left_by, looked_higher, looked_lower, lost, refilled, walked_on, withdraw_act, withdraw_measure, withdraw_number, word_of}
 use Rattle.std.specs.Bool.{⊤}
 use Rattle.step_core.specs.WithdrawTables.{LeadsTo}
-use Rattle.store_spec.specs.Act.{left_by, word_of}
-use Rattle.store_spec.specs.Measure.{Falls}
-use Rattle.store_spec.specs.WithdrawStep.{WithdrawNote, WithdrawRow, WithdrawState, WithdrawView, withdraw_number, withdraw_act, withdraw_measure}
-use Rattle.store_spec.specs.WithdrawStep.WithdrawRow.{walked_on, began, found_owed, looked_lower, looked_higher, found_candidate, found_lower_candidate, kept_candidate, emptied, refilled, lost}
-use Rattle.store_spec.specs.WithdrawStep.WithdrawState.{Rest, Chosen, Owing, Up, Down}
+use Rattle.store_spec.specs.WithdrawStep.WithdrawState.{Rest}
 use Rattle.word_rule.proofs.WithdrawRemoval.{goes_on}
 use Rattle.word_rule.proofs.WithdrawWork.{IsBounded, stays_bounded, work_falls, work_left}
 use Rattle.word_rule.specs.Chain.{Rows}

@@ -1,15 +1,9 @@
 -- What is left of the steps for a number, as one number that falls.
 use Rattle.std.proofs.Common.{◌≡◌, ℕ, suc, ◌+◌, ◌-◌, ◌*◌, ◌<◌, ◌≤◌, inl, inr, List, [], ◌∷◌, length, refl, subst, sym, ◌∙◌, arith}
-use Rattle.std.proofs.Math.Nat.{mul-le-mul_right}
-use Rattle.std.proofs.lemmas.List.Elements.{All-cons, All-head, All-nil, All-tail}
+use Rattle.store_spec.proofs.Common.{All, All-cons, All-head, All-nil, All-tail, Chosen, Down, Falls, Fits, Owing, Up, WithdrawNote, WithdrawRow, WithdrawState, began, emptied, found_candidate, found_lower_candidate, found_owed, kept_candidate, left_by, looked_higher, looked_lower, lost, mul-le-mul_right, refilled, walked_on, withdraw_act, withdraw_measure, word_of}
 use Rattle.std.specs.Bool.{⊤}
-use Rattle.std.specs.List.{All}
 use Rattle.step_core.specs.WithdrawTables.{LeadsTo}
-use Rattle.store_spec.specs.Act.{left_by, word_of}
-use Rattle.store_spec.specs.Measure.{Falls}
-use Rattle.store_spec.specs.WithdrawStep.{Fits, WithdrawNote, WithdrawRow, WithdrawState, withdraw_act, withdraw_measure}
-use Rattle.store_spec.specs.WithdrawStep.WithdrawRow.{walked_on, began, found_owed, looked_lower, looked_higher, found_candidate, found_lower_candidate, kept_candidate, emptied, refilled, lost}
-use Rattle.store_spec.specs.WithdrawStep.WithdrawState.{Rest, Chosen, Owing, Up, Down}
+use Rattle.store_spec.specs.WithdrawStep.WithdrawState.{Rest}
 
 -- ---- lists of digits
 

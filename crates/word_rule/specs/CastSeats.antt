@@ -51,12 +51,12 @@ pub record Probes (t : Table) (number : ℕ) (old : CastView) (told : CastNote) 
   pub row : MakesRow t (Probing number tries) old told now
 
 -- what is told of a number that was cast
-abbrev pub IsAnswer : CastNote → Type 0
-IsAnswer Quiet = ⊥
-IsAnswer Claimed = Unit {0}
-IsAnswer Taken = Unit {0}
-IsAnswer Full = Unit {0}
-IsAnswer Placed = ⊥
+abbrev pub IsAnswerNote : CastNote → Type 0
+IsAnswerNote Quiet = ⊥
+IsAnswerNote Claimed = Unit {0}
+IsAnswerNote Taken = Unit {0}
+IsAnswerNote Full = Unit {0}
+IsAnswerNote Placed = ⊥
 
 -- what a step from a state tells of the word that it found and of the seat after it
 pub record StepsFrom (from : CastState) (me : Me (Unit {0}) (Known CastView)) (found : ℕ) (now : Me (Unit {0}) (Known CastView)) : Type 0 where

@@ -20,7 +20,7 @@ pub record MayHold (shape : Shape) (cells : List ℕ) : Type 0 where
   pub room : length (numbers_in cells) + shape.claims + 2 ^ shape.order.bits ≤ shape.cells
 
 -- a number that a seat may begin with: it is not 0 and stood in no cell at the opening, and there are claim words
-pub record MayBegin (words : SharedWords) (number : ℕ) : Type 0 where
+pub record MayBeginWith (words : SharedWords) (number : ℕ) : Type 0 where
   pub some : number ≢ 0
   pub not_held : ¬ Contains (numbers_in words.base) number
   pub claims : words.shape.claims ≢ 0

@@ -15,8 +15,8 @@ abbrev pub IsWithdrawn : Shape → List ℕ → List ℕ → List WithdrawView �
 IsWithdrawn shape base words views = WithdrawInvariant (homes_of shape) base words views
 
 -- the view of a withdrawer that takes in another, both at rest: its lists and then those of the other
-abbrev pub joined_view : WithdrawView → WithdrawView → WithdrawView
-joined_view view other = record { state = Rest; begun = view.begun ++ other.begun; gone = view.gone ++ other.gone }
+abbrev pub joined_withdraw_view : WithdrawView → WithdrawView → WithdrawView
+joined_withdraw_view view other = record { state = Rest; begun = view.begun ++ other.begun; gone = view.gone ++ other.gone }
 
 abbrev pub IsAtRest : WithdrawView → Type 0
 IsAtRest view = view.state ≡ Rest
@@ -31,7 +31,7 @@ pub record Begins (home : ℕ → ℕ) (cells x found : ℕ) (old now : Withdraw
   pub again : Contains old.begun x ⊎ Contains old.gone x → found ≡ 1
 
 -- A later step, by its row. Less is left to do.
-pub record GoesOn (home : ℕ → ℕ) (cells found : ℕ) (old now : WithdrawView) : Type 0 where
+pub record TakesNextRow (home : ℕ → ℕ) (cells found : ℕ) (old now : WithdrawView) : Type 0 where
   pub may_find : MayFind old.state found
   pub note : WithdrawNote
   pub row : LeadsTo home old.state found now.state note
@@ -50,7 +50,7 @@ pub record Began (step : Step (Unit {0})) (me : Me (Unit {0}) (Known WithdrawVie
   pub told : Begins (homes_of me.0.shape) me.0.shape.cells (flagged_by me.0 step.word) found me.0.view view
 
 -- what a later step tells of it
-pub record WentOn (step : Step (Unit {0})) (me : Me (Unit {0}) (Known WithdrawView)) (found : ℕ) (now : Me (Unit {0}) (Known WithdrawView)) : Type 0 where
+pub record TookNextRow (step : Step (Unit {0})) (me : Me (Unit {0}) (Known WithdrawView)) (found : ℕ) (now : Me (Unit {0}) (Known WithdrawView)) : Type 0 where
   pub view : WithdrawView
   pub is : now ≡ (record me.0 { view = view }, me.1)
-  pub told : GoesOn (homes_of me.0.shape) me.0.shape.cells found me.0.view view
+  pub told : TakesNextRow (homes_of me.0.shape) me.0.shape.cells found me.0.view view

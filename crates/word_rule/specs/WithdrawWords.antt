@@ -6,7 +6,7 @@ use Rattle.step_core.specs.WithdrawTables.{FitsIn, state_of}
 use Rattle.step_core.specs.declared.shape.Shape.{Shape}
 use Rattle.step_core.specs.declared.withdraw.WithdrawState as states
 use Rattle.store_spec.specs.Layout.{layout_of, numbers_in}
-use Rattle.store_spec.specs.WithdrawInvariant.{IsBase, IsOf, begun_by, times}
+use Rattle.store_spec.specs.WithdrawInvariant.{IsBase, IsOfBase, begun_by, times}
 use Rattle.store_spec.specs.WithdrawPhase.{without}
 use Rattle.store_spec.specs.WithdrawStep.{FirstRow, WithdrawState, WithdrawView, withdraw_number, withdraw_view_after}
 use Rattle.store_spec.specs.WithdrawStep as definition
@@ -48,7 +48,7 @@ begun_at seats = begun_by (map (λ seat. seat.view) seats)
 -- What the lists of all seats are like at the end. A removal was begun of numbers that stood in the cells, and of each
 -- once, and one that was found gone is one of them.
 pub record AgreeOn (words : SharedWords) (seats : List (Place WithdrawView)) : Type 0 where
-  pub held : All (IsOf words.base) (begun_at seats)
+  pub held : All (IsOfBase words.base) (begun_at seats)
   pub once : (x : ℕ) → times (begun_at seats) x ≤ 1
   pub gone : All (λ seat. All (Contains (begun_at seats)) seat.view.gone) seats
 

@@ -7,11 +7,11 @@ ghost use Rattle.store_spec.specs.CastStep.{cast_measure, cast_number, cast_view
 ghost use Rattle.store_spec.specs.CastStep.CastNote.{Quiet};
 ghost use Rattle.store_spec.specs.CastStep.CastState.{Carrying, Probing, Rest};
 ghost use Rattle.store_spec.specs.Measure.{Falls};
-ghost use Rattle.word_rule.specs.CastSeats.{CastsByRows, IsAnswer, IsToldAlike, MakesNextRow, MakesRow, Probes};
-ghost use Rattle.word_rule.specs.CastWords.{IsAbout, MayBegin};
+ghost use Rattle.word_rule.specs.CastSeats.{CastsByRows, IsAnswerNote, IsToldAlike, MakesNextRow, MakesRow, Probes};
+ghost use Rattle.word_rule.specs.CastWords.{IsAbout, MayBeginWith};
 ghost use Rattle.word_rule.specs.Chain.{Rows};
 
-use crate::seats::{Known, Phase, SeatOf};
+use crate::seats::{Known, PhaseRule, SeatOf};
 use crate::steps::perform;
 use crate::words::WordsOf;
 use atomic_table::{Play, Seat};
@@ -46,8 +46,8 @@ impl Model for CastSight {
 /// The casting invariant.
 pub struct Casting;
 
-impl Phase<CastSight> for Casting {
-    ghost use Rattle.store_spec.specs.CastStep.{fresh_cast_view, joined_view};
+impl PhaseRule<CastSight> for Casting {
+    ghost use Rattle.store_spec.specs.CastStep.{fresh_cast_view, joined_cast_view};
     ghost use Rattle.word_rule.specs.CastSeats.{IsAtRest, IsCast};
     ghost use Rattle.word_rule.specs.CastWords.{AgreeOn, MayHold, StandsFor, cells_after};
 
@@ -57,7 +57,7 @@ impl Phase<CastSight> for Casting {
 
     ghost fresh = { fresh_cast_view };
 
-    ghost both = { joined_view };
+    ghost both = { joined_cast_view };
 
     ghost rests = { IsAtRest };
 
@@ -130,7 +130,7 @@ impl CastWords {
     pub fn first(&self, seat: &mut CastSeat, number: u64) -> CastNote
         requires belongs { seat.old.words ≡ self.now }
         requires at_rest { seat.old.view.state ≡ Rest }
-        requires may_begin { MayBegin self.now number }
+        requires may_begin { MayBeginWith self.now number }
         ensures words { seat.new.words ≡ seat.old.words }
         ensures row { MakesRow (table_of self.now.shape) (Probing number 0) seat.old.view
             (note_of result) seat.new.view }
@@ -165,9 +165,9 @@ impl CastWords {
     pub fn cast(&self, seat: &mut CastSeat, number: u64) -> CastNote
         requires belongs { seat.old.words ≡ self.now }
         requires at_rest { seat.old.view.state ≡ Rest }
-        requires may_begin { MayBegin self.now number }
+        requires may_begin { MayBeginWith self.now number }
         ensures words { seat.new.words ≡ seat.old.words }
-        ensures answers { IsAnswer (note_of result) }
+        ensures answers { IsAnswerNote (note_of result) }
         ensures view { seat.new.view ≡ cast_view_after seat.old.view number Rest (note_of result) }
         ensures told_alike { IsToldAlike seat.old.view number (note_of result) }
 
@@ -185,7 +185,7 @@ impl CastWords {
     #[inline(always)]
     fn claim(&self, seat: &mut Seat<(), Known<CastSight>>, number: u64) -> (CastState, CastNote)
         requires at_rest { IsAbout self.now Rest seat.old }
-        requires may_begin { MayBegin self.now number }
+        requires may_begin { MayBeginWith self.now number }
         ensures about { IsAbout self.now (state_of result.0) seat.new }
         ensures probes { Probes (table_of self.now.shape) number seat.old.me.0.view
             (note_of result.1) seat.new.me.0.view }
@@ -242,7 +242,7 @@ impl CastWords {
         requires own { shape ≡ self.now.shape }
         requires small { shape.cells + shape.claims < 2 ^ 32 }
         requires at_rest { IsAbout self.now Rest seat.old }
-        requires may_begin { MayBegin self.now number }
+        requires may_begin { MayBeginWith self.now number }
         requires begins { BeginsAt (table_of self.now.shape) (Probing number 0) first }
         ensures about { IsAbout self.now (state_of result.0) seat.new }
         ensures begins { BeginsAt (table_of self.now.shape) (state_of result.0) first }

@@ -33,7 +33,7 @@ pub struct Known<V> {
 
 /// What a phase is: what it keeps between any two steps of the shape, the cells at the opening, the words and all views,
 /// how its views begin and are joined, which of them are at rest, and what comes of all seats at the end.
-pub trait Phase<V> {
+pub trait PhaseRule<V> {
     ghost use Rattle.std.specs.Prelude.{◌≡◌, ℕ, List, take};
     ghost use Rattle.step_core.specs.declared.shape.Shape.{Shape};
     ghost use Rattle.word_rule.specs.Places.{HaveEnded, Place};
@@ -89,7 +89,7 @@ pub struct Seated<Q> {
     phase: PhantomData<Q>,
 }
 
-impl<V, Q: Phase<V>> TableRule<(), Known<V>, Opening> for Seated<Q> {
+impl<V, Q: PhaseRule<V>> TableRule<(), Known<V>, Opening> for Seated<Q> {
     ghost use Rattle.word_rule.specs.Seats.{IsSeated, knows};
 
     ghost holds = { IsSeated Q.holds Q.fresh };
@@ -102,7 +102,7 @@ pub struct Cut<Q> {
     phase: PhantomData<Q>,
 }
 
-impl<V, Q: Phase<V>> Split<Known<V>> for Cut<Q> {
+impl<V, Q: PhaseRule<V>> Split<Known<V>> for Cut<Q> {
     ghost use Rattle.word_rule.specs.Seats.{cut, cut_off};
 
     ghost left = { cut };
@@ -115,7 +115,7 @@ pub struct TakeIn<Q> {
     phase: PhantomData<Q>,
 }
 
-impl<V, Q: Phase<V>> Join<Known<V>> for TakeIn<Q> {
+impl<V, Q: PhaseRule<V>> Join<Known<V>> for TakeIn<Q> {
     ghost use Rattle.word_rule.specs.Seats.{spent, taken_in};
 
     ghost both = { taken_in Q.both };
@@ -126,12 +126,12 @@ impl<V, Q: Phase<V>> Join<Known<V>> for TakeIn<Q> {
 /// A seat at shared words. One thread at a time makes its steps. Nothing else lies on the cache lines of what is kept of
 /// it in memory.
 #[derive(Drop)]
-pub struct SeatOf<V, Q: Phase<V>> {
+pub struct SeatOf<V, Q: PhaseRule<V>> {
     pub(crate) standing: CachePadded<Q::Standing>,
     pub(crate) seat: Seat<(), Known<V>>,
 }
 
-impl<V, Q: Phase<V>> Model for SeatOf<V, Q> {
+impl<V, Q: PhaseRule<V>> Model for SeatOf<V, Q> {
     ghost use Rattle.crossbeam_utils.specs.Padded.{padded_value};
     ghost use Rattle.word_rule.specs.Places.{IsSeat, Place, place_of};
 
@@ -142,7 +142,7 @@ impl<V, Q: Phase<V>> Model for SeatOf<V, Q> {
     ghost invariant = { λ s. IsSeat Q.stands (padded_value s.standing) s.seat };
 }
 
-impl<V, Q: Phase<V>> SeatOf<V, Q> {
+impl<V, Q: PhaseRule<V>> SeatOf<V, Q> {
     /// A new seat.
     fn new(seat: Seat<(), Known<V>>) -> SeatOf<V, Q>
         requires single { IsSingle seat }
@@ -166,7 +166,7 @@ impl<V, Q: Phase<V>> SeatOf<V, Q> {
 }
 
 /// As many new seats as the first stands for: one after another is cut off it.
-pub fn deal_seats<V, Q: Phase<V>>(
+pub fn deal_seats<V, Q: PhaseRule<V>>(
     alloc: Global,
     shared: &Shared<(), Known<V>, Opening, Seated<Q>>,
     first: Seat<(), Known<V>>,
@@ -189,7 +189,7 @@ pub fn deal_seats<V, Q: Phase<V>>(
 }
 
 /// One seat that has taken in all others, in their order.
-pub fn join_seats<V, Q: Phase<V>>(
+pub fn join_seats<V, Q: PhaseRule<V>>(
     shared: &Shared<(), Known<V>, Opening, Seated<Q>>,
     seats: Vec<SeatOf<V, Q>>,
 ) -> Seat<(), Known<V>>

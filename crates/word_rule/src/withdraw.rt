@@ -4,14 +4,14 @@ ghost use Rattle.std.specs.Prelude.{◌≡◌, ◌≢◌, ◌⊎◌, ℕ, ◌+�
 ghost use Rattle.step_core.specs.Shape.{homes_of};
 ghost use Rattle.step_core.specs.WithdrawTables.{note_of, state_of};
 ghost use Rattle.store_spec.specs.Measure.{Falls};
-ghost use Rattle.store_spec.specs.WithdrawStep.{IsSeated, withdraw_number, withdraw_measure};
+ghost use Rattle.store_spec.specs.WithdrawStep.{StandsInBase, withdraw_number, withdraw_measure};
 ghost use Rattle.store_spec.specs.WithdrawStep.WithdrawNote.{Gone};
 ghost use Rattle.store_spec.specs.WithdrawStep.WithdrawState.{Chosen, Rest};
 ghost use Rattle.word_rule.specs.Chain.{Rows};
 ghost use Rattle.word_rule.specs.WithdrawRemoval.{HasRemoved, Removes};
 ghost use Rattle.word_rule.specs.WithdrawWords.{IsAbout, MakesFirstRow, MakesRow, WithdrawsByRows};
 
-use crate::seats::{Known, Phase, SeatOf};
+use crate::seats::{Known, PhaseRule, SeatOf};
 use crate::steps::perform;
 use crate::words::WordsOf;
 use atomic_table::{Play, Seat};
@@ -41,9 +41,9 @@ impl Model for WithdrawSight {
 /// The withdrawing invariant.
 pub struct Withdrawing;
 
-impl Phase<WithdrawSight> for Withdrawing {
+impl PhaseRule<WithdrawSight> for Withdrawing {
     ghost use Rattle.store_spec.specs.WithdrawStep.{fresh_withdraw_view};
-    ghost use Rattle.word_rule.specs.WithdrawSeats.{IsAtRest, IsWithdrawn, joined_view};
+    ghost use Rattle.word_rule.specs.WithdrawSeats.{IsAtRest, IsWithdrawn, joined_withdraw_view};
     ghost use Rattle.word_rule.specs.WithdrawWords.{AgreeOn, MayEmpty, StandsFor, cells_after};
 
     type Standing = WithdrawState;
@@ -52,7 +52,7 @@ impl Phase<WithdrawSight> for Withdrawing {
 
     ghost fresh = { fresh_withdraw_view };
 
-    ghost both = { joined_view };
+    ghost both = { joined_withdraw_view };
 
     ghost rests = { IsAtRest };
 
@@ -90,9 +90,9 @@ impl Play<(), Known<WithdrawSight>> for Begins {
 struct GoesOn;
 
 impl Play<(), Known<WithdrawSight>> for GoesOn {
-    ghost use Rattle.word_rule.specs.WithdrawSeats.{WentOn};
+    ghost use Rattle.word_rule.specs.WithdrawSeats.{TookNextRow};
 
-    ghost then = { WentOn };
+    ghost then = { TookNextRow };
 }
 
 /// Shared words of a withdrawing phase: the cells, and behind them a flag for each.
@@ -116,7 +116,7 @@ impl WithdrawWords {
     pub fn first(&self, seat: &mut WithdrawSeat, number: u64, place: usize) -> WithdrawNote
         requires belongs { seat.old.words ≡ self.now }
         requires at_rest { seat.old.view.state ≡ Rest }
-        requires seated { IsSeated self.now.base number place }
+        requires seated { StandsInBase self.now.base number place }
         ensures words { seat.new.words ≡ seat.old.words }
         ensures row { MakesFirstRow (homes_of self.now.shape) number seat.old.view
             (note_of result) seat.new.view }
@@ -151,7 +151,7 @@ impl WithdrawWords {
     pub fn withdraw(&self, seat: &mut WithdrawSeat, number: u64, place: usize) -> WithdrawNote
         requires belongs { seat.old.words ≡ self.now }
         requires at_rest { seat.old.view.state ≡ Rest }
-        requires seated { IsSeated self.now.base number place }
+        requires seated { StandsInBase self.now.base number place }
         ensures words { seat.new.words ≡ seat.old.words }
         ensures removes { Removes number seat.old.view (note_of result) seat.new.view }
 
@@ -207,7 +207,7 @@ impl WithdrawWords {
         place: usize,
     ) -> (WithdrawState, WithdrawNote)
         requires at_rest { IsAbout self.now Rest seat.old }
-        requires seated { IsSeated self.now.base number place }
+        requires seated { StandsInBase self.now.base number place }
         ensures about { IsAbout self.now (state_of result.0) seat.new }
         ensures row { MakesFirstRow (homes_of self.now.shape) number seat.old.me.0.view
             (note_of result.1) seat.new.me.0.view }

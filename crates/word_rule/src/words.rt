@@ -1,11 +1,11 @@
 //! Shared words, whatever the phase: how they are made, and how they end.
 
-ghost use Rattle.std.specs.Prelude.{◌≡◌, ◌+◌, ◌^◌, ◌<◌, ◌≤◌, ◌++◌, [], IfOk, OnOk, length, replicate, vec_capacity};
+ghost use Rattle.std.specs.Prelude.{◌≡◌, ◌+◌, ◌^◌, ◌<◌, ◌≤◌, ◌++◌, [], IfOk, OnOk, length, replicate, take, vec_capacity};
 ghost use Rattle.word_rule.specs.Places.{AreAll, AreMadeOf, AreWhole};
 ghost use Rattle.word_rule.specs.Seats.{HasEnded};
 
-use crate::seats::{Known, Opening, Phase, SeatOf, Seated, deal_seats, join_seats};
-use atomic_table::{Seat, Table};
+use crate::seats::{Known, Opening, PhaseRule, SeatOf, Seated, deal_seats, join_seats};
+use atomic_table::{Seat, Shared, Table};
 use outside_io::Memory;
 use std::alloc::Global;
 use std::marker::Model;
@@ -14,12 +14,12 @@ use step_core::Shape;
 
 /// Shared words of a phase: the cells, and behind them the words that the phase has beside them.
 #[derive(Drop)]
-pub struct WordsOf<V, Q: Phase<V>> {
+pub struct WordsOf<V, Q: PhaseRule<V>> {
     pub(crate) shape: Shape,
     pub(crate) table: Table<(), Known<V>, Opening, Seated<Q>, Global>,
 }
 
-impl<V, Q: Phase<V>> Model for WordsOf<V, Q> {
+impl<V, Q: PhaseRule<V>> Model for WordsOf<V, Q> {
     ghost use Rattle.word_rule.specs.Places.{AreWords, words_seen};
     ghost use Rattle.word_rule.specs.Seats.{SharedWords};
 
@@ -30,7 +30,7 @@ impl<V, Q: Phase<V>> Model for WordsOf<V, Q> {
     ghost invariant = { λ w. AreWords Q.may_open Q.behind w.shape w.table.shared };
 }
 
-impl<V, Q: Phase<V>> WordsOf<V, Q> {
+impl<V, Q: PhaseRule<V>> WordsOf<V, Q> {
     /// Words over cells of which they may be made, with 0 in each word behind these, and so many new seats. Each seat
     /// but one costs a step on word 0.
     pub fn new(
@@ -46,12 +46,29 @@ impl<V, Q: Phase<V>> WordsOf<V, Q> {
     {
         Q::laws();
         let words = lay_out(alloc, cells, Q::words_behind(&shape))?;
+        Self::of_words(alloc, shape, &words, seats)
+    }
+
+    /// The same over a list that has these words behind the cells.
+    pub fn of_words(
+        alloc: Global,
+        shape: Shape,
+        words: &Vec<u64>,
+        seats: usize,
+    ) -> Result<(WordsOf<V, Q>, Vec<SeatOf<V, Q>>), Memory>
+        requires some_seat { 1 ≤ seats }
+        requires may_open { Q.may_open shape (take shape.cells words.now.items) }
+        requires zeros { words.now.items ≡ take shape.cells words.now.items ++ replicate (Q.behind shape) 0 }
+        ensures words { IfOk result (λ made. AreMadeOf shape (take shape.cells words.now.items) seats made.0) }
+        ensures seats { IfOk result (λ made. AreAll Q.fresh made.0 made.1.items) }
+    {
+        Q::laws();
         let opening = Opening {
             shape,
             seats,
-            words: Snapshot::of(&words),
+            words: Snapshot::of(words),
         };
-        let (table, first) = Table::of_words(alloc, &words, &opening)?;
+        let (table, first) = Table::of_words(alloc, words, &opening)?;
         let seats = deal_seats(alloc, &table.shared, first, seats)?;
         Ok((WordsOf { shape, table }, seats))
     }
@@ -71,11 +88,39 @@ impl<V, Q: Phase<V>> WordsOf<V, Q> {
     {
         Q::laws();
         let Self { shape, table } = self;
-        let mut cells = Vec::with_capacity(alloc, shape.cells)?;
+        let behind = if is_mostly_free(&table.shared, shape.cells, Q::words_behind(&shape)) {
+            shape.claims
+        } else {
+            0
+        };
+        let mut cells = Vec::with_capacity(alloc, shape.cells.saturating_add(behind))?;
         let whole = join_seats(&table.shared, seats);
         close_table(table, whole, shape.cells, &mut cells);
         Ok(cells)
     }
+}
+
+/// At how many words it is looked whether most are free.
+const LOOKS: usize = 64;
+
+/// Most of so many words behind the cells are 0, as far as a few looks tell: many will be so in a next phase, and room for
+/// them behind its cells is worth its memory. It promises nothing.
+fn is_mostly_free<V, Q: PhaseRule<V>>(
+    shared: &Shared<(), Known<V>, Opening, Seated<Q>>,
+    cells: usize,
+    behind: usize,
+) -> bool
+    requires within { cells + behind ≤ shared.now.table_id.words }
+    requires few { cells + behind < 2 ^ 32 }
+{
+    let step = behind / LOOKS;
+    let mut free = 0;
+    for look in 0..LOOKS {
+        if step > 0 && shared.peek(cells + look * step) == 0 {
+            free += 1;
+        }
+    }
+    free > LOOKS / 2
 }
 
 /// How many words are put at once. A block of this size is copied in the widest steps that the processor has.
@@ -112,7 +157,7 @@ fn put_zeros(words: &mut Vec<u64>, more: usize) -> Result<(), Memory>
 }
 
 /// Puts so many first words of a table at its end, which a seat saw, into an empty list, which has room for them.
-fn close_table<V, Q: Phase<V>>(
+fn close_table<V, Q: PhaseRule<V>>(
     table: Table<(), Known<V>, Opening, Seated<Q>, Global>,
     seat: Seat<(), Known<V>>,
     count: usize,

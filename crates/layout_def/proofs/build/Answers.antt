@@ -1,9 +1,7 @@
 use Rattle.std.proofs.Common.{◌≡◌, ◌≢◌, ℕ, ◌+◌, ◌^◌, ◌<◌, ◌≤◌, List, length, get_or, ◌∙◌, arith, rules, Fits, w64}
-use Rattle.std.proofs.lemmas.List.{get_or_default, take_at}
-use Rattle.std.specs.List.{All, AllPairs}
+use Rattle.store_spec.proofs.Common.{All, AllPairs, HasRoom, get_or_default, take_at}
 use Rattle.layout_def.proofs.LaidOut.{ordered_is_layout_of}
 use Rattle.layout_def.proofs.build.Goals as goal
-use Rattle.store_spec.specs.Layout.{HasRoom}
 
 -- each number is below 2 ^ 64, so it has a home
 room_for : (home : ℕ → ℕ) (homes cells : ℕ) (numbers : List ℕ) → ((v : ℕ) → v < 2 ^ 64 → home v < homes) → ((k : ℕ) → Fits w64 (get_or numbers k 0))

@@ -1,12 +1,9 @@
 use Rattle.std.proofs.Common.{◌≡◌, ℕ, List, length, replicate, get_or, sym, ap, ◌∙◌, subst, arith, rules}
+use Rattle.store_spec.proofs.Common.{HasRoom, IsNonDecreasingBy-from_sort, IsPermutation, ascending, get_or-replicate, laid_out, layout_of, take_at}
 use Rattle.layout_def.proofs.Skips.{sound_empty}
 use Rattle.layout_def.proofs.build_by_order.Goals as goal
-use Rattle.std.proofs.lemmas.List.{get_or-replicate, take_at}
-use Rattle.std.proofs.lemmas.List.Sorted.{IsNonDecreasingBy-from_sort}
-use Rattle.std.specs.List.Sorted.{IsPermutation}
 use Rattle.layout_def.proofs.Ascending.{ascending-IsPermutation}
 use Rattle.layout_def.proofs.LaidOut.{room-IsPermutation}
-use Rattle.store_spec.specs.Layout.{HasRoom, ascending, layout_of, laid_out}
 
 pub place_all-requires-clause-rising : goal.place_all-requires-clause-rising
 place_all-requires-clause-rising g c = IsNonDecreasingBy-from_sort (λ x. x) _ c.sort_unstable.ensures.sorted

@@ -1,10 +1,9 @@
 use Rattle.std.proofs.Common.{◌≡◌, ◌≢◌, ℕ, length, drop, subst, ap, sym, ◌∙◌, arith, rules}
+use Rattle.store_spec.proofs.Common.{IsFirstEmpty, laid_out}
 use Rattle.layout_def.proofs.Skips.{sound_filled}
 use Rattle.layout_def.proofs.Taken.{taken, finds, goes}
 use Rattle.layout_def.proofs.place_all.Goals as goal
 use Rattle.layout_def.proofs.LaidOut.{layout_of_rising}
-use Rattle.store_spec.specs.Layout.{laid_out}
-use Rattle.store_spec.specs.Probe.{IsFirstEmpty}
 
 pub first_empty-place-requires-clause-one_left : goal.first_empty-place-requires-clause-one_left
 first_empty-place-requires-clause-one_left g c =

@@ -1,6 +1,6 @@
 use Rattle.std.proofs.Common.{◌≡◌, length, take, drop}
+use Rattle.store_spec.proofs.Common.{laid_out}
 use Rattle.layout_def.specs.Pointers.{AreSound}
-use Rattle.store_spec.specs.Layout.{laid_out}
 use Rattle.layout_def.proofs.place_all.Given as goal
 
 abbrev pub invariant-loop-v : goal.invariant-loop-v

@@ -51,12 +51,12 @@ pub struct Ballots {
 }
 
 impl Ballots {
-    ghost use Rattle.script_commands.specs.Ballots.{Adds, Judges, IsSound, ballots_so_far, election_of};
+    ghost use Rattle.script_commands.specs.Ballots.{Adds, Judges, AreGoodBallots, ballots_so_far, election_of};
 
     /// Those of no line, with room for as many as the election allows.
     pub fn new(alloc: Global, election: &Election) -> Result<Ballots, Memory>
         ensures none { IfOk result (λ ballots. ballots_so_far ballots ≡ []) }
-        ensures sound { IfOk result (IsSound election.now) }
+        ensures sound { IfOk result (AreGoodBallots election.now) }
     {
         Ok(Ballots {
             list: BallotList::with_room(alloc, election, election.limit() as usize)?,
@@ -66,7 +66,7 @@ impl Ballots {
 
     /// Judges the next line, and takes its ballot where there is no reason to refuse it.
     pub fn judge(&mut self, line: &[u8], election: &Election) -> Result<(), Refusal>
-        requires { IsSound election.now self.old }
+        requires { AreGoodBallots election.now self.old }
         ensures { Judges result election.now line.now self.old self.new }
     {
         let mut read = Record::blank();
@@ -78,7 +78,7 @@ impl Ballots {
     }
 
     fn add(&mut self, cast: &Record, election: &Election) -> Result<(), Refusal>
-        requires sound { IsSound election.now self.old }
+        requires sound { AreGoodBallots election.now self.old }
         requires valid { IsValid election.now (ballot cast.now) }
         ensures { Adds result election.now cast.now self.old self.new }
     {
@@ -102,7 +102,7 @@ impl Ballots {
 
     /// The cells of a store that holds the ballots.
     pub fn layout(&self, alloc: Global, election: &Election) -> Result<Vec<u64>, Memory>
-        requires { IsSound election.now self.now }
+        requires { AreGoodBallots election.now self.now }
         ensures { IfOk result
             (λ cells. cells.items ≡ cells_of election.now (ballots_so_far self.now)) }
     {
@@ -111,7 +111,7 @@ impl Ballots {
 
     /// The bytes of a cell with this number: those of the ballot that has it, or those of an empty one where none has.
     pub fn cell_with<'a>(&'a self, number: u64, empty: &'a [u8]) -> &'a [u8]
-        requires sound { IsSound (election_of self.now) self.now }
+        requires sound { AreGoodBallots (election_of self.now) self.now }
         requires empty { IsEmptyCell (election_of self.now) empty.now }
         ensures cell { result.now
             ≡ cell_bytes (election_of self.now) (ballots_so_far self.now) number }

@@ -2,7 +2,7 @@
 
 ghost use Rattle.outside_io.specs.Stream.{TakesAll, TakesSome};
 ghost use Rattle.run_outcome.specs.declared.status.Status.TheVariants as statuses;
-ghost use Rattle.script_commands.specs.Ballots.{IsSound, ballots_so_far, election_of};
+ghost use Rattle.script_commands.specs.Ballots.{AreGoodBallots, ballots_so_far, election_of};
 ghost use Rattle.std.specs.Prelude.{◌≡◌, ℕ, ◌+◌, ◌<◌, ◌≤◌, ◌++◌, IfErr, IfOk, OnErr, OnOk, drop, flat_map, length, replicate, slice_index, take, true, vec_capacity, vec_len};
 ghost use Rattle.store_spec.specs.Election.{cell_size};
 ghost use Rattle.store_spec.specs.Fault.{CountsFault};
@@ -11,7 +11,7 @@ ghost use Rattle.store_spec.specs.Image.{cell_bytes, header_of};
 use crate::build::ballots::Ballots;
 use ballot_record::{Election, Header, MAX_CELL_BYTES};
 use outside_io::{Memory, Sink};
-use run_outcome::{Status, tell};
+use run_outcome::{Status, write_out};
 use std::alloc::Global;
 
 /// A page is written once it has more bytes than this.
@@ -43,7 +43,7 @@ pub fn put_cells<K: Sink>(
     mut page: Vec<u8>,
     out: &mut K,
 ) -> Result<(), Status>
-    requires sound { IsSound election.now ballots.now }
+    requires sound { AreGoodBallots election.now ballots.now }
     requires short { vec_len page ≤ FULL }
     requires room { FULL + PIECE ≤ vec_capacity page }
     ensures all { OnOk result (TakesAll (K.taken out.old)
@@ -63,11 +63,11 @@ pub fn put_cells<K: Sink>(
         put(&mut page, bytes);
         at += count;
         if page.len() > FULL {
-            tell(out, &page)?;
+            write_out(out, &page)?;
             page.clear();
         }
     }
-    tell(out, &page)
+    write_out(out, &page)
 }
 
 /// How many cells are put at once, and their bytes: the next one, or so many as are empty from there on.
@@ -78,7 +78,7 @@ fn next_cells<'a>(
     size: usize,
     zeros: &'a [u8],
 ) -> (usize, &'a [u8])
-    requires sound { IsSound (election_of ballots.now) ballots.now }
+    requires sound { AreGoodBallots (election_of ballots.now) ballots.now }
     requires size { size ≡ cell_size (election_of ballots.now) }
     requires narrow { size ≤ MAX_CELL_BYTES }
     requires within { at < length cells.now }

@@ -3,7 +3,7 @@
 ghost use Rattle.std.specs.Prelude.{◌≡◌, Err, IfOk};
 ghost use Rattle.outside_io.specs.Told.{AsTold};
 ghost use Rattle.store_spec.specs.Fault.{CountsFaultIf};
-ghost use Rattle.script_commands.specs.Ballots.{IsSound};
+ghost use Rattle.script_commands.specs.Ballots.{AreGoodBallots};
 ghost use Rattle.script_commands.specs.Script.{Reads};
 
 use crate::build::ballots::{Ballots, Refusal};
@@ -42,7 +42,7 @@ pub fn read_ballots<S: Source>(
     script: &mut S,
 ) -> Result<Ballots, ScriptFault>
     ensures reads { AsTold S.left script.old script.new (Reads result election.now) }
-    ensures sound { IfOk result (IsSound election.now) }
+    ensures sound { IfOk result (AreGoodBallots election.now) }
     ensures fault { CountsFaultIf (result ≡ Err ScriptFault.ReadFault) (S.faults script.old) (S.faults script.new) }
 {
     let mut lines = Lines::new(alloc)?;

@@ -1,9 +1,6 @@
 use Rattle.std.proofs.Common.{[], ◌∷◌, ◌++◌, refl, ap, arith}
+use Rattle.store_spec.proofs.Common.{Casting, Casts, example_ballot, in_phase, last_reply}
 use Rattle.std.specs.Fmt.{digits}
-use Rattle.store_spec.specs.Figures.{example_ballot}
-use Rattle.store_spec.specs.ScriptLine.Work.{Casting}
-use Rattle.store_spec.specs.Session.{in_phase, last_reply}
-use Rattle.store_spec.specs.Session.Phase.{Casts}
 use Rattle.session_laws.specs.SessionFigures.{three}
 use Rattle.session_laws.proofs.ExampleBallots.{spells_22}
 use Rattle.session_laws.proofs.Spelled.{casts, opens}

@@ -1,11 +1,6 @@
 use Rattle.std.proofs.Common.{List, [], ◌∷◌, refl, arith}
+use Rattle.store_spec.proofs.Common.{BallotOutcome, CastLine, Casting, Duplicate, Finding, Full, IsPermutation-refl, IsRightReply, MayBeCastBefore, example, example_ballot}
 use Rattle.std.specs.Fmt.{digits}
-use Rattle.std.proofs.lemmas.List.Sorted.{IsPermutation-refl}
-use Rattle.store_spec.specs.BallotPhase.{BallotOutcome, CastLine, IsRightReply, MayBeCastBefore}
-use Rattle.store_spec.specs.BallotPhase.CastReply.{Duplicate, Full}
-use Rattle.store_spec.specs.Election.{example}
-use Rattle.store_spec.specs.Figures.{example_ballot}
-use Rattle.store_spec.specs.ScriptLine.Work.{Casting, Finding}
 use Rattle.session_laws.specs.SessionFigures.{full}
 use Rattle.session_laws.proofs.Closing.{one_list_casts}
 use Rattle.session_laws.proofs.ExampleBallots.{spells_5_unmarked, spells_9_unmarked}

@@ -1,11 +1,8 @@
 use Rattle.std.proofs.Common.{◌++◌, refl, arith}
+use Rattle.store_spec.proofs.Common.{All-contains_itself, All-from_recursion, Contains, Contains-append_left, IsBallotSet, example}
 use Rattle.std.specs.Fmt.{digits}
 use Rattle.std.specs.Int.RustNames.{count_ones}
-use Rattle.std.specs.List.{Contains}
-use Rattle.std.proofs.lemmas.List.Elements.{All-contains_itself, All-from_recursion, Contains-append_left}
 use Rattle.script_lines.specs.Generated.{cast_ballots}
-use Rattle.store_spec.specs.Ballot.{IsBallotSet}
-use Rattle.store_spec.specs.Election.{example}
 use Rattle.session_laws.specs.LargeFigures.{first_one, with_two}
 use Rattle.session_laws.specs.LargeRun.{new_to}
 use Rattle.session_laws.specs.SessionFigures.{full}

@@ -1,10 +1,6 @@
 use Rattle.std.proofs.Common.{List, [], ◌∷◌, refl, arith}
+use Rattle.store_spec.proofs.Common.{Accepted, BallotOutcome, CastLine, Casting, Conflict, Duplicate, IsPermutation-refl, IsRightReply, MayBeCastBefore, Withdrawing, example}
 use Rattle.std.specs.Fmt.{digits}
-use Rattle.std.proofs.lemmas.List.Sorted.{IsPermutation-refl}
-use Rattle.store_spec.specs.BallotPhase.{BallotOutcome, CastLine, IsRightReply, MayBeCastBefore}
-use Rattle.store_spec.specs.BallotPhase.CastReply.{Accepted, Conflict, Duplicate}
-use Rattle.store_spec.specs.Election.{example}
-use Rattle.store_spec.specs.ScriptLine.Work.{Casting, Withdrawing}
 use Rattle.session_laws.specs.SessionFigures.{one_way, other_way}
 use Rattle.session_laws.proofs.Closing.{no_number, one_list_casts, one_list_withdraws}
 use Rattle.session_laws.proofs.ExampleBallots.{apart, spells_one_way, spells_other_way}

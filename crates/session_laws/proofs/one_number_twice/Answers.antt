@@ -1,18 +1,8 @@
 use Rattle.std.proofs.Common.{◌≡◌, ◌⊎◌, ℕ, zero, suc, ◌<◌, List, [], ◌∷◌, Some, codes, map, length, inl, inr, refl, sym, ap, subst, ◌∙◌, arith}
+use Rattle.store_spec.proofs.Common.{Accepted, All, All-from_recursion, All-permutation, Ballot, BallotOutcome, CastLine, CastReply, Casting, Casts, Close, ClosesCasting, Conflict, Contains, Duplicate, Effect, Full, IsBallotSet, IsPermutation, IsPermutation-refl, IsRightReply, MayBeCastBefore, Plays, State, begun, cast_text, closing, counted, example, flat_map, in_phase, length_permutation, line_of, replies, written}
 use Rattle.std.specs.Fmt.{digits}
-use Rattle.std.specs.List.{All, Any, Contains, flat_map}
-use Rattle.std.specs.List.Sorted.{IsPermutation}
-use Rattle.std.proofs.lemmas.List.Elements.{All-from_recursion}
-use Rattle.std.proofs.lemmas.List.Sorted.{All-permutation, IsPermutation-refl, length_permutation}
+use Rattle.std.specs.List.{Any}
 use Rattle.ballot_record.proofs.BallotSets.{same_in_order}
-use Rattle.store_spec.specs.Ballot.{Ballot, IsBallotSet}
-use Rattle.store_spec.specs.BallotPhase.{BallotOutcome, CastLine, CastReply, IsRightReply, MayBeCastBefore}
-use Rattle.store_spec.specs.BallotPhase.CastReply.{Accepted, Conflict, Duplicate, Full}
-use Rattle.store_spec.specs.Election.{example}
-use Rattle.store_spec.specs.ScriptLine.ScriptLine.{Close}
-use Rattle.store_spec.specs.ScriptLine.Work.{Casting}
-use Rattle.store_spec.specs.Session.{ClosesCasting, Effect, Plays, State, begun, cast_text, closing, counted, in_phase, line_of, replies, written}
-use Rattle.store_spec.specs.Session.Phase.{Casts}
 use Rattle.session_laws.specs.SessionFigures.{EndsSo, first_wins, one_way, other_way, second_wins, twice}
 use Rattle.session_laws.proofs.Closing.{casting_closes, no_number}
 use Rattle.session_laws.proofs.ExampleBallots.{spells_one_way, spells_other_way, apart}

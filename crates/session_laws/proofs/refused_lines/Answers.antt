@@ -1,12 +1,6 @@
 use Rattle.std.proofs.Common.{◌≡◌, [], ◌∷◌, codes, refl, ◌∙◌, arith}
-use Rattle.std.specs.Fmt.{decimal, digits}
-use Rattle.std.proofs.lemmas.Fmt.{decimal_injective}
-use Rattle.std.proofs.lemmas.List.{append_cancel_left}
-use Rattle.std.proofs.lemmas.List.Sorted.{IsPermutation-refl}
-use Rattle.store_spec.specs.Election.{example}
-use Rattle.store_spec.specs.ScriptLine.{IsMalformed}
-use Rattle.store_spec.specs.ScriptLine.Work.{Casting, Withdrawing, Finding}
-use Rattle.store_spec.specs.ScriptLine.ScriptLine.{Open, Cast, CastInvalid, Withdraw, Find, Close, Checkpoint, Tally, Export}
+use Rattle.store_spec.proofs.Common.{Cast, CastInvalid, Casting, Checkpoint, Close, Export, Find, Finding, IsMalformed, IsPermutation-refl, Open, Tally, Withdraw, Withdrawing, append_cancel_left, decimal, decimal_injective, example}
+use Rattle.std.specs.Fmt.{digits}
 use Rattle.session_laws.proofs.Closing.{all_accepted_close}
 use Rattle.session_laws.proofs.ExampleBallots.{spells_9}
 use Rattle.session_laws.proofs.ExampleSets.{empty_is_set}

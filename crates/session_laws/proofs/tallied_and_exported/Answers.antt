@@ -1,8 +1,8 @@
 use Rattle.std.proofs.Common.{refl}
 use Rattle.std.specs.Fmt.{digits}
-use Rattle.std.specs.Int.RustNames.{count_ones}
 use Rattle.store_spec.specs.BallotLine.{choices_in}
 use Rattle.store_spec.specs.Election.{in_version}
+use Rattle.std.specs.Int.RustNames.{count_ones}
 use Rattle.session_laws.proofs.Spelled.{exports, tallies}
 use Rattle.session_laws.proofs.Steps.{ends, plays_only_so, step}
 use Rattle.session_laws.proofs.tallied_and_exported.Goals as goal

@@ -1,6 +1,6 @@
 use Rattle.std.proofs.Common.{refl, arith}
+use Rattle.store_spec.proofs.Common.{Casting}
 use Rattle.std.specs.Fmt.{digits}
-use Rattle.store_spec.specs.ScriptLine.Work.{Casting}
 use Rattle.session_laws.proofs.ExampleBallots.{spells_1, spells_9, spells_14}
 use Rattle.session_laws.proofs.ExampleSets.{close_of_three}
 use Rattle.session_laws.proofs.Spelled.{acknowledges, casts, closes_casting, opens}

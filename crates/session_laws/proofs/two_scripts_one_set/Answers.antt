@@ -1,9 +1,6 @@
 use Rattle.std.proofs.Common.{List, [], ◌∷◌, refl, arith}
+use Rattle.store_spec.proofs.Common.{Ballot, Casting, IsPermutation-append_comm, IsPermutation-append_left, IsPermutation-append_right, Withdrawing, example_ballot}
 use Rattle.std.specs.Fmt.{digits}
-use Rattle.std.proofs.lemmas.List.Sorted.{IsPermutation-append_comm, IsPermutation-append_left, IsPermutation-append_right}
-use Rattle.store_spec.specs.Ballot.{Ballot}
-use Rattle.store_spec.specs.Figures.{example_ballot}
-use Rattle.store_spec.specs.ScriptLine.Work.{Casting, Withdrawing}
 use Rattle.session_laws.specs.SessionFigures.{four}
 use Rattle.session_laws.proofs.Closing.{all_accepted_close, one_list_withdraws}
 use Rattle.session_laws.proofs.ExampleBallots.{spells_1, spells_9, spells_14, spells_22}

@@ -1,8 +1,6 @@
 use Rattle.std.proofs.Common.{[], ◌∷◌, refl, arith}
+use Rattle.store_spec.proofs.Common.{Casting, IsPermutation-refl, Withdrawing, example_ballot}
 use Rattle.std.specs.Fmt.{digits}
-use Rattle.std.proofs.lemmas.List.Sorted.{IsPermutation-refl}
-use Rattle.store_spec.specs.Figures.{example_ballot}
-use Rattle.store_spec.specs.ScriptLine.Work.{Casting, Withdrawing}
 use Rattle.session_laws.specs.SessionFigures.{four, three}
 use Rattle.session_laws.proofs.Closing.{all_accepted_close, one_list_withdraws}
 use Rattle.session_laws.proofs.ExampleBallots.{spells_22}

@@ -2,11 +2,11 @@
 //! what it says once all are at rest.
 
 ghost use Rattle.std.specs.Prelude.{◌≡◌, ◌≢◌, ◌↔◌, ◌++◌, ◌+◌, ◌<◌, ◌≤◌, [], ◌∷◌, ℕ, All, Contains, List, Some, length, replicate, slice_get, slice_index, slice_set, take};
-ghost use Rattle.step_core.specs.CastKept.{IsKept};
+ghost use Rattle.step_core.specs.CastKept.{KeepsInvariant};
 ghost use Rattle.step_core.specs.CastTables.{FitsIn, MayFind};
 ghost use Rattle.store_spec.specs.Act.{word_of};
 ghost use Rattle.store_spec.specs.CastInvariant.{CastInvariant, EachOnce, HasRoomFor, HoldSame, accepted_of, count_of, hands_of};
-ghost use Rattle.store_spec.specs.CastStep.{CastNote, CastRow, CastState, CastStep, CastView, Table, cast_act, cast_measure, claim_word, fresh_cast_view, joined_view};
+ghost use Rattle.store_spec.specs.CastStep.{CastNote, CastRow, CastState, CastStep, CastView, Table, cast_act, cast_measure, claim_word, fresh_cast_view, joined_cast_view};
 ghost use Rattle.store_spec.specs.CastStep.CastNote.{Claimed, Full, Placed, Quiet, Taken};
 ghost use Rattle.store_spec.specs.CastStep.CastState.{Carrying, Probing, Ready, Rest};
 ghost use Rattle.store_spec.specs.Layout.{IsOrdered, layout_of};
@@ -23,66 +23,66 @@ pub fn opening()
 /// A claim word is won: its number comes into the hand, before its home.
 pub fn claim_won()
     ensures { (t : Table) (x k : ℕ)
-        → IsKept t (Probing x k) (claim_word t x k) 0 x (Carrying x (t.home x)) Claimed }
+        → KeepsInvariant t (Probing x k) (claim_word t x k) 0 x (Carrying x (t.home x)) Claimed }
 {}
 
 /// A claim word is met that holds the number already.
 pub fn claim_met()
-    ensures { (t : Table) (x k : ℕ) → IsKept t (Probing x k) (claim_word t x k) x x Rest Taken }
+    ensures { (t : Table) (x k : ℕ) → KeepsInvariant t (Probing x k) (claim_word t x k) x x Rest Taken }
 {}
 
 /// A claim word is passed that holds another number, and one is left.
 pub fn claim_passed()
     ensures { (t : Table) (x k found : ℕ) → found ≢ 0 → found ≢ x → k + 1 < t.claims
-        → IsKept t (Probing x k) (claim_word t x k) found found (Probing x (k + 1)) Quiet }
+        → KeepsInvariant t (Probing x k) (claim_word t x k) found found (Probing x (k + 1)) Quiet }
 {}
 
 /// The last claim word holds another number too.
 pub fn claims_full()
     ensures { (t : Table) (x k found : ℕ) → found ≢ 0 → found ≢ x → k + 1 ≡ t.claims
-        → IsKept t (Probing x k) (claim_word t x k) found found Rest Full }
+        → KeepsInvariant t (Probing x k) (claim_word t x k) found found Rest Full }
 {}
 
 /// A look finds a greater number, and passes it.
 pub fn look_passes()
     ensures { (t : Table) (v i found : ℕ) → v < found
-        → IsKept t (Carrying v i) i found found (Carrying v (i + 1)) Quiet }
+        → KeepsInvariant t (Carrying v i) i found found (Carrying v (i + 1)) Quiet }
 {}
 
 /// A look finds a lower number or none, and the hand is ready to take the cell.
 pub fn look_becomes_ready()
     ensures { (t : Table) (v i found : ℕ) → found < v
-        → IsKept t (Carrying v i) i found found (Ready v i found) Quiet }
+        → KeepsInvariant t (Carrying v i) i found found (Ready v i found) Quiet }
 {}
 
 /// An exchange puts the number into an empty cell.
 pub fn takes_an_empty_cell()
-    ensures { (t : Table) (v i : ℕ) → IsKept t (Ready v i 0) i 0 v Rest Placed }
+    ensures { (t : Table) (v i : ℕ) → KeepsInvariant t (Ready v i 0) i 0 v Rest Placed }
 {}
 
 /// An exchange puts the number in place of a lower one, which comes into the hand, before the next cell.
 pub fn displaces_a_lower_number()
     ensures { (t : Table) (v i seen : ℕ) → seen ≢ 0
-        → IsKept t (Ready v i seen) i seen v (Carrying seen (i + 1)) Quiet }
+        → KeepsInvariant t (Ready v i seen) i seen v (Carrying seen (i + 1)) Quiet }
 {}
 
 /// An exchange is lost to a greater number, which is passed.
 pub fn lost_to_a_greater_number()
     ensures { (t : Table) (v i seen found : ℕ) → v < found
-        → IsKept t (Ready v i seen) i found found (Carrying v (i + 1)) Quiet }
+        → KeepsInvariant t (Ready v i seen) i found found (Carrying v (i + 1)) Quiet }
 {}
 
 /// An exchange is lost to a lower number, of which the hand takes the cell next.
 pub fn lost_to_a_lower_number()
     ensures { (t : Table) (v i seen found : ℕ) → found < v
-        → IsKept t (Ready v i seen) i found found (Ready v i found) Quiet }
+        → KeepsInvariant t (Ready v i seen) i found found (Ready v i found) Quiet }
 {}
 
 /// Any row of the table.
 pub fn any_row()
     ensures { (t : Table) (from : CastState) (word found left : ℕ) (new : CastState)
         (note : CastNote)
-        → CastRow t from word found left new note → IsKept t from word found left new note }
+        → CastRow t from word found left new note → KeepsInvariant t from word found left new note }
 {}
 
 /// Any step, the first of a number too.
@@ -106,7 +106,7 @@ pub fn a_seat_taken_in()
         → slice_get views id ≡ Some view → slice_get views other ≡ Some gone
         → view.state ≡ Rest → gone.state ≡ Rest
         → CastInvariant t base words (slice_set (slice_set views id
-        (joined_view view gone)) other fresh_cast_view) }
+        (joined_cast_view view gone)) other fresh_cast_view) }
 {}
 
 /// A number stands at most once in all cells and hands, and exactly where it is of the base or accepted.

@@ -1,7 +1,7 @@
 //! The withdrawing invariant holds when a phase opens, each row of the table keeps it, and it gives the layout once all
 //! are at rest.
 
-ghost use Rattle.step_core.specs.WithdrawKept.{IsKept};
+ghost use Rattle.step_core.specs.WithdrawKept.{KeepsInvariant};
 ghost use Rattle.step_core.specs.WithdrawTables.{FitsIn, MayFind};
 ghost use Rattle.std.specs.Prelude.{◌≡◌, ◌≢◌, ℕ, ◌+◌, ◌<◌, ◌≤◌, ◌⊎◌, List, [], ◌∷◌, ◌++◌, All, AllPairs, Contains, Some, length, replicate, slice_get, slice_index, slice_set};
 ghost use Rattle.step_core.specs.Withdrawing.{HasEnded, IsDone, IsDoneAt, Runs, Steps, Withdrawing, answered_in, lists_in, opened};
@@ -9,58 +9,58 @@ ghost use Rattle.step_core.specs.WithdrawingInvariant.{IsWithdrawing};
 ghost use Rattle.store_spec.specs.Act.{word_of};
 ghost use Rattle.store_spec.specs.Layout.{layout_of, numbers_in};
 ghost use Rattle.store_spec.specs.Measure.{Falls};
-ghost use Rattle.store_spec.specs.WithdrawInvariant.{IsBase, IsOf, WithdrawInvariant, begun_by, cell_words, times, times_begun};
+ghost use Rattle.store_spec.specs.WithdrawInvariant.{IsBase, IsOfBase, WithdrawInvariant, begun_by, cell_words, times, times_begun};
 ghost use Rattle.store_spec.specs.WithdrawPhase.{without};
-ghost use Rattle.store_spec.specs.WithdrawStep.{FirstRow, Fits, IsSeated, WithdrawNote, WithdrawRow, WithdrawState, WithdrawStep, WithdrawView, fresh_withdraw_view, withdraw_number, withdraw_act, withdraw_measure};
+ghost use Rattle.store_spec.specs.WithdrawStep.{FirstRow, Fits, StandsInBase, WithdrawNote, WithdrawRow, WithdrawState, WithdrawStep, WithdrawView, fresh_withdraw_view, withdraw_number, withdraw_act, withdraw_measure};
 ghost use Rattle.store_spec.specs.WithdrawStep.WithdrawNote.{Quiet, Gone, Begun, Done};
 ghost use Rattle.store_spec.specs.WithdrawStep.WithdrawState.{Rest, Chosen, Owing, Up, Down};
 
 /// A flag that is set already: the number is gone.
 pub fn found_gone()
-    ensures { (home : ℕ → ℕ) (base : List ℕ) (x cell : ℕ) → IsSeated base x cell
-        → IsKept home base x Rest (length base + cell) 1 1 Rest Gone }
+    ensures { (home : ℕ → ℕ) (base : List ℕ) (x cell : ℕ) → StandsInBase base x cell
+        → KeepsInvariant home base x Rest (length base + cell) 1 1 Rest Gone }
 {}
 
 /// A flag that is set here: the number is chosen.
 pub fn chose()
-    ensures { (home : ℕ → ℕ) (base : List ℕ) (x cell : ℕ) → IsSeated base x cell
-        → IsKept home base x Rest (length base + cell) 0 1 (Chosen x (home x)) Quiet }
+    ensures { (home : ℕ → ℕ) (base : List ℕ) (x cell : ℕ) → StandsInBase base x cell
+        → KeepsInvariant home base x Rest (length base + cell) 0 1 (Chosen x (home x)) Quiet }
 {}
 
 /// The walk passes a greater word.
 pub fn walked_on()
     ensures { (home : ℕ → ℕ) (base : List ℕ) (x place word : ℕ) → x < word
-        → IsKept home base x (Chosen x place) place word word (Chosen x (place + 1)) Quiet }
+        → KeepsInvariant home base x (Chosen x place) place word word (Chosen x (place + 1)) Quiet }
 {}
 
 /// The walk ends, and a removal is owed.
 pub fn began()
     ensures { (home : ℕ → ℕ) (base : List ℕ) (x place word : ℕ) → word ≤ x
-        → IsKept home base x (Chosen x place) place word word (Owing x place) Begun }
+        → KeepsInvariant home base x (Chosen x place) place word word (Owing x place) Begun }
 {}
 
 /// The owed number is at its bound.
 pub fn found_owed()
     ensures { (home : ℕ → ℕ) (base : List ℕ) (x bound : ℕ)
-        → IsKept home base x (Owing x bound) bound x x (Up x bound (bound + 1)) Quiet }
+        → KeepsInvariant home base x (Owing x bound) bound x x (Up x bound (bound + 1)) Quiet }
 {}
 
 /// The owed number is lower.
 pub fn looked_lower()
     ensures { (home : ℕ → ℕ) (base : List ℕ) (x bound word : ℕ) → word ≢ x
-        → IsKept home base x (Owing x (bound + 1)) (bound + 1) word word (Owing x bound) Quiet }
+        → KeepsInvariant home base x (Owing x (bound + 1)) (bound + 1) word word (Owing x bound) Quiet }
 {}
 
 /// A word that does not fit is passed on the way up.
 pub fn looked_higher()
     ensures { (home : ℕ → ℕ) (base : List ℕ) (x bound place word : ℕ) → ¬ Fits home x bound word
-        → IsKept home base x (Up x bound place) place word word (Up x bound (place + 1)) Quiet }
+        → KeepsInvariant home base x (Up x bound place) place word word (Up x bound (place + 1)) Quiet }
 {}
 
 /// A word that fits ends the way up.
 pub fn found_candidate()
     ensures { (home : ℕ → ℕ) (base : List ℕ) (x bound place word : ℕ) → Fits home x bound word
-        → IsKept home base x (Up x bound (place + 1)) (place + 1) word word
+        → KeepsInvariant home base x (Up x bound (place + 1)) (place + 1) word word
         (Down x bound place word (place + 1)) Quiet }
 {}
 
@@ -68,7 +68,7 @@ pub fn found_candidate()
 pub fn found_lower_candidate()
     ensures { (home : ℕ → ℕ) (base : List ℕ) (x bound place c source word : ℕ)
         → bound ≤ place → Fits home x bound word
-        → IsKept home base x (Down x bound (place + 1) c source) (place + 1) word word
+        → KeepsInvariant home base x (Down x bound (place + 1) c source) (place + 1) word word
         (Down x bound place word (place + 1)) Quiet }
 {}
 
@@ -76,26 +76,26 @@ pub fn found_lower_candidate()
 pub fn kept_candidate()
     ensures { (home : ℕ → ℕ) (base : List ℕ) (x bound place c source word : ℕ)
         → bound ≤ place → ¬ Fits home x bound word
-        → IsKept home base x (Down x bound (place + 1) c source) (place + 1) word word
+        → KeepsInvariant home base x (Down x bound (place + 1) c source) (place + 1) word word
         (Down x bound place c source) Quiet }
 {}
 
 /// The hole is emptied: a copy and a debt end together.
 pub fn emptied()
     ensures { (home : ℕ → ℕ) (base : List ℕ) (x bound source : ℕ)
-        → IsKept home base x (Down x bound bound 0 source) bound x 0 Rest Done }
+        → KeepsInvariant home base x (Down x bound bound 0 source) bound x 0 Rest Done }
 {}
 
 /// The hole is filled with the candidate, whose other copy is owed.
 pub fn refilled()
     ensures { (home : ℕ → ℕ) (base : List ℕ) (x bound c source : ℕ) → c ≢ 0
-        → IsKept home base x (Down x bound bound c source) bound x c (Owing c source) Quiet }
+        → KeepsInvariant home base x (Down x bound bound c source) bound x c (Owing c source) Quiet }
 {}
 
 /// The number stands in the hole no more.
 pub fn lost()
     ensures { (home : ℕ → ℕ) (base : List ℕ) (x bound c source word : ℕ) → word ≢ x
-        → IsKept home base x (Down x (bound + 1) (bound + 1) c source) (bound + 1) word word
+        → KeepsInvariant home base x (Down x (bound + 1) (bound + 1) c source) (bound + 1) word word
         (Owing x bound) Quiet }
 {}
 
@@ -145,7 +145,7 @@ pub fn at_rest()
         → WithdrawInvariant home base words views → All (λ view. view.state ≡ Rest) views
         → times (begun_by views) x ≤ 1 }
     ensures begun { (home : ℕ → ℕ) (base words : List ℕ) (views : List WithdrawView)
-        → WithdrawInvariant home base words views → All (λ view. All (IsOf base) view.begun) views }
+        → WithdrawInvariant home base words views → All (λ view. All (IsOfBase base) view.begun) views }
     ensures gone { (home : ℕ → ℕ) (base words : List ℕ) (views : List WithdrawView)
         → WithdrawInvariant home base words views → All (λ view. view.state ≡ Rest) views
         → All (λ view. All (Contains (begun_by views)) view.gone) views }
@@ -178,7 +178,7 @@ pub fn a_flag()
     ensures found_again { (home : ℕ → ℕ) (base words : List ℕ) (views : List WithdrawView) (id : ℕ)
         (view : WithdrawView) (x cell : ℕ)
         → WithdrawInvariant home base words views → slice_get views id ≡ Some view
-        → IsSeated base x cell → Contains view.begun x ⊎ Contains view.gone x
+        → StandsInBase base x cell → Contains view.begun x ⊎ Contains view.gone x
         → slice_index words (length base + cell) ≡ 1 }
 {}
 

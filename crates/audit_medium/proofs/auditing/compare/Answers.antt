@@ -1,13 +1,9 @@
 use Rattle.std.proofs.Common.{◌≡◌, ℕ, List, Option, subst, ap, ◌∙◌}
-use Rattle.std.specs.Prelude.{IfSome}
+use Rattle.store_spec.proofs.Common.{Ballot, Bank, Election, IfSome, bank_of, image_of}
 use Rattle.bank_medium.specs.Banks.{bank_named, gate_of, place_of}
 use Rattle.audit_medium.proofs.Comparing.{bank_told, canonical_told, gate_told}
 use Rattle.recovery.proofs.Differences.{none_of}
 use Rattle.recovery.specs.Differing.{IsFirstDifference}
-use Rattle.store_spec.specs.Ballot.{Ballot}
-use Rattle.store_spec.specs.Election.{Election}
-use Rattle.store_spec.specs.Image.{image_of}
-use Rattle.store_spec.specs.Medium.{Bank, bank_of}
 use Rattle.audit_medium.proofs.auditing.compare.Goals as goal
 
 -- the bytes of the bank that was read are the image of the set

@@ -1,5 +1,5 @@
 use Rattle.std.proofs.Common.{◌+◌, ◌∙◌, arith}
-use Rattle.std.proofs.lemmas.List.{get_or-set_other, length-set}
+use Rattle.store_spec.proofs.Common.{get_or-set_other, length-set}
 use Rattle.ballot_record.proofs.Barring.{bars_more}
 use Rattle.ballot_record.proofs.barred.bar_behind.Goals as goal
 

@@ -1,5 +1,5 @@
 use Rattle.std.proofs.Common.{◌≡◌, ℕ, ◌<◌, length}
-use Rattle.std.specs.Prelude.{slice_index}
+use Rattle.store_spec.proofs.Common.{slice_index}
 use Rattle.ballot_record.proofs.Barring.{BarsSoFar}
 use Rattle.ballot_record.proofs.barred.bar_behind.Given as goal
 

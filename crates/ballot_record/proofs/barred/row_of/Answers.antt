@@ -1,7 +1,7 @@
 use Rattle.std.proofs.Common.{◌≡◌, ℕ, ◌+◌, ◌*◌, ap, subst₂, ◌∙◌, arith}
+use Rattle.store_spec.proofs.Common.{set_width}
 use Rattle.ballot_record.proofs.Barring.{sets_more}
 use Rattle.ballot_record.specs.Barred.{BarsBehind}
-use Rattle.store_spec.specs.Election.{set_width}
 use Rattle.ballot_record.proofs.barred.row_of.Goals as goal
 
 pub loop-place-preserved : goal.loop-place-preserved

@@ -1,5 +1,5 @@
 use Rattle.std.proofs.Common.{◌≡◌, ℕ, ◌<◌, length}
-use Rattle.std.specs.Prelude.{slice_index}
+use Rattle.store_spec.proofs.Common.{slice_index}
 use Rattle.ballot_record.proofs.Barring.{SetsSoFar}
 use Rattle.ballot_record.proofs.barred.row_of.Given as goal
 

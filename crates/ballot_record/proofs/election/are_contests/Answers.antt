@@ -1,6 +1,5 @@
 use Rattle.std.proofs.Common.{arith}
-use Rattle.std.proofs.lemmas.List.{length-map}
-use Rattle.std.proofs.lemmas.List.Elements.{All-map}
+use Rattle.store_spec.proofs.Common.{All-map, length-map}
 use Rattle.ballot_record.proofs.Counts.{All-unmap}
 use Rattle.ballot_record.specs.Contest.{contest_of}
 use Rattle.store_spec.specs.Election.{IsContestUpTo}

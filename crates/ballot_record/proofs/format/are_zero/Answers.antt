@@ -1,7 +1,6 @@
 use Rattle.std.proofs.Common.{length, sym, ◌∙◌, arith}
+use Rattle.store_spec.proofs.Common.{Decides-eqb, take-replicate}
 use Rattle.std.proofs.lemmas.Slice.Eq.{slice_eq-Decides}
-use Rattle.std.proofs.lemmas.Bool.Decides.{Decides-eqb}
-use Rattle.std.proofs.lemmas.List.{take-replicate}
 use Rattle.ballot_record.proofs.FormatReading.{zeros_from_all}
 use Rattle.ballot_record.proofs.FormatAnswers.{each_zero}
 use Rattle.ballot_record.proofs.format.are_zero.Goals as goal

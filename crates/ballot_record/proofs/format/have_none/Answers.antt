@@ -1,5 +1,5 @@
 use Rattle.std.proofs.Common.{◌≡◌, inl, inr, get_or, refl, ap, subst, ◌∙◌, arith}
-use Rattle.std.proofs.lemmas.Bool.{cases_lt, eq-eqb, eqb-true}
+use Rattle.store_spec.proofs.Common.{cases_lt, eq-eqb, eqb-true}
 use Rattle.std.proofs.lemmas.Nat.{le_or_l, le_or_r}
 use Rattle.std.specs.Int.Bits.{bit_and, bit_or, or_zero_l}
 use Rattle.ballot_record.proofs.format.have_none.Goals as goal

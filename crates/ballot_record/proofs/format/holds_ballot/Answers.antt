@@ -1,11 +1,11 @@
 use Rattle.std.proofs.Common.{◌-◌, ℕ, List, ap, get_or-take, length, sym, subst, ◌∙◌, arith}
-use Rattle.std.specs.Prelude.{slice_index}
+use Rattle.store_spec.proofs.Common.{slice_index}
+use Rattle.store_spec.specs.Election.{cell_size}
 use Rattle.ballot_record.proofs.Barring.{judged, row_there}
 use Rattle.ballot_record.proofs.CellFormat.{cell_fits}
 use Rattle.ballot_record.proofs.FormatAnswers.{held, have_from, valid_there}
 use Rattle.ballot_record.specs.Barred.{HaveNone, IsBarredOn}
 use Rattle.ballot_record.specs.Format.{ballot_at}
-use Rattle.store_spec.specs.Election.{cell_size}
 use Rattle.ballot_record.proofs.format.holds_ballot.Goals as goal
 use Rattle.ballot_record.proofs.format.holds_ballot.Goals.{then-from-styles-via-then-from-styles, then-from-styles-via-else-from-styles+then-style-eq0, then-from-styles-via-else-from-styles+else-style-eq0+then-number_of-eq0}
 

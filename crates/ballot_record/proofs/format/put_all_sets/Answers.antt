@@ -1,8 +1,5 @@
 use Rattle.std.proofs.Common.{◌≡◌, ◌*◌, ◌+◌, ◌≤◌, arith, length, sym, ap, ◌∙◌, refl, take}
-use Rattle.std.proofs.Math.Nat.{mul-suc, mul-le-mul_left}
-use Rattle.std.proofs.lemmas.List.{take_all}
-use Rattle.std.specs.Int.{bytes_high_first}
-use Rattle.std.specs.List.{flat_map}
+use Rattle.store_spec.proofs.Common.{bytes_high_first, flat_map, mul-le-mul_left, mul-suc, take_all}
 use Rattle.byteorder.proofs.Slices.{write_step}
 use Rattle.byteorder.specs.Numbers.{length-bytes_high_first}
 use Rattle.ballot_record.proofs.format.put_all_sets.Goals as goal

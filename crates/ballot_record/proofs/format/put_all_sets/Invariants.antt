@@ -1,6 +1,5 @@
 use Rattle.std.proofs.Common.{◌≡◌, ◌*◌, take}
-use Rattle.std.specs.Int.{bytes_high_first}
-use Rattle.std.specs.List.{flat_map}
+use Rattle.store_spec.proofs.Common.{bytes_high_first, flat_map}
 use Rattle.ballot_record.proofs.format.put_all_sets.Given as goal
 
 -- the first sets are put

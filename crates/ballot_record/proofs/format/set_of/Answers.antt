@@ -1,9 +1,6 @@
 use Rattle.std.proofs.Common.{◌≡◌, ℕ, ◌+◌, ◌*◌, ◌<◌, List, length, drop, inl, inr, sym, ap, ◌∙◌}
-use Rattle.std.specs.Prelude.{slice_index}
+use Rattle.store_spec.proofs.Common.{Ballot, Election, IsCellOf, IsElection, set_width, slice_index}
 use Rattle.byteorder.specs.Endian.{big_number}
-use Rattle.store_spec.specs.Ballot.{Ballot}
-use Rattle.store_spec.specs.Election.{Election, IsElection, set_width}
-use Rattle.store_spec.specs.Image.{IsCellOf}
 use Rattle.ballot_record.specs.Format.{IsSetWidth}
 use Rattle.ballot_record.proofs.FormatReading.{marks_read}
 use Rattle.ballot_record.proofs.format.set_of.Goals as goal

@@ -1,8 +1,5 @@
 use Rattle.std.proofs.Common.{◌≡◌, All, refl, ap, subst, sym, ◌∙◌, arith}
-use Rattle.std.proofs.lemmas.Bool.{false≢true}
-use Rattle.store_spec.specs.Ballot.{IsValid}
-use Rattle.store_spec.specs.Election.{cell_size}
-use Rattle.store_spec.specs.Image.{IsCellOf}
+use Rattle.store_spec.proofs.Common.{IsCellOf, IsValid, cell_size, false≢true}
 use Rattle.ballot_record.specs.Record.{ballot}
 use Rattle.ballot_record.specs.declared.record.Record.{Record}
 use Rattle.ballot_record.specs.declared.format.CellRead.TheVariants.{Held}

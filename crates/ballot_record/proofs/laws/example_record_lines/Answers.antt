@@ -1,18 +1,18 @@
 use Rattle.std.proofs.Common.{◌≡◌, [], ◌∷◌, refl, sym, ap, ◌∙◌}
+use Rattle.store_spec.proofs.Common.{example, example_ballot}
+use Rattle.store_spec.specs.Election.{in_version}
 use Rattle.store_spec.specs.BallotLine.{choices_in, line_of_ballot, line_text}
-use Rattle.store_spec.specs.Figures.{example_ballot}
 use Rattle.ballot_record.proofs.LineLaws.{not_read}
 use Rattle.ballot_record.proofs.LineWhole.{line_takes}
-use Rattle.ballot_record.specs.LineReading.{digits_at, choices_at, group_at, groups_of, line_of}
-use Rattle.store_spec.specs.Election.{example, in_version}
+use Rattle.ballot_record.specs.LineReading.{digits_at, choices_at, group_at, groups_of, parsed_line}
 use Rattle.ballot_record.proofs.laws.example_record_lines.Goals as goal
 
 pub returns-clause-one_mark : goal.returns-clause-one_mark
-unfolding line_of groups_of group_at choices_at digits_at in_version
+unfolding parsed_line groups_of group_at choices_at digits_at in_version
 returns-clause-one_mark c = line_takes example _ _ refl
 
 pub returns-clause-three_marks : goal.returns-clause-three_marks
-unfolding line_of groups_of group_at choices_at digits_at in_version
+unfolding parsed_line groups_of group_at choices_at digits_at in_version
 returns-clause-three_marks c = line_takes example _ _ refl
 
 -- the parts of a ballot's line
@@ -31,13 +31,13 @@ pub returns-clause-of_1 : goal.returns-clause-of_1
 returns-clause-of_1 c = ap line_text line_of_1 ∙ sym (returns-clause-three_marks c).spelled
 
 pub returns-clause-leading_zero : goal.returns-clause-leading_zero
-unfolding line_of groups_of group_at choices_at digits_at in_version
+unfolding parsed_line groups_of group_at choices_at digits_at in_version
 returns-clause-leading_zero c = not_read example _ refl
 
 pub returns-clause-descending : goal.returns-clause-descending
-unfolding line_of groups_of group_at choices_at digits_at in_version
+unfolding parsed_line groups_of group_at choices_at digits_at in_version
 returns-clause-descending c = not_read example _ refl
 
 pub returns-clause-too_great : goal.returns-clause-too_great
-unfolding line_of groups_of group_at choices_at digits_at in_version
+unfolding parsed_line groups_of group_at choices_at digits_at in_version
 returns-clause-too_great c = not_read example _ refl

@@ -1,5 +1,5 @@
 use Rattle.std.proofs.Common.{◌∙◌, sym, refl}
-use Rattle.std.proofs.lemmas.Bool.{false≢true}
+use Rattle.store_spec.proofs.Common.{false≢true}
 use Rattle.ballot_record.specs.Record.{ballot}
 use Rattle.ballot_record.proofs.LineAnswers.{not_a_line, line_read, spells, other_groups, not_valid}
 use Rattle.ballot_record.proofs.line.read_line_into.Goals as goal

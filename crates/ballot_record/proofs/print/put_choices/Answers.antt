@@ -1,7 +1,5 @@
 use Rattle.std.proofs.Common.{◌≡◌, ◌+◌, ◌-◌, ◌*◌, ◌%◌, ◌^◌, ◌<◌, ◌≤◌, ◌++◌, [], ◌∷◌, false, cond, map, rules, sym, ap, subst, ◌∙◌, arith, pow_pos, ℕ}
-use Rattle.std.proofs.lemmas.Nat.Bits.{bit_at-trailing_zeros}
-use Rattle.std.specs.Fmt.{decimal}
-use Rattle.std.specs.Int.{trailing_zeros}
+use Rattle.store_spec.proofs.Common.{bit_at-trailing_zeros, decimal, trailing_zeros}
 use Rattle.ballot_record.proofs.Fronts.{IsFrontOf-more}
 use Rattle.ballot_record.proofs.Joining.{joined_after}
 use Rattle.ballot_record.proofs.LineGroups.{choices_text}

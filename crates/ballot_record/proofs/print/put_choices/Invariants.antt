@@ -1,5 +1,5 @@
 use Rattle.std.proofs.Common.{◌≡◌, ◌++◌, map}
-use Rattle.std.specs.Fmt.{decimal}
+use Rattle.store_spec.proofs.Common.{decimal}
 use Rattle.ballot_record.specs.Print.{IsFrontOf}
 use Rattle.ballot_record.proofs.Joining.{joined_after}
 use Rattle.ballot_record.proofs.LineGroups.{choices_text}

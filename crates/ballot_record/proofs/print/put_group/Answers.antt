@@ -1,6 +1,5 @@
 use Rattle.std.proofs.Common.{◌≡◌, ◌++◌, ap, sym, subst, ◌∙◌, arith}
-use Rattle.std.specs.Prelude.{OnOk}
-use Rattle.store_spec.specs.BallotLine.{group_text}
+use Rattle.store_spec.proofs.Common.{OnOk, group_text}
 use Rattle.ballot_record.proofs.LinePrints.{no_choices_in, text_of_set}
 use Rattle.ballot_record.proofs.print.put_group.Goals as goal
 

@@ -1,5 +1,5 @@
 use Rattle.std.proofs.Common.{◌≡◌, ◌<◌, ◌++◌, ◌∷◌, [], cond, eqb, get_or, length, map, sym, take, ap, ◌∙◌, arith, rules, get_or-take, length-take}
-use Rattle.store_spec.specs.BallotLine.{choices_in, group_text}
+use Rattle.store_spec.proofs.Common.{choices_in, group_text}
 use Rattle.ballot_record.proofs.Fronts.{IsFrontOf-more, IsFrontOf-after}
 use Rattle.ballot_record.proofs.LinePrints.{no_group_put, group_put, groups_put}
 use Rattle.ballot_record.proofs.LineWhole.{groups_text}

@@ -1,7 +1,5 @@
 use Rattle.std.proofs.Common.{◌≡◌, ◌++◌, eqb, drop, length, map, take}
-use Rattle.store_spec.specs.Ballot.{Ballot}
-use Rattle.store_spec.specs.BallotLine.{choices_in, group_text}
-use Rattle.store_spec.specs.Image.{IsCellOf}
+use Rattle.store_spec.proofs.Common.{Ballot, IsCellOf, choices_in, group_text}
 use Rattle.ballot_record.specs.Print.{IsFrontOf}
 use Rattle.ballot_record.proofs.Joining.{joined_after}
 use Rattle.ballot_record.proofs.LineWhole.{groups_text}

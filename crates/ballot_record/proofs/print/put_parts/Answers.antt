@@ -1,8 +1,5 @@
 use Rattle.std.proofs.Common.{◌≡◌, ◌++◌, length, map, take, subst, ap, ◌∙◌, arith}
-use Rattle.std.specs.Fmt.{decimal}
-use Rattle.std.specs.Prelude.{OnOk}
-use Rattle.store_spec.specs.BallotLine.{choices_in}
-use Rattle.store_spec.specs.Damage.{number_at}
+use Rattle.store_spec.proofs.Common.{OnOk, choices_in, decimal, number_at}
 use Rattle.ballot_record.proofs.CellFormat.{number_fits, number_of_bytes}
 use Rattle.ballot_record.proofs.LinePrints.{parts_put}
 use Rattle.ballot_record.proofs.LineWhole.{groups_text}

@@ -1,9 +1,8 @@
 use Rattle.std.proofs.Common.{◌≡◌, ℕ, ◌+◌, ◌≤◌, List, Option, Some, None, length, ap, ◌∙◌}
-use Rattle.std.specs.Prelude.{Result, Ok, Err, OnOk, IfSome, slice_range}
+use Rattle.store_spec.proofs.Common.{Err, IfSome, Ok, OnOk, Result, bank_size, slice_range}
 use Rattle.bank_medium.proofs.Parts.{within_range}
 use Rattle.bank_medium.specs.Banks.{place_of}
 use Rattle.bank_medium.proofs.page.read_page.Goals as goal
-use Rattle.store_spec.specs.Election.{bank_size}
 
 same_range : {E : Type 0} (result : Result (Unit {0}) E) (seen : Option (List ℕ)) (out : List ℕ) (place p n at k : ℕ) → place ≡ p → at + k ≤ n
     → OnOk result (IfSome seen (λ bytes. out ≡ slice_range bytes (place + at) (place + at + k)))

@@ -1,5 +1,5 @@
 use Rattle.std.proofs.Common.{get_or, ap, arith}
-use Rattle.std.proofs.lemmas.List.{ext_get_or}
+use Rattle.store_spec.proofs.Common.{ext_get_or}
 use Rattle.bank_medium.proofs.same.same_block.Goals as goal
 
 pub returns : goal.returns

@@ -9,5 +9,5 @@ returns-clause-count c =
     let a = c.self.inside in
     let own = contents_of a in
     c.self.invariant.counted
-    ∙ shown_count own.election own.ballots a.image.items a.cells.items c.self.invariant.shown
+    ∙ shown_count own.election own.ballots a.image.items a.cells c.self.invariant.shown
     ∙ ap (λ (store : Contents). length store.ballots) c.self.view_is

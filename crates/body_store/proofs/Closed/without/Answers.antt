@@ -1,5 +1,6 @@
-use Rattle.std.proofs.Common.{◌≡◌, ℕ, List, drop, length, refl, sym, ap, ◌∙◌, subst, subst₂}
-use Rattle.ballot_record.specs.BallotList.{ListedBallots, empty_list}
+use Rattle.std.proofs.Common.{◌≡◌, ℕ, List, [], drop, length, sym, ap, ◌∙◌, subst, subst₂}
+use Rattle.store_spec.proofs.Common.{All, All-nil, Ballot, Election, cells_of, header_size, numbers_in}
+use Rattle.ballot_record.specs.BallotList.{ListedBallots}
 use Rattle.body_store.proofs.BallotSets.{stored_without}
 use Rattle.body_store.proofs.ByNumber.{by_number-is}
 use Rattle.body_store.proofs.Closed.without.Goals as goal
@@ -12,26 +13,25 @@ use Rattle.body_store.specs.Contents.{Contents, ballots_without}
 use Rattle.body_store.specs.Held.{Shows, held_in, spelled_in}
 use Rattle.body_store.specs.Kept.{IsKept, contents_of}
 use Rattle.body_store.specs.declared.Closed.TheInside.{Inside}
-use Rattle.store_spec.specs.Ballot.{Ballot}
-use Rattle.store_spec.specs.Election.{Election, header_size}
-use Rattle.store_spec.specs.Image.{cells_of}
-use Rattle.store_spec.specs.Layout.{numbers_in}
+
+abbrev none : List ListedBallots
+none = []
 
 abbrev held : List ℕ → Election → List ℕ → List Ballot
 held image e numbers = by_number (spelled_in e numbers (drop header_size image))
 
 -- what the close asks, of the same things under other names
-abbrev IsAsked : List ℕ → Election → ListedBallots → List ℕ → List ℕ → Type 0
-IsAsked image e none numbers cells =
+abbrev IsAsked : List ℕ → Election → List ℕ → List ℕ → Type 0
+IsAsked image e numbers cells =
     let old = held image e numbers in
-    IsClose e none.ballots (record { old = old; all = old; rest = held_in old cells })
-    × ((none.election ≡ e) × (Shows e old image numbers × (cells ≡ cells_of e (held_in old cells))))
+    IsClose e [] (record { old = old; all = old; rest = held_in old cells })
+    × (All (λ (list : ListedBallots). list.election ≡ e) none × (Shows e old image numbers × (cells ≡ cells_of e (held_in old cells))))
 
 -- what is left in the cells, where these numbers went
 left : (a : Inside) (store : Contents) (gone cells : List ℕ) → contents_of a ≡ store → IsKept a → cells ≡ cells_of store.election (ballots_without store.ballots gone) → IsRest a.election.value (contents_of a).ballots gone cells
 left a store gone cells view kept laid =
     let own = contents_of a in
-    rest_is own.election own.ballots gone cells kept.shown.election (shown_held own.election own.ballots a.image.items a.cells.items kept.shown)
+    rest_is own.election own.ballots gone cells kept.shown.election (shown_held own.election own.ballots a.image.items a.cells kept.shown)
     (laid ∙ ap (λ (store : Contents). cells_of store.election (ballots_without store.ballots gone)) (sym view))
 
 pub close-requires : goal.close-requires
@@ -41,14 +41,13 @@ close-requires c =
     let image = a.image.items in
     let shown = c.self.invariant.shown in
     let rest = left a c.args.self.now c.requires.0 c.args.cells.items c.self.view_is c.self.invariant c.requires.1 in
-    let nothing = c.new-none.ensures ∙ ap (λ e. empty_list e 0) c.deref.ensures in
-    let asked : IsAsked image own.election (empty_list own.election 0) a.cells.items c.args.cells.items = (
-      without_closes own.election own.ballots (held_in own.ballots c.args.cells.items) shown.election (shown_held own.election own.ballots image a.cells.items shown) rest.held
+    let asked : IsAsked image own.election a.cells c.args.cells.items = (
+      without_closes own.election own.ballots (held_in own.ballots c.args.cells.items) shown.election (shown_held own.election own.ballots image a.cells shown) rest.held
           (held_among own.ballots c.args.cells.items),
-      (refl, (shown, rest.laid)),
+      (All-nil (λ (list : ListedBallots). list.election ≡ own.election), (shown, rest.laid)),
     ) in
-    subst₂ (λ e numbers. IsAsked image e c.new-none.result numbers c.deref-4.result.now) (sym c.deref-2.ensures) (sym c.deref-3.ensures.value)
-    (subst₂ (λ none cells. IsAsked image own.election none a.cells.items cells) (sym nothing) (sym c.deref-4.ensures.value) asked)
+    subst₂ (λ e numbers. IsAsked image e numbers c.deref-2.result.now) (sym c.deref.ensures) (sym c.numbers.ensures.value)
+    (subst (λ cells. IsAsked image own.election a.cells cells) (sym c.deref-2.ensures.value) asked)
 
 -- what it makes, under the names of the store
 made : (image now : List ℕ) (e own : Election) (numbers given laid cells : List ℕ) → e ≡ own → numbers ≡ given → laid ≡ cells
@@ -60,22 +59,22 @@ made image now e own numbers given laid cells same_e same_numbers same_cells sho
 pub invariant_of-self-2 : goal.invariant_of-self-2
 invariant_of-self-2 c =
     let a = c.self.inside in
-    let now : Inside = record { election = a.election; image = c.close.new.image; cells = c.args.cells; held = c.count-held.result } in
-    kept_as now (held_in (contents_of a).ballots c.args.cells.items)
-    (made a.image.items now.image.items c.deref-2.result.now a.election.value c.deref-3.result.now a.cells.items c.deref-4.result.now c.args.cells.items
-    c.deref-2.ensures c.deref-3.ensures.value c.deref-4.ensures.value c.in_ok-close.ensures.shown)
-    (c.count-held.ensures ∙ ap (λ cells. length (numbers_in cells)) c.deref-5.ensures.value)
+    let now : Inside = record { election = a.election; image = c.close.new.image; cells = c.new.result; held = c.count-held.result } in
+    kept_as now (held_in (contents_of a).ballots c.new.result)
+    (made a.image.items now.image.items c.deref.result.now a.election.value c.numbers.result.now a.cells c.deref-2.result.now c.new.result
+    c.deref.ensures c.numbers.ensures.value (c.deref-2.ensures.value ∙ sym c.new.ensures) c.in_ok-close.ensures.shown)
+    (c.count-held.ensures ∙ ap (λ cells. length (numbers_in cells)) (c.deref-3.ensures.value ∙ sym c.new.ensures))
 
 pub returns-clause-rest : goal.returns-clause-rest
 returns-clause-rest c gone laid =
     let a = c.self.inside in
     let own = contents_of a in
-    let cells = c.args.cells.items in
+    let cells = c.new.result in
     let now = c.close.new.image.items in
     let contents : List Ballot → Contents = λ ballots. record { election = a.election.value; ballots = ballots } in
-    let shown = made a.image.items now c.deref-2.result.now a.election.value c.deref-3.result.now a.cells.items c.deref-4.result.now cells
-    c.deref-2.ensures c.deref-3.ensures.value c.deref-4.ensures.value c.in_ok-close.ensures.shown in
-    let rest = left a c.args.self.now gone cells c.self.view_is c.self.invariant laid in
+    let shown = made a.image.items now c.deref.result.now a.election.value c.numbers.result.now a.cells c.deref-2.result.now cells
+    c.deref.ensures c.numbers.ensures.value (c.deref-2.ensures.value ∙ sym c.new.ensures) c.in_ok-close.ensures.shown in
+    let rest = left a c.args.self.now gone cells c.self.view_is c.self.invariant (c.new.ensures ∙ laid) in
     let stays = stored_without own gone c.self.invariant.stored in
     ap contents (shown_by_number a.election.value (held_in own.ballots cells) now cells shown
     ∙ by_number-is (held_in own.ballots cells) (ballots_without own.ballots gone) rest.held.listing.distinct stays.set.ascending rest.same)

@@ -1,8 +1,8 @@
 use Rattle.std.proofs.Common.{drop}
+use Rattle.store_spec.proofs.Common.{header_size}
 use Rattle.body_store.proofs.Closed.without.Given as goal
 use Rattle.body_store.specs.ByNumber.{by_number}
 use Rattle.body_store.specs.Held.{held_in, spelled_in}
-use Rattle.store_spec.specs.Election.{header_size}
 
 -- the ballots of before, and those of these that stand in the cells
 abbrev pub ghost-close : goal.ghost-close

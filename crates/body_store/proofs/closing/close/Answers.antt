@@ -1,20 +1,17 @@
 use Rattle.std.proofs.Common.{◌≡◌, ℕ, ◌+◌, ◌*◌, List, length, sym, ap, subst, ◌∙◌, arith}
-use Rattle.std.proofs.lemmas.List.{with_items_is}
-use Rattle.std.proofs.lemmas.Result.{on_err_weaker, on_ok_weaker}
+use Rattle.store_spec.proofs.Common.{IsOrdered, cell_bytes, cell_size, header_size, home_of, on_ok_weaker, with_items_is}
+use Rattle.std.proofs.lemmas.Result.{on_err_weaker}
 use Rattle.body_store.proofs.Keeping.{few_cells, shown_layout, shown_size}
 use Rattle.body_store.proofs.Relaying.{cells_before, each_wide, empty_blank, laid_ordered, laid_size, new_in_cells, number_from, relaid, rest_held}
 use Rattle.body_store.proofs.closing.close.Goals as goal
+use Rattle.body_store.specs.Contents.{all_listed}
 use Rattle.body_store.specs.Held.{Shows}
-use Rattle.body_store.specs.Moves.{AreCells}
-use Rattle.store_spec.specs.Image.{cell_bytes}
-use Rattle.store_spec.specs.Election.{cell_size, header_size}
-use Rattle.store_spec.specs.Home.{home_of}
-use Rattle.store_spec.specs.Layout.{IsOrdered}
+use Rattle.body_store.specs.Moves.{AreImageCells}
 
 pub relay-requires : goal.relay-requires
 relay-requires g c =
     let e = c.args.election.now in
-    let more = c.args.ballots.now.ballots in
+    let more = all_listed c.args.lists.now in
     let bytes = c.deref_mut.result.now in
     let numbers = c.args.old_cells.now in
     let cells = c.args.cells.now in
@@ -26,6 +23,7 @@ relay-requires g c =
     let was = (shown_layout e g.change.old bytes numbers shown).size in (
       c.requires.1.0,
       record {
+        election = close.election;
         wide = each_wide e more g.change close;
         blank = empty_blank e more g.change close;
         new_ballots = new_in_cells e more g.change close;
@@ -52,12 +50,12 @@ returns-clause-shown g c =
     let close = c.requires.0 in
     let laid = c.requires.1.1.1 in
     let shown = subst (λ (bytes : List ℕ). Shows e g.change.old bytes numbers) (sym c.deref_mut.ensures.value) c.requires.1.1.0 in
-    let size = laid_size e g.change.rest cells close.election (rest_held e c.args.ballots.now.ballots g.change close) laid in
+    let size = laid_size e g.change.rest cells close.election (rest_held e (all_listed c.args.lists.now) g.change close) laid in
     on_ok_weaker c.relay.result
-    (λ (is : AreCells e (cell_bytes e g.change.all) cells now).
+    (λ (is : AreImageCells e (cell_bytes e g.change.all) cells now).
     let long : length now ≡ length bytes = is.long ∙ ap (λ n. header_size + n * cell_size e) size ∙ sym (shown_size e g.change.old bytes numbers shown) in
     subst (λ (bytes : List ℕ). Shows e g.change.rest bytes cells) (sym (with_items_is c.args.image.now now (omega (arith, long, c.deref_mut.ensures.len))))
-    (relaid e c.args.ballots.now.ballots g.change bytes numbers now cells close shown laid is.each c.relay.ensures.header long))
+    (relaid e (all_listed c.args.lists.now) g.change bytes numbers now cells close shown laid is.each c.relay.ensures.header long))
     c.relay.ensures.after
 
 pub returns-clause-unchanged : goal.returns-clause-unchanged

@@ -1,5 +1,5 @@
 use Rattle.body_store.proofs.closing.close.Given as goal
-use Rattle.store_spec.specs.Image.{cell_bytes}
+use Rattle.store_spec.proofs.Common.{cell_bytes}
 
 -- the cell of each ballot of before and of each new one
 abbrev pub ghost-relay : goal.ghost-relay

@@ -1,6 +1,6 @@
 use Rattle.std.proofs.Common.{◌≡◌, ◌≤◌, length, take}
+use Rattle.store_spec.proofs.Common.{numbers_in}
 use Rattle.body_store.proofs.lookup.count.Given as goal
-use Rattle.store_spec.specs.Layout.{numbers_in}
 
 abbrev pub invariant-loop-cell : goal.invariant-loop-cell
 invariant-loop-cell l = record {

@@ -1,11 +1,10 @@
 use Rattle.std.proofs.Common.{◌≡◌, ◌+◌, ◌*◌, Some, length, sym, ap, ◌∙◌, arith}
+use Rattle.store_spec.proofs.Common.{ballot_of, cell_size, header_size}
 use Rattle.body_store.proofs.Keeping.{cell_length, cell_spelled, cell_within, shown_layout, shown_size}
 use Rattle.body_store.proofs.Spelled.{none_with_zero}
 use Rattle.body_store.proofs.lookup.in_cell.Goals as goal
 use Rattle.ballot_record.specs.Format.{ballot_at}
 use Rattle.body_store.specs.Moves.{cell_in}
-use Rattle.store_spec.specs.Ballot.{ballot_of}
-use Rattle.store_spec.specs.Election.{cell_size, header_size}
 
 pub bounds-cells-cell : goal.bounds-cells-cell
 bounds-cells-cell g c = omega (arith, c.requires.1, (shown_layout c.args.election.now g.ballots c.args.image.now c.args.cells.now c.requires.0).size)

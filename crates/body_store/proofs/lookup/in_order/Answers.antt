@@ -1,11 +1,9 @@
 use Rattle.std.proofs.Common.{◌≡◌, ℕ, ◌<◌, List, length, get_or, map, sym, ap, ◌∙◌, arith, rules}
-use Rattle.std.proofs.lemmas.List.{get_or-map, length-map, take_all}
-use Rattle.std.proofs.lemmas.List.Sorted.{All-permutation, IsNonDecreasingBy-from_sort_by_key, IsPermutation-map}
-use Rattle.std.specs.List.Sorted.{IsNonDecreasing, IsNonDecreasingBy}
+use Rattle.store_spec.proofs.Common.{All-permutation, IsNonDecreasing, IsNonDecreasingBy, IsPermutation-map, ascending, get_or-map, length-map, numbers_in, take_all}
+use Rattle.std.proofs.lemmas.List.Sorted.{IsNonDecreasingBy-from_sort_by_key}
 use Rattle.body_store.proofs.lookup.in_order.Goals as goal
 use Rattle.body_store.specs.declared.lookup.Place.{Place}
 use Rattle.layout_def.proofs.Ascending.{ascending-IsPermutation, ascending_rising}
-use Rattle.store_spec.specs.Layout.{ascending, numbers_in}
 
 abbrev no_place : Place
 no_place = record { number = 0; cell = 0 }

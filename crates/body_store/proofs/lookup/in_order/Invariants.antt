@@ -1,7 +1,7 @@
 use Rattle.std.proofs.Common.{◌≡◌, map, take}
+use Rattle.store_spec.proofs.Common.{numbers_in}
 use Rattle.body_store.proofs.lookup.in_order.Given as goal
 use Rattle.body_store.specs.Places.{AreAt}
-use Rattle.store_spec.specs.Layout.{numbers_in}
 
 -- the numbers of the cells so far are listed
 abbrev pub invariant-loop-cell : goal.invariant-loop-cell

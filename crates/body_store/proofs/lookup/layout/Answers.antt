@@ -1,10 +1,7 @@
 use Rattle.std.proofs.Common.{◌≡◌, ◌≢◌, ℕ, List, All, AllPairs, subst, sym, ap, ◌∙◌, rules}
+use Rattle.store_spec.proofs.Common.{cell_count, home_of, layout_of, numbers_of}
 use Rattle.body_store.proofs.BallotSets.{has_room}
 use Rattle.body_store.proofs.lookup.layout.Goals as goal
-use Rattle.store_spec.specs.Ballot.{numbers_of}
-use Rattle.store_spec.specs.Election.{cell_count}
-use Rattle.store_spec.specs.Home.{home_of}
-use Rattle.store_spec.specs.Layout.{layout_of}
 
 pub build-requires-clause-distinct : goal.build-requires-clause-distinct
 build-requires-clause-distinct c =

@@ -1,5 +1,5 @@
 use Rattle.std.proofs.Common.{◌≡◌, ◌≢◌, ⊎_elim, sym, ap, ◌∙◌, arith}
-use Rattle.std.proofs.lemmas.Bool.{cases_eq}
+use Rattle.store_spec.proofs.Common.{ballot_of, cases_eq}
 use Rattle.std.specs.Option.{option_map}
 use Rattle.ballot_record.specs.Record.{ballot}
 use Rattle.body_store.proofs.Keeping.{shown_layout}
@@ -7,7 +7,6 @@ use Rattle.body_store.proofs.Lookups.{none_found}
 use Rattle.body_store.proofs.Spelled.{none_with_zero}
 use Rattle.body_store.proofs.lookup.with_number.Goals as goal
 use Rattle.layout_def.proofs.OrderedCells.{place_within}
-use Rattle.store_spec.specs.Ballot.{ballot_of}
 
 pub cell_with-requires : goal.cell_with-requires
 cell_with-requires g c = (shown_layout c.args.election.now g.ballots _ c.args.cells.now c.requires).ordered

@@ -1,9 +1,6 @@
 use Rattle.std.proofs.Common.{◌≡◌, ℕ, ◌<◌, ◌≤◌, ⊎_elim, get_or, ap, ◌∙◌, arith, rules}
-use Rattle.std.proofs.lemmas.Bool.{cases_lt}
-use Rattle.std.proofs.lemmas.List.{get_or_default}
+use Rattle.store_spec.proofs.Common.{IsNonDecreasingBy, cases_lt, get_or_default, nat_cmp, ordering_index}
 use Rattle.std.proofs.lemmas.List.Sorted.{answers_always}
-use Rattle.std.specs.List.Sorted.{IsNonDecreasingBy}
-use Rattle.std.specs.Ordering.{nat_cmp, ordering_index}
 use Rattle.body_store.proofs.Lookups.{cmp_equal, cmp_less, cmp_greater, cmp_rises}
 use Rattle.body_store.proofs.Planning.{among_at}
 use Rattle.body_store.specs.declared.moves.Waiting.{Waiting}

@@ -1,9 +1,8 @@
 use Rattle.std.proofs.Common.{◌≡◌, [], ◌++◌, ◌-◌, ◌*◌, List, ℕ, length, replicate, refl, sym, ap, ap₂, ◌∙◌, arith}
+use Rattle.store_spec.proofs.Common.{cell_bytes, cell_count, cell_size, header_of}
 use Rattle.ballot_record.proofs.CellFormat.{length-header_of}
 use Rattle.body_store.proofs.Images.{pieces_of_one}
 use Rattle.body_store.proofs.nothing.image.Goals as goal
-use Rattle.store_spec.specs.Election.{cell_count, cell_size}
-use Rattle.store_spec.specs.Image.{cell_bytes, header_of}
 
 pub lengthen-requires : goal.lengthen-requires
 lengthen-requires c =

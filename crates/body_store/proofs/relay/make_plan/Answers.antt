@@ -1,34 +1,30 @@
-use Rattle.std.proofs.Common.{ℕ, ◌≡◌, ◌≤◌, ◌+◌, ◌*◌, List, length, replicate, ap, subst, sym, ◌∙◌, arith, mul-le-mul}
-use Rattle.std.specs.List.{All, flat_map}
-use Rattle.store_spec.specs.Home.{home_of}
-use Rattle.ballot_record.proofs.BallotLists.{length-cells}
+use Rattle.std.proofs.Common.{ℕ, ◌+◌, ◌*◌, List, length, replicate, ap, sym, ◌∙◌, arith}
+use Rattle.store_spec.proofs.Common.{cell_size, header_size, home_of, numbers_of}
 use Rattle.ballot_record.proofs.BallotNumbers.{length-numbers_of}
-use Rattle.ballot_record.specs.Format.{largest_cell}
 use Rattle.body_store.proofs.Planning.{all_noted}
-use Rattle.body_store.specs.Moves.{AreRight, cell_in}
-use Rattle.store_spec.specs.Ballot.{numbers_of}
-use Rattle.store_spec.specs.Election.{Election, cell_size, header_size, most_ballots}
-use Rattle.store_spec.specs.Image.{ballot_bytes}
+use Rattle.body_store.specs.Moves.{AreArrivals, Arrivals, IsRelay, cell_in, arriving_bytes}
 use Rattle.body_store.proofs.relay.make_plan.Goals as goal
+
+-- the new ballots of what is to be written
+arrivals : (new : Arrivals) (home : ℕ → ℕ) (old cells image : List ℕ) → IsRelay new.election new.bytes_of home new.ballots old cells image → AreArrivals new
+arrivals new home old cells image given = record { election = given.election; wide = given.wide; each = given.new_ballots; few = given.few_ballots }
+
+pub count-front-requires : goal.count-front-requires
+count-front-requires g c = omega (arith, c.requires.1.1.few_ballots, ap length c.requires.1.0)
 
 pub take_in-requires : goal.take_in-requires
 take_in-requires g c =
-    let given = c.requires.1 in
-    let own = sym c.requires.0 in
-    let ballots = c.args.ballots.now.ballots in
-    let size = c.cell_bytes-size.ensures.size in (
+    let given = c.requires.1.1 in
+    let size = c.cell_bytes-size.ensures.size ∙ ap cell_size (sym c.requires.0) in (
       given.ordered,
       (
         given.few_cells,
         (
-          given.few_ballots,
+          arrivals g.new _ _ _ _ given,
           (
-            subst (λ (e : Election). All (λ b. ballot_bytes e b ≡ g.f b.number) ballots) own (λ k d lt. (given.new_ballots k d lt).1),
-            (
-              size ∙ ap cell_size own,
-              c.in_ok-plan.ensures.right g.f c.args.cells.now (flat_map (ballot_bytes c.args.ballots.now.election) ballots)
-                  (given.blank ∙ ap (λ size. replicate size 0) (sym size)),
-            ),
+            c.requires.1.0,
+            c.in_ok-plan.ensures.right g.new.bytes_of c.args.cells.now (arriving_bytes g.new)
+                (given.blank ∙ ap (λ size. replicate size 0) (sym size)),
           ),
         ),
       ),
@@ -36,31 +32,28 @@ take_in-requires g c =
 
 pub take_out-requires : goal.take_out-requires
 take_out-requires g c =
-    let given = c.requires.1 in
+    let given = c.requires.1.1 in
     let old = c.args.old_cells.now in
     let image = c.args.image.now in
-    let list = c.args.ballots.now in
-    let size = c.cell_bytes-size.ensures.size in
-    let narrow = c.cell_bytes-size.ensures.at_most in
-    let taken = c.in_ok-take_in.ensures in
-    let whole = length-cells list.election list.ballots c.len.ensures.election c.bytes.ensures.valid in
-    let most : length list.ballots * c.cell_bytes-size.result ≤ most_ballots * largest_cell = mul-le-mul given.few_ballots narrow in
-    let wide : length list.ballots * c.cell_bytes-size.result ≡ length list.ballots * cell_size list.election =
-    ap (λ size. length list.ballots * size) (size ∙ ap cell_size (sym c.requires.0)) in (
-      given.ordered,
+    let size = c.cell_bytes-size.ensures.size ∙ ap cell_size (sym c.requires.0) in
+    let taken = c.in_ok-take_in.ensures in (
+      arrivals g.new _ _ _ _ given,
       (
-        given.few_cells,
+        c.count-front.ensures ∙ ap length (sym c.requires.1.0),
         (
-          given.as_many,
+          size,
           (
-            given.before.long ∙ ap (λ size. header_size + length old * size) (sym size),
+            given.ordered,
             (
-              λ cell lt. ap (λ size. cell_in size cell image) size ∙ given.before.each cell (omega (arith, lt, given.as_many)),
+              given.few_cells,
               (
-                narrow,
+                given.as_many,
                 (
-                  subst (λ (front : List ℕ). AreRight g.f c.args.cells.now front c.take_in.new.plan.bytes.items c.take_in.new.plan.moves.items c.take_in.new.plan.far.items) (sym c.bytes.ensures.bytes) taken.right,
-                  omega (arith, ap length c.bytes.ensures.bytes, whole, most, wide, ap length taken.bytes, c.in_ok-plan.ensures.long, narrow),
+                  given.before.long ∙ ap (λ size. header_size + length old * size) (sym size),
+                  (
+                    λ cell lt. ap (λ size. cell_in size cell image) size ∙ given.before.each cell (omega (arith, lt, given.as_many)),
+                    (taken.right, ap length taken.bytes ∙ c.in_ok-plan.ensures.long),
+                  ),
                 ),
               ),
             ),
@@ -71,8 +64,8 @@ take_out-requires g c =
 
 pub find_far-requires-clause-noted : goal.find_far-requires-clause-noted
 find_far-requires-clause-noted g c cell lt changed =
-    let given = c.requires.1 in
-    let ballots = c.args.ballots.now.ballots in
+    let given = c.requires.1.1 in
+    let ballots = g.new.ballots in
     let out = c.in_ok-take_out.ensures in
     all_noted (home_of c.args.order.now.bits c.args.order.now.salt) (numbers_of ballots) c.args.old_cells.now
     c.args.cells.now c.take_out.new.plan cell given.ordered given.as_many
@@ -80,8 +73,4 @@ find_far-requires-clause-noted g c cell lt changed =
     out.left (given.known cell) lt changed
 
 pub returns-clause-right : goal.returns-clause-right
-returns-clause-right g c =
-    let plan = c.take_out.new.plan in
-    let list = c.args.ballots.now in
-    c.in_ok-find_far.ensures.right g.f (flat_map (ballot_bytes list.election) list.ballots)
-    (subst (λ (front : List ℕ). AreRight g.f c.args.cells.now front plan.bytes.items plan.moves.items plan.far.items) c.bytes.ensures.bytes c.in_ok-take_out.ensures.right)
+returns-clause-right g c = c.in_ok-find_far.ensures.right g.new.bytes_of (arriving_bytes g.new) c.in_ok-take_out.ensures.right

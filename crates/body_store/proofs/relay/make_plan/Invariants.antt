@@ -1,7 +1,7 @@
 use Rattle.body_store.proofs.relay.make_plan.Given as goal
 
 abbrev pub ghost-take_in : goal.ghost-take_in
-ghost-take_in g a = g.f
+ghost-take_in g a = g.new
 
 abbrev pub ghost-take_out : goal.ghost-take_out
-ghost-take_out g a = g.f
+ghost-take_out g a = g.new

@@ -1,9 +1,9 @@
 use Rattle.std.proofs.Common.{◌≡◌, ℕ, ◌+◌, ◌*◌, length, sym, ap, ◌∙◌, arith}
+use Rattle.store_spec.proofs.Common.{header_size}
 use Rattle.std.proofs.lemmas.Slice.{take-put_mid_below}
 use Rattle.ballot_record.proofs.CellFormat.{header_width}
 use Rattle.ballot_record.specs.declared.format.TheConstants.{HEADER_BYTES}
 use Rattle.body_store.proofs.Pieces.{others_same, this_put}
-use Rattle.store_spec.specs.Election.{header_size}
 use Rattle.body_store.proofs.relay.put_cell_at.Goals as goal
 
 -- where the cell that is written begins

@@ -1,57 +1,62 @@
-use Rattle.std.proofs.Common.{◌≡◌, ℕ, ◌*◌, ◌<◌, ◌≤◌, ⊎_elim, get_or, sym, subst, ◌∙◌, arith}
-use Rattle.std.proofs.lemmas.Bool.{cases_lt}
-use Rattle.std.specs.List.{flat_map}
-use Rattle.body_store.proofs.NewBallots.{few_bytes, new_waits, number_some}
-use Rattle.body_store.specs.Moves.{IsSought, WaitsIn}
-use Rattle.store_spec.specs.Ballot.{numbers_of}
-use Rattle.store_spec.specs.Image.{ballot_bytes}
+use Rattle.std.proofs.Common.{◌<◌, ◌≤◌, ⊎_elim, length, take, sym, ap, subst, ◌∙◌, arith}
+use Rattle.store_spec.proofs.Common.{cases_lt, take_all}
+use Rattle.ballot_record.specs.BallotList.{ListedBallots}
+use Rattle.body_store.proofs.Listed.{length-one_more, stands}
+use Rattle.body_store.specs.Contents.{all_listed}
+use Rattle.body_store.specs.Moves.{StandsFrom}
 use Rattle.body_store.proofs.relay.take_in.Goals as goal
 
-pub overflow_mul-place : goal.overflow_mul-place
-overflow_mul-place g c =
-    let made = c.len-count.ensures in
-    omega (
-      arith,
-      few_bytes c.args.ballots.now.election c.len-count.result c.args.size c.ballots.place made.election c.requires.1.1.1.1.0
-          (omega (arith, made.count, c.requires.1.1.0)) c.ballots-test.true,
-    )
+pub take_list-requires : goal.take_list-requires
+take_list-requires g c =
+    let list = c.list-item.result in
+    let lists = c.args.lists.now in
+    let first = length (all_listed (take c.lists.list-index lists)) in
+    let here : StandsFrom c.lists.first list.ballots g.new.ballots =
+    subst (λ first. StandsFrom first list.ballots g.new.ballots) (sym c.lists.invariant.first)
+    (subst (λ all. StandsFrom first list.ballots all) (sym c.requires.1.1.1.0)
+    (subst (λ (list : ListedBallots). StandsFrom first list.ballots (all_listed lists)) (sym c.list-item.is)
+    (stands lists c.lists.list-index list c.lists-test.true))) in
+    (c.requires.0, (c.requires.1.0, (c.requires.1.1.0, (here, c.lists.invariant.right))))
 
-pub note-requires : goal.note-requires
-note-requires g c =
-    let made = c.len-count.ensures in
-    let valid = made.valid in
+pub lists-preserved : goal.lists-preserved
+lists-preserved g c =
+    let before = c.lists.invariant in
+    let now = c.in_ok-take_list.ensures in
+    let list = c.list-item.result in
     record {
-      some = λ none. number_some c.args.ballots.now.election c.args.ballots.now.ballots c.ballots.place valid (omega (arith, c.ballots-test.true, made.count)) (sym c.number.ensures ∙ none);
-      ordered = c.requires.0;
-      few_cells = c.requires.1.0;
-      short = few_bytes c.args.ballots.now.election c.len-count.result c.args.size c.ballots.place made.election c.requires.1.1.1.1.0
-          (omega (arith, made.count, c.requires.1.1.0)) c.ballots-test.true;
-    }
-
-pub ballots-preserved : goal.ballots-preserved
-ballots-preserved g c =
-    let e = c.args.ballots.now.election in
-    let ballots = c.args.ballots.now.ballots in
-    let cells = c.args.cells.now in
-    let numbers = numbers_of ballots in
-    let at = c.ballots.place in
-    let made = c.len-count.ensures in
-    let plan = c.note.new.self in
-    let before = c.ballots.invariant in
-    let now = c.in_ok-note.ensures in
-    record {
-      right = now.right g.f (flat_map (ballot_bytes e) ballots)
-          (subst (λ v. WaitsIn g.f (flat_map (ballot_bytes e) ballots) c.ballots.plan.bytes.items (at * c.args.size) v) (sym c.number.ensures)
-          (new_waits e g.f ballots at c.args.size c.ballots.plan.bytes.items made.election made.valid c.requires.1.1.1.0 c.requires.1.1.1.1.0
-          (omega (arith, c.ballots-test.true, made.count))))
-          before.right;
+      first =
+          omega (
+            arith,
+            ap (λ (list : ListedBallots). length list.ballots) c.list-item.is,
+            length-one_more c.args.lists.now c.lists.list-index list c.lists-test.true,
+            before.first,
+            c.len-count.ensures.count,
+          );
+      right = now.right;
       sought = λ k lt.
           ⊎_elim
-          (λ (early : k < at). λ (cell : ℕ) same. now.still cell (before.sought k early cell same))
-          (λ (last : at ≤ k).
-          let here : at ≡ k = omega arith in
-          subst (λ k. IsSought cells plan (get_or numbers k 0)) here
-          (λ cell same. now.sought cell (same ∙ sym c.number.ensures)))
-          (cases_lt k at);
+          (λ (early : k < c.lists.first). λ cell same. now.still cell (before.sought k early cell same))
+          (λ (later : c.lists.first ≤ k). now.sought k later (omega (arith, lt, c.len-count.ensures.count)))
+          (cases_lt k c.lists.first);
       bytes = now.bytes ∙ before.bytes;
     }
+
+pub returns-clause-sought : goal.returns-clause-sought
+returns-clause-sought g c k lt =
+    let all = take_all c.lists.list-index c.args.lists.now (omega arith) in
+    c.lists.invariant.sought k
+    (omega (arith, lt, ap length c.requires.1.1.1.0, c.lists.invariant.first, ap (λ lists. length (all_listed lists)) all))
+
+pub overflow_add-first : goal.overflow_add-first
+overflow_add-first g c =
+    let list = c.list-item.result in
+    let here = stands c.args.lists.now c.lists.list-index list c.lists-test.true in
+    omega (
+      arith,
+      ap (λ (list : ListedBallots). length list.ballots) c.list-item.is,
+      here.within,
+      c.requires.1.1.0.few,
+      ap length c.requires.1.1.1.0,
+      c.lists.invariant.first,
+      c.len-count.ensures.count,
+    )

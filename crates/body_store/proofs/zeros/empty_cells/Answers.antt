@@ -1,5 +1,5 @@
 use Rattle.std.proofs.Common.{◌≡◌, ◌++◌, ◌+◌, List, ℕ, length, length-append, replicate, ap, ◌∙◌, arith}
-use Rattle.std.proofs.lemmas.List.{length-replicate, replicate-append-replicate, take-replicate}
+use Rattle.store_spec.proofs.Common.{length-replicate, replicate-append-replicate, take-replicate}
 use Rattle.body_store.proofs.zeros.empty_cells.Goals as goal
 
 pub loop-cells-preserved : goal.loop-cells-preserved

@@ -1,5 +1,5 @@
 use Rattle.std.proofs.Common.{◌≡◌, ◌++◌, ◌+◌, ◌-◌, List, ℕ, append_assoc, length, length-append, replicate, ap, ◌∙◌, arith}
-use Rattle.std.proofs.lemmas.List.{length-replicate, replicate-append-replicate, take-replicate}
+use Rattle.store_spec.proofs.Common.{length-replicate, replicate-append-replicate, take-replicate}
 use Rattle.body_store.proofs.zeros.lengthen.Goals as goal
 
 pub loop-bytes-preserved : goal.loop-bytes-preserved

@@ -1,11 +1,11 @@
 use Rattle.std.proofs.Common.{sym, ◌∙◌, inl, subst}
+use Rattle.store_spec.proofs.Common.{IsMediumOf, IsUnused}
 use Rattle.outside_io.proofs.Told.{told_holds}
 use Rattle.outside_io.specs.Told.{IfTold}
 use Rattle.crash_disk.proofs.Moments.{synced_first}
 use Rattle.checkpoint.proofs.Starting.{run_filling, run_looking}
 use Rattle.checkpoint.proofs.fresh.fill.Goals as goal
 use Rattle.checkpoint.specs.Unused.{IsUntouchedOr}
-use Rattle.store_spec.specs.Medium.{IsMediumOf, IsUnused}
 
 pub fill_unused-requires-clause-unused : goal.fill_unused-requires-clause-unused
 fill_unused-requires-clause-unused g c bytes sees =

@@ -1,13 +1,8 @@
 use Rattle.std.proofs.Common.{◌≡◌, ℕ, ◌*◌, List, [], ◌∷◌, ◌++◌, length, Option, sym, ◌∙◌, ap, subst, arith, length-append}
-use Rattle.std.specs.Prelude.{option_map}
+use Rattle.store_spec.proofs.Common.{Ballot, Election, bank_size, image_of, open_gate, option_map, overwritten}
 use Rattle.checkpoint.proofs.Pages.{on_ok, pages_begin, stored_fits}
 use Rattle.checkpoint.proofs.Starting.{made_told, run_opening, run_writing}
 use Rattle.checkpoint.proofs.fresh.fill_unused.Goals as goal
-use Rattle.store_spec.specs.Disk.{overwritten}
-use Rattle.store_spec.specs.Ballot.{Ballot}
-use Rattle.store_spec.specs.Election.{Election, bank_size}
-use Rattle.store_spec.specs.Image.{image_of}
-use Rattle.store_spec.specs.Medium.{open_gate}
 
 -- both banks have the image that was made
 both_made : (e : Election) (ballots : List Ballot) (made : List ℕ) (now old : Option (List ℕ)) → made ≡ image_of e ballots → now ≡ option_map (overwritten 0 (made ++ made)) old

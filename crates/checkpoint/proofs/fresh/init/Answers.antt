@@ -1,9 +1,8 @@
 use Rattle.std.proofs.Common.{ap, subst, List}
+use Rattle.store_spec.proofs.Common.{Ballot, IsMediumOf}
 use Rattle.body_store.specs.Contents.{Contents}
 use Rattle.checkpoint.proofs.fresh.init.Goals as goal
 use Rattle.outside_io.specs.Told.{IfTold}
-use Rattle.store_spec.specs.Ballot.{Ballot}
-use Rattle.store_spec.specs.Medium.{IsMediumOf}
 
 pub returns-in_ok-fill-in-Ok-clause-medium : goal.returns-in_ok-fill-in-Ok-clause-medium
 returns-in_ok-fill-in-Ok-clause-medium g c =

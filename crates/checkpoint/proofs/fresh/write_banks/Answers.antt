@@ -1,10 +1,9 @@
 use Rattle.std.proofs.Common.{◌≡◌, ◌∙◌, arith}
+use Rattle.store_spec.proofs.Common.{IsUnused, bank_size}
 use Rattle.checkpoint.proofs.Pages.{on_ok, pages_begin}
 use Rattle.checkpoint.proofs.Starting.{banks_told}
 use Rattle.checkpoint.proofs.fresh.write_banks.Goals as goal
 use Rattle.crash_disk.proofs.Moments.{goes_on_same, joined}
-use Rattle.store_spec.specs.Election.{bank_size}
-use Rattle.store_spec.specs.Medium.{IsUnused}
 
 pub write_each_page-requires-2-clause-begins : goal.write_each_page-requires-2-clause-begins
 write_each_page-requires-2-clause-begins g c y is =

@@ -1,12 +1,10 @@
 use Rattle.std.proofs.Common.{◌+◌, ◌*◌, ◌≤◌, length, ◌∙◌, arith, refl, rules}
-use Rattle.std.proofs.lemmas.Grind.{common_steps}
+use Rattle.store_spec.proofs.Common.{bank_size, common_steps, slice_range}
 use Rattle.bank_medium.specs.Banks.{bank_named, place_of}
-use Rattle.std.specs.Prelude.{slice_range}
 use Rattle.checkpoint.proofs.Pages.{page_long, page_next, whole_pages}
 use Rattle.checkpoint.proofs.Renewing.{bank_ends}
 use Rattle.checkpoint.proofs.Starting.{run_page}
 use Rattle.checkpoint.proofs.fresh.write_each_page.Goals as goal
-use Rattle.store_spec.specs.Election.{bank_size}
 
 pub returns-in_err-write_page-clause-any_moment : goal.returns-in_err-write_page-clause-any_moment
 returns-in_err-write_page-clause-any_moment g c =
@@ -36,8 +34,8 @@ loop-at-preserved g c =
       few = omega (arith, c.min-count.ensures, c.loop-at-test.true);
       written = page_next (g.D.Disk.seen c.write_page.new.disk) (g.D.Disk.seen c.loop-at.disk) (g.D.Disk.seen c.args.disk.now) image p at count within c.requires.begins c.loop-at.invariant.written c.in_ok-write_page.ensures.written;
       unused = run_page g.D.Disk.calls g.D.Disk.may_leave e c.args.disk.now c.loop-at.disk c.write_page.new.disk (p + at) k ends c.loop-at.invariant.unused c.write_page.ensures.crash_images;
-      no_fault = c.in_ok-write_page.ensures.fault.steady ∙ c.loop-at.invariant.no_fault;
-      leads = g.met.D.Disk.leads_on _ _ _ c.loop-at.invariant.leads c.write_page.ensures.leads;
+      no_fault = c.in_ok-write_page.ensures.calls.fault.steady ∙ c.loop-at.invariant.no_fault;
+      leads = g.met.D.Disk.leads_on _ _ _ c.loop-at.invariant.leads c.write_page.ensures.calls.leads;
     }
 
 pub returns-clause-written : goal.returns-clause-written

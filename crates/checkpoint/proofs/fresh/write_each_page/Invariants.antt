@@ -1,8 +1,6 @@
 use Rattle.std.proofs.Common.{◌≡◌, ◌-◌, ◌≤◌, take}
-use Rattle.std.specs.Prelude.{option_map}
+use Rattle.store_spec.proofs.Common.{IsUnused, LeavesOnly, option_map, overwritten}
 use Rattle.bank_medium.specs.Banks.{place_of}
-use Rattle.store_spec.specs.Disk.{overwritten, LeavesOnly}
-use Rattle.store_spec.specs.Medium.{IsUnused}
 use Rattle.checkpoint.proofs.fresh.write_each_page.Given as goal
 
 abbrev pub invariant-loop-at : goal.invariant-loop-at

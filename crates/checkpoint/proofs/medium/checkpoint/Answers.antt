@@ -1,18 +1,11 @@
 use Rattle.std.proofs.Common.{◌≡◌, ◌⊎◌, ℕ, List, Option, sym, subst, ap, ◌∙◌}
+use Rattle.store_spec.proofs.Common.{A, B, Ballot, Election, ForSome, HoldsSet, IsMediumOf, LeavesOnly, OnOk, image_of}
 use Rattle.checkpoint.proofs.Pages.{on_ok, stored_fits, told_back}
 use Rattle.checkpoint.proofs.TwoBanks.{medium_long, medium_open, mid_long, mid_open, renewed_told, run_first, run_second}
 use Rattle.checkpoint.proofs.medium.checkpoint.Goals as goal
 use Rattle.checkpoint.specs.Renewal.{IsHalfRenewed, IsRenewed}
 use Rattle.outside_io.specs.Told.{IfTold}
-use Rattle.std.specs.Prelude.{OnOk}
-use Rattle.store_spec.specs.Disk.{LeavesOnly}
-use Rattle.store_spec.specs.Image.{image_of}
-use Rattle.store_spec.specs.Medium.Bank.{A, B}
 use Rattle.body_store.specs.Contents.{Contents}
-use Rattle.store_spec.specs.Ballot.{Ballot}
-use Rattle.store_spec.specs.Election.{Election}
-use Rattle.store_spec.specs.Medium.{HoldsSet, IsMediumOf}
-use Rattle.std.specs.Option.{ForSome}
 
 -- a medium of the store's election is one of this, which is the same
 given : (store : Contents) (e : Election) (seen : Option (List ℕ)) → e ≡ store.election → ForSome seen (λ bytes. (old : List Ballot) × IsMediumOf store.election bytes old)

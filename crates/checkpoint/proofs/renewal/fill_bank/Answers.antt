@@ -1,12 +1,10 @@
 use Rattle.std.proofs.Common.{◌≡◌, ap, ◌∙◌, [], ◌∷◌}
-use Rattle.std.specs.Prelude.{option_map}
+use Rattle.store_spec.proofs.Common.{gate_place, open_gate, option_map, overwritten}
 use Rattle.bank_medium.specs.Banks.{bank_named, place_of}
 use Rattle.checkpoint.proofs.Filling.{run_opening, run_pages, run_settling}
 use Rattle.checkpoint.proofs.Pages.{on_ok}
 use Rattle.checkpoint.proofs.Renewing.{filled_told}
 use Rattle.checkpoint.proofs.renewal.fill_bank.Goals as goal
-use Rattle.store_spec.specs.Disk.{overwritten}
-use Rattle.store_spec.specs.Medium.{gate_place, open_gate}
 
 pub returns-in_err-write_pages-clause-any_moment : goal.returns-in_err-write_pages-clause-any_moment
 returns-in_err-write_pages-clause-any_moment g c old sees =
@@ -42,6 +40,6 @@ returns-clause-renewed g c =
     let image = c.args.made.now in
     on_ok (g.D.Disk.seen c.open_gate.new.disk ≡ option_map (overwritten (gate_place e bank) (open_gate ∷ [])) (g.D.Disk.seen c.settle.new.disk)) c.open_gate.result c.open_gate.ensures.written
     (λ opened. record {
-      told = c.open_gate.ensures.told ∙ c.settle.ensures.told ∙ c.write_pages.ensures.told;
+      told = c.open_gate.ensures.calls.told ∙ c.settle.ensures.calls.told ∙ c.write_pages.ensures.calls.told;
       related = filled_told e bank image (g.D.Disk.seen c.args.disk.now) (g.D.Disk.seen c.write_pages.new.disk) (g.D.Disk.seen c.settle.new.disk) (g.D.Disk.seen c.open_gate.new.disk) c.requires.whole c.requires.size c.in_ok-write_pages.ensures.written c.in_ok-settle.ensures.same_bytes opened;
     })

@@ -1,5 +1,5 @@
 use Rattle.std.proofs.Common.{ap, ◌∙◌, [], ◌∷◌}
-use Rattle.std.specs.Prelude.{option_map}
+use Rattle.store_spec.proofs.Common.{closed_gate, option_map, overwritten}
 use Rattle.bank_medium.specs.Banks.{bank_named, gate_of}
 use Rattle.checkpoint.proofs.Filling.{run_closing, run_filling}
 use Rattle.checkpoint.proofs.Pages.{on_ok}
@@ -7,8 +7,6 @@ use Rattle.checkpoint.proofs.Renewing.{closed_told}
 use Rattle.checkpoint.proofs.renewal.renew_bank.Goals as goal
 use Rattle.checkpoint.specs.Renewal.{IsRenewed}
 use Rattle.outside_io.specs.Told.{IfTold}
-use Rattle.store_spec.specs.Disk.{overwritten}
-use Rattle.store_spec.specs.Medium.{closed_gate}
 
 pub returns-in_err-close_gate-clause-any_moment : goal.returns-in_err-close_gate-clause-any_moment
 returns-in_err-close_gate-clause-any_moment g c old sees =
@@ -32,6 +30,6 @@ returns-clause-renewed g c =
     let image = c.args.made.now in
     on_ok (IfTold (g.D.Disk.seen c.close_gate.new.disk) (g.D.Disk.seen c.fill_bank.new.disk) (IsRenewed e bank image)) c.fill_bank.result c.fill_bank.ensures.renewed
     (λ filled. record {
-      told = filled.told ∙ c.close_gate.ensures.told;
+      told = filled.told ∙ c.close_gate.ensures.calls.told;
       related = closed_told e bank image (g.D.Disk.seen c.args.disk.now) (g.D.Disk.seen c.close_gate.new.disk) (g.D.Disk.seen c.fill_bank.new.disk) c.requires.size c.in_ok-close_gate.ensures.written filled.related;
     })

@@ -1,10 +1,8 @@
 use Rattle.std.proofs.Common.{◌≡◌, ◌+◌, ◌≤◌, ℕ, List, Option, length, refl, ◌∙◌, subst}
-use Rattle.std.specs.Prelude.{slice_range, option_map, IfSome}
+use Rattle.store_spec.proofs.Common.{IfSome, bank_size, option_map, overwritten, slice_range}
 use Rattle.bank_medium.specs.Banks.{place_of}
 use Rattle.checkpoint.proofs.Pages.{page_moment, page_same}
 use Rattle.checkpoint.proofs.renewal.renew_page.Goals as goal
-use Rattle.store_spec.specs.Disk.{overwritten}
-use Rattle.store_spec.specs.Election.{bank_size}
 
 -- a page that was read, and is the one that is to be written
 stands : (new old : Option (List ℕ)) (found page : List ℕ) (p n at j : ℕ) → new ≡ old → found ≡ page → j ≡ length page → at + length page ≤ n

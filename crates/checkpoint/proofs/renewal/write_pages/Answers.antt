@@ -1,11 +1,10 @@
 use Rattle.std.proofs.Common.{◌+◌, ◌≤◌, length, take, ◌∙◌, arith}
+use Rattle.store_spec.proofs.Common.{IsTorn, bank_size, overwritten}
 use Rattle.bank_medium.specs.Banks.{bank_named, place_of}
 use Rattle.checkpoint.proofs.Pages.{page_next, unread_told, whole_pages, written_told}
 use Rattle.checkpoint.proofs.Renewing.{bank_within}
 use Rattle.checkpoint.proofs.renewal.write_pages.Goals as goal
 use Rattle.crash_disk.proofs.Moments.{joined}
-use Rattle.store_spec.specs.Disk.{overwritten, IsTorn}
-use Rattle.store_spec.specs.Election.{bank_size}
 
 pub renew_page-requires-clause-unread : goal.renew_page-requires-clause-unread
 renew_page-requires-clause-unread g c =
@@ -33,9 +32,9 @@ loop-at-preserved g c =
       torn = λ old sees.
           let so_far = c.loop-at.invariant.torn old sees in
           joined g.D.Disk.calls g.D.Disk.may_leave c.args.disk.now c.loop-at.disk c.renew_page.new.disk (IsTorn p (bank_size e) old) so_far (c.renew_page.ensures.any_moment old so_far.now);
-      later = omega (arith, c.loop-at.invariant.later, c.renew_page.ensures.later);
-      no_fault = c.in_ok-renew_page.ensures.fault.steady ∙ c.loop-at.invariant.no_fault;
-      leads = g.met.D.Disk.leads_on _ _ _ c.loop-at.invariant.leads c.renew_page.ensures.leads;
+      later = omega (arith, c.loop-at.invariant.later, c.renew_page.ensures.calls.later);
+      no_fault = c.in_ok-renew_page.ensures.calls.fault.steady ∙ c.loop-at.invariant.no_fault;
+      leads = g.met.D.Disk.leads_on _ _ _ c.loop-at.invariant.leads c.renew_page.ensures.calls.leads;
     }
 
 pub returns-clause-written : goal.returns-clause-written

@@ -1,8 +1,6 @@
 use Rattle.std.proofs.Common.{◌≡◌, ◌-◌, ◌≤◌, List, ℕ, Some, take}
-use Rattle.std.specs.Prelude.{option_map}
+use Rattle.store_spec.proofs.Common.{IsTorn, LeavesOnly, bank_size, option_map, overwritten}
 use Rattle.bank_medium.specs.Banks.{place_of}
-use Rattle.store_spec.specs.Disk.{overwritten, IsTorn, LeavesOnly}
-use Rattle.store_spec.specs.Election.{bank_size}
 use Rattle.checkpoint.proofs.renewal.write_pages.Given as goal
 
 abbrev pub invariant-loop-at : goal.invariant-loop-at

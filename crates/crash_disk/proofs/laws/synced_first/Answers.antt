@@ -1,4 +1,4 @@
-use Rattle.std.specs.Prelude.{IsTrue}
+use Rattle.store_spec.proofs.Common.{IsTrue}
 use Rattle.crash_disk.proofs.Moments.{synced_first}
 use Rattle.crash_disk.proofs.laws.synced_first.Goals as goal
 

@@ -1,5 +1,5 @@
 use Rattle.crash_disk.proofs.Moments.{started, goes_on_write, goes_on_same, torn-after_write, settled-torn}
-use Rattle.store_spec.specs.Disk.{IsTorn}
+use Rattle.store_spec.proofs.Common.{IsTorn}
 use Rattle.crash_disk.proofs.laws.two_writes_and_a_sync.Goals as goal
 
 pub returns : goal.returns

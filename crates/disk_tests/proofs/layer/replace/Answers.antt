@@ -1,6 +1,6 @@
 use Rattle.std.proofs.Common.{length, arith}
+use Rattle.store_spec.proofs.Common.{IsTorn}
 use Rattle.crash_disk.proofs.Moments.{started, goes_on_write, goes_on_same, settled-torn}
-use Rattle.store_spec.specs.Disk.{IsTorn}
 use Rattle.disk_tests.proofs.layer.replace.Goals as goal
 
 pub returns-in_err-write_at-clause-any_moment : goal.returns-in_err-write_at-clause-any_moment

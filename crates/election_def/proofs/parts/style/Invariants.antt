@@ -1,5 +1,5 @@
 use Rattle.std.proofs.Common.{◌≡◌, ◌+◌, ◌^◌, ◌<◌, ◌≤◌, ◌↔◌, drop, map}
-use Rattle.std.specs.Prelude.{option_map}
+use Rattle.store_spec.proofs.Common.{option_map}
 use Rattle.serde_json.specs.View.{view}
 use Rattle.election_def.proofs.Styles.{set_from}
 use Rattle.election_def.proofs.parts.style.Given as goal

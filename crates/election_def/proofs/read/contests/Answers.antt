@@ -1,6 +1,5 @@
 use Rattle.std.proofs.Common.{◌+◌, ◌∷◌, [], sym, ap, ◌∙◌, subst, arith, map, take, List, refl}
-use Rattle.std.specs.List.{AllZip}
-use Rattle.std.proofs.lemmas.List.{map-append}
+use Rattle.store_spec.proofs.Common.{AllZip, map-append}
 use Rattle.serde_json.specs.View.{view}
 use Rattle.store_spec.specs.Election as definition
 use Rattle.ballot_record.specs.Contest.{contest_of, contests_of}

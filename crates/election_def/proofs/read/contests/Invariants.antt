@@ -1,5 +1,5 @@
 use Rattle.std.proofs.Common.{map, take}
-use Rattle.std.specs.List.{AllZip}
+use Rattle.store_spec.proofs.Common.{AllZip}
 use Rattle.serde_json.specs.View.{view}
 use Rattle.ballot_record.specs.Contest.{contests_of}
 use Rattle.election_def.specs.Text.{IsContestIn}

@@ -1,8 +1,8 @@
 use Rattle.std.proofs.Common.{◌≡◌, ℕ, List, length, rules, Err, Option, Some, IsSome, sym, ap, ◌∙◌, ap₂, ◌↔◌, subst, arith, is_ok, true≢false}
-use Rattle.std.specs.Prelude.{IfSome, IsSomeAnd, codes, option_and_then}
+use Rattle.store_spec.proofs.Common.{Election, IfSome, IsElection, codes, in_version}
+use Rattle.std.specs.Prelude.{IsSomeAnd, option_and_then}
 use Rattle.serde_json.specs.View.{view}
 use Rattle.serde_json.specs.Find.{as_str, get}
-use Rattle.store_spec.specs.Election.{Election, IsElection, in_version}
 use Rattle.ballot_record.specs.Contest.{contests_of}
 use Rattle.ballot_record.specs.Parts.{parts_of}
 use Rattle.ballot_record.specs.declared.contest.Contest.{Contest}

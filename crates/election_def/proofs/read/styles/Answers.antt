@@ -1,5 +1,5 @@
 use Rattle.std.proofs.Common.{◌+◌, sym, subst, arith, map, take, ℕ, List, refl}
-use Rattle.std.specs.List.{AllZip}
+use Rattle.store_spec.proofs.Common.{AllZip}
 use Rattle.serde_json.specs.View.{view}
 use Rattle.election_def.specs.Text.{IsStyleIn}
 use Rattle.election_def.proofs.Arrays.{array_more, array_end, array_none}

@@ -1,11 +1,9 @@
 use Rattle.std.proofs.Common.{◌≡◌, ℕ, ◌+◌, ◌-◌, ◌*◌, ◌≤◌, Bool, List, ◌++◌, length, replicate, take, drop, if◌then◌else◌, sym, ap, subst, ◌∙◌, arith}
-use Rattle.std.proofs.lemmas.Bool.{false≢true}
-use Rattle.std.proofs.lemmas.List.{length-append}
+use Rattle.store_spec.proofs.Common.{Election, bank_size, cell_size, false≢true, length-append}
 use Rattle.image_builder.proofs.FirstCells.{empties_next}
 use Rattle.image_builder.proofs.Judged.{IsNext, first_next, next_is}
 use Rattle.image_builder.proofs.cells.pass_empty.Goals as goal
-use Rattle.image_builder.specs.Cells.{AreFirst, ballots_at, end_of, numbers_read}
-use Rattle.store_spec.specs.Election.{Election, bank_size, cell_size}
+use Rattle.image_builder.specs.Cells.{AreFirst, end_of, numbers_read, spelled_ballots}
 
 -- a block of cells stands behind those so far
 block_is : (e : Election) (numbers reaches bank : List ℕ) (at width : ℕ) → AreFirst e numbers reaches bank → at ≡ end_of e numbers → 16 * width ≤ length bank - at → length bank ≤ bank_size e → width ≡ cell_size e
@@ -29,7 +27,7 @@ loop-at-preserved c =
     let bank = c.args.bank.now in
     let numbers = numbers_read l.cells in
     let reaches = l.cells.reaches.items in
-    let ballots = ballots_at e numbers bank in
+    let ballots = spelled_ballots e numbers bank in
     let width = c.cell_bytes-cell.result in
     let bytes = take (l.at + 16 * width - l.at) (drop l.at bank) in
     let is = block_is e numbers reaches bank l.at width l.invariant.read l.invariant.end c.loop-at-test.true c.requires.within c.cell_bytes-cell.ensures.size in

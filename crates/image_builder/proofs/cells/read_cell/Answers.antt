@@ -1,12 +1,10 @@
 use Rattle.std.proofs.Common.{◌≡◌, ℕ, ◌+◌, ◌-◌, List, ◌∷◌, [], ◌++◌, length, replicate, take, drop, sym, ap, subst, ◌∙◌, arith}
-use Rattle.std.proofs.lemmas.Bool.{false≢true}
-use Rattle.std.proofs.lemmas.List.{length_push}
+use Rattle.store_spec.proofs.Common.{cell_size, false≢true, length_push}
 use Rattle.body_store.proofs.Keeping.{few_cells}
 use Rattle.image_builder.proofs.FirstCells.{empty_next}
 use Rattle.image_builder.proofs.Judged.{first_next, one_is}
 use Rattle.image_builder.proofs.cells.read_cell.Goals as goal
-use Rattle.image_builder.specs.Cells.{AreFirst, ballots_at, numbers_read}
-use Rattle.store_spec.specs.Election.{cell_size}
+use Rattle.image_builder.specs.Cells.{AreFirst, numbers_read, spelled_ballots}
 
 pub push_reserved-requires : goal.push_reserved-requires
 push_reserved-requires c =
@@ -19,7 +17,7 @@ returns-then-is_empty-clause-read c =
     let bank = c.args.bank.now in
     let numbers = numbers_read c.args.cells.now in
     let reaches = c.args.cells.now.reaches.items in
-    let ballots = ballots_at e numbers bank in
+    let ballots = spelled_ballots e numbers bank in
     let bytes = take (c.args.at + c.args.size - c.args.at) (drop c.args.at bank) in
     let is = one_is e numbers reaches bank c.args.at c.args.size c.requires.read c.requires.at c.requires.whole c.requires.within c.requires.size in
     let long : length bytes ≡ cell_size e = omega (arith, is.long) in

@@ -1,6 +1,5 @@
 use Rattle.std.proofs.Common.{◌≡◌, ℕ, ◌+◌, ◌-◌, ◌<◌, ◌≤◌, List, ◌∷◌, [], ◌++◌, length, take, drop, refl, sym, ap, subst, subst₂, ◌∙◌, arith}
-use Rattle.std.proofs.lemmas.Bool.{false≢true}
-use Rattle.std.proofs.lemmas.List.{length_push}
+use Rattle.store_spec.proofs.Common.{Ballot, BeginsAnImage, Election, IsCellOf, IsElection, MayStand, cell_count, cell_size, false≢true, home_in, length_push, number_at}
 use Rattle.ballot_record.proofs.BallotNumbers.{length-numbers_of}
 use Rattle.ballot_record.proofs.CellFormat.{number_of_bytes}
 use Rattle.image_builder.proofs.FirstCells.{Goes, ballot_next, wrong_next}
@@ -9,28 +8,22 @@ use Rattle.image_builder.proofs.Reaches.{reach_as}
 use Rattle.image_builder.proofs.Wrong.{bad_bytes, misplaced, stands_at, stands_behind, too_many}
 use Rattle.image_builder.proofs.cells.read_right_cell.Goals as goal
 use Rattle.image_builder.proofs.cells.read_right_cell.Goals.{then-not-holds_ballot-via-then-not-holds_ballot, then-not-holds_ballot-via-else-not-holds_ballot+then-len-limit}
-use Rattle.image_builder.specs.Cells.{AreFirst, IsRefusedAt, ballots_at, end_of, numbers_read}
+use Rattle.image_builder.specs.Cells.{AreFirst, IsRefusedAt, end_of, numbers_read, spelled_ballots}
 use Rattle.image_builder.specs.declared.read.ImageFault.TheVariants.{Damaged}
 use Rattle.image_builder.specs.Reaches.{IsReach}
-use Rattle.store_spec.specs.Ballot.{Ballot}
-use Rattle.store_spec.specs.Damage.{BeginsAnImage, number_at}
-use Rattle.store_spec.specs.Election.{Election, IsElection, cell_count, cell_size}
-use Rattle.store_spec.specs.Home.{home_in}
-use Rattle.store_spec.specs.Image.{IsCellOf}
-use Rattle.store_spec.specs.Layout.{MayStand}
 
 -- the next cell is wrong, in every bank that goes on so
 wrong_here : (e : Election) (numbers reaches bank bytes : List ℕ) (at : ℕ) → IsElection e → AreFirst e numbers reaches bank → at ≡ end_of e numbers → IsNext e numbers bank bytes 1
-    → ((other : List ℕ) → Goes e numbers (ballots_at e numbers bank) bytes other → length numbers < cell_count e → ¬ BeginsAnImage e (length numbers + 1) other) → IsRefusedAt e (take (at + cell_size e) bank) (Damaged (length numbers))
+    → ((other : List ℕ) → Goes e numbers (spelled_ballots e numbers bank) bytes other → length numbers < cell_count e → ¬ BeginsAnImage e (length numbers + 1) other) → IsRefusedAt e (take (at + cell_size e) bank) (Damaged (length numbers))
 wrong_here e numbers reaches bank bytes at election first begins is wrong =
     let room : length numbers < cell_count e = omega (arith, is.room) in
     subst (λ (front : List ℕ). IsRefusedAt e front (Damaged (length numbers))) (up_to e numbers bank bytes at begins is)
-    (wrong_next e numbers reaches (ballots_at e numbers bank) bytes election first.cells (omega (arith, is.long)) room (λ other goes. wrong other goes room))
+    (wrong_next e numbers reaches (spelled_ballots e numbers bank) bytes election first.cells (omega (arith, is.long)) room (λ other goes. wrong other goes room))
 
 -- as many reaches as ballots
-reach_each : (e : Election) (numbers reaches bank : List ℕ) → AreFirst e numbers reaches bank → length reaches ≡ length (ballots_at e numbers bank)
+reach_each : (e : Election) (numbers reaches bank : List ℕ) → AreFirst e numbers reaches bank → length reaches ≡ length (spelled_ballots e numbers bank)
 reach_each e numbers reaches bank first =
-    omega (arith, first.cells.reached.count, ap length first.cells.same, length-numbers_of (ballots_at e numbers bank))
+    omega (arith, first.cells.reached.count, ap length first.cells.same, length-numbers_of (spelled_ballots e numbers bank))
 
 -- the number in front of a ballot's cell
 number_is : (e : Election) (bytes : List ℕ) (b : Ballot) (number : ℕ) → IsCellOf e bytes b → number ≡ number_at bytes → number ≡ b.number
@@ -54,7 +47,7 @@ returns-then-not-holds_ballot-clause-refused c _ =
     let at = c.args.at in
     let numbers = numbers_read c.args.cells.now in
     let reaches = c.args.cells.now.reaches.items in
-    let ballots = ballots_at e numbers bank in
+    let ballots = spelled_ballots e numbers bank in
     let bytes = take (at + c.cell_bytes.result - at) (drop at bank) in
     let is = one_is e numbers reaches bank at c.cell_bytes.result c.requires.read c.requires.at c.requires.whole c.requires.within c.cell_bytes.ensures.size in
     let size : at + c.cell_bytes.result - at ≡ cell_size e = omega (arith, c.cell_bytes.ensures.size) in
@@ -88,7 +81,7 @@ returns-in_default-clause-refused c _ =
     false≢true (c.in_default.ensures.stands.1 (stands_behind (home_in e) c.deref.result.now numbers read (length numbers) c.deref.ensures.value refl
     (subst (λ (n : ℕ). MayStand (home_in e) numbers n (length numbers)) (sym number) may))) in
     wrong_here e numbers reaches bank bytes c.args.at c.requires.election c.requires.read c.requires.at is
-    (λ other goes room. misplaced e other (length numbers) numbers (ballots_at e numbers bank) b c.requires.election room goes.read held.1.0 (goes.cell ∙ held.1.1) may_not)
+    (λ other goes room. misplaced e other (length numbers) numbers (spelled_ballots e numbers bank) b c.requires.election room goes.read held.1.0 (goes.cell ∙ held.1.1) may_not)
 
 pub returns-clause-read : goal.returns-clause-read
 returns-clause-read c _ =
@@ -96,7 +89,7 @@ returns-clause-read c _ =
     let bank = c.args.bank.now in
     let numbers = numbers_read c.args.cells.now in
     let reaches = c.args.cells.now.reaches.items in
-    let ballots = ballots_at e numbers bank in
+    let ballots = spelled_ballots e numbers bank in
     let bytes = take (c.args.at + c.cell_bytes.result - c.args.at) (drop c.args.at bank) in
     let is = one_is e numbers reaches bank c.args.at c.cell_bytes.result c.requires.read c.requires.at c.requires.whole c.requires.within c.cell_bytes.ensures.size in
     let held = c.holds_ballot.ensures.held.0 c.if-not-holds_ballot.false in

@@ -1,10 +1,8 @@
 use Rattle.std.proofs.Common.{◌+◌, ◌≤◌, length, take, drop, sym, ◌∙◌, arith}
-use Rattle.std.proofs.lemmas.List.{length-take-le, take-append-drop}
-use Rattle.std.proofs.lemmas.Result.{err_from_is_err_and}
+use Rattle.store_spec.proofs.Common.{cell_size, err_from_is_err_and, length-take-le, take-append-drop}
 use Rattle.image_builder.proofs.FirstCells.{refused_behind}
 use Rattle.image_builder.proofs.cells.read_whole_cells.Goals as goal
 use Rattle.image_builder.specs.Cells.{end_read}
-use Rattle.store_spec.specs.Election.{cell_size}
 use Rattle.ballot_record.proofs.CellFormat.{number_fits}
 
 pub returns-in_err-read_cell-clause-refused : goal.returns-in_err-read_cell-clause-refused

@@ -1,7 +1,7 @@
 use Rattle.std.proofs.Common.{ap}
+use Rattle.store_spec.proofs.Common.{image_of}
 use Rattle.ballot_record.proofs.BuildLaws.{any_order_builds, same_lines_build, same_set}
 use Rattle.image_builder.proofs.laws.one_image_of_lines.Goals as goal
-use Rattle.store_spec.specs.Image.{image_of}
 
 pub returns-clause-any_order : goal.returns-clause-any_order
 returns-clause-any_order c e lines others xs ys p first second =

@@ -1,6 +1,5 @@
 use Rattle.std.proofs.Common.{◌≡◌, ◌++◌, [], List, ℕ, sym, ap, subst, ◌∙◌}
-use Rattle.std.proofs.lemmas.List.{append-nil}
-use Rattle.std.proofs.lemmas.Result.{err_from_is_err_and}
+use Rattle.store_spec.proofs.Common.{append-nil, err_from_is_err_and}
 use Rattle.image_builder.proofs.Judged.{header_of_image, only_memory}
 use Rattle.image_builder.proofs.OneSet.{one_set}
 use Rattle.image_builder.proofs.reader.read_image.Goals as goal

@@ -1,5 +1,5 @@
 use Rattle.std.proofs.Common.{◌≡◌, ◌+◌, ◌-◌, length, sym, ◌∙◌, arith}
-use Rattle.std.proofs.lemmas.List.{take_all}
+use Rattle.store_spec.proofs.Common.{take_all}
 use Rattle.image_builder.proofs.FirstZeros.{zeros_front, zeros_on, zeros_within}
 use Rattle.image_builder.proofs.zeros.is_empty_by.Goals as goal
 

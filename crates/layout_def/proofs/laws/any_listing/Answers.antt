@@ -1,5 +1,5 @@
 use Rattle.std.proofs.Common.{ap, sym}
-use Rattle.store_spec.specs.Layout.{laid_out}
+use Rattle.store_spec.proofs.Common.{laid_out}
 use Rattle.layout_def.proofs.Ascending.{ascending-IsPermutation}
 use Rattle.layout_def.proofs.laws.any_listing.Goals as goal
 

@@ -1,6 +1,6 @@
 use Rattle.std.proofs.Common.{◌≢◌, ℕ, ◌<◌, slice_index}
+use Rattle.store_spec.proofs.Common.{MayStand}
 use Rattle.layout_def.proofs.search.is_ordered.Given as goal
-use Rattle.store_spec.specs.Layout.{MayStand}
 
 abbrev pub invariant-loop-place : goal.invariant-loop-place
 invariant-loop-place g l =

@@ -1,11 +1,9 @@
 use Rattle.std.proofs.Common.{◌≡◌, ◌≢◌, ℕ, ◌⊎◌, ◌<◌, inl, inr, ⊎_elim, List, length, get_or, set, sym, ap, ◌∙◌, subst, arith}
-use Rattle.std.proofs.lemmas.Bool.{cases_eq}
-use Rattle.std.proofs.lemmas.List.{set-get_or}
+use Rattle.store_spec.proofs.Common.{IsOrdered, MayStand, cases_eq, set-get_or}
 use Rattle.layout_def.proofs.Carried.{displaced_about, nothing_left}
 use Rattle.layout_def.proofs.Displaced.{displaced_ordered, displaced_stands_on, passes_greater, stands_at_home}
 use Rattle.layout_def.proofs.walk.put.Goals as goal
 use Rattle.layout_def.proofs.walk.put.Goals.{then-found-eq0-via-then-found-eq0, then-found-eq0-via-else-found-eq0+then-found-carried-2}
-use Rattle.store_spec.specs.Layout.{IsOrdered, MayStand}
 
 -- nothing was written yet, and the number may stand at its home
 pub loop-place-init : goal.loop-place-init

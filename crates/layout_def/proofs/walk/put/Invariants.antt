@@ -1,7 +1,7 @@
 use Rattle.std.proofs.Common.{◌≢◌, ℕ, ◌↔◌}
+use Rattle.store_spec.proofs.Common.{IsOrdered, MayStand}
 use Rattle.layout_def.proofs.Carried.{IsAbout}
 use Rattle.layout_def.proofs.walk.put.Given as goal
-use Rattle.store_spec.specs.Layout.{IsOrdered, MayStand}
 
 abbrev pub invariant-loop-place : goal.invariant-loop-place
 invariant-loop-place g l = record {

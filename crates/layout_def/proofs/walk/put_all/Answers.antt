@@ -1,8 +1,8 @@
 use Rattle.std.proofs.Common.{ℕ, List, length, sym, subst, arith}
+use Rattle.store_spec.proofs.Common.{IsOrdered}
 use Rattle.layout_def.proofs.Carried.{HoldsFirst, first_also, first_are_all, holds_none}
 use Rattle.layout_def.proofs.LaidOut.{none_ordered}
 use Rattle.layout_def.proofs.walk.put_all.Goals as goal
-use Rattle.store_spec.specs.Layout.{IsOrdered}
 
 -- empty cells hold none of the numbers
 pub loop-number-init : goal.loop-number-init

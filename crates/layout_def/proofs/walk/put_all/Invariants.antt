@@ -1,6 +1,6 @@
 use Rattle.layout_def.proofs.Carried.{HoldsFirst}
 use Rattle.layout_def.proofs.walk.put_all.Given as goal
-use Rattle.store_spec.specs.Layout.{IsOrdered}
+use Rattle.store_spec.proofs.Common.{IsOrdered}
 
 abbrev pub invariant-loop-number : goal.invariant-loop-number
 invariant-loop-number g l = record {

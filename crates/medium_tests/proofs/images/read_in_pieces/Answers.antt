@@ -1,10 +1,7 @@
 use Rattle.std.proofs.Common.{◌≡◌, ◌++◌, List, ℕ, length, drop, take, sym, ap, subst, ◌∙◌, refl, arith}
-use Rattle.std.proofs.lemmas.Grind.{common_steps}
-use Rattle.std.proofs.lemmas.List.{append-nil, append_assoc, length-append, take-append-drop, take_all, take_at}
-use Rattle.std.proofs.lemmas.Result.{err_from_is_err_and}
+use Rattle.store_spec.proofs.Common.{IsImageOf, append-nil, append_assoc, common_steps, err_from_is_err_and, length-append, take-append-drop, take_all, take_at}
 use Rattle.medium_tests.proofs.images.read_in_pieces.Goals as goal
 use Rattle.image_builder.specs.Reading.{IsRefusedBank}
-use Rattle.store_spec.specs.Image.{IsImageOf}
 
 -- a list that is parted in two
 parted : (front rest first last : List ℕ) (n : ℕ) → first ≡ take n rest → last ≡ drop n rest → (front ++ first) ++ last ≡ front ++ rest

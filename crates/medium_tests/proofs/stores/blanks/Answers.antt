@@ -1,12 +1,8 @@
 use Rattle.std.proofs.Common.{◌≢◌, ℕ, ◌^◌, ◌<◌, List, [], ◌∷◌, get_or, All, length, map, sym, subst, ap, ◌∙◌, arith}
-use Rattle.std.proofs.lemmas.List.Elements.{All-cons, All-nil}
-use Rattle.std.proofs.lemmas.List.Kept.{AllPairs-cons}
+use Rattle.store_spec.proofs.Common.{All-cons, All-nil, AllPairs-cons, Ballot, IsListing, IsValid, example, get_or_default, length-map, take_all}
 use Rattle.body_store.proofs.Blank.{blank, blank_listing}
 use Rattle.medium_tests.proofs.stores.blanks.Goals as goal
 use Rattle.ballot_record.specs.BallotList.{ListedBallots}
-use Rattle.std.proofs.lemmas.List.{get_or_default, length-map, take_all}
-use Rattle.store_spec.specs.Ballot.{Ballot, IsListing, IsValid}
-use Rattle.store_spec.specs.Election.{example}
 
 pub returns-clause-blank : goal.returns-clause-blank
 returns-clause-blank c =

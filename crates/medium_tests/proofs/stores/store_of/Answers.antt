@@ -1,8 +1,7 @@
 use Rattle.std.proofs.Common.{List, subst}
+use Rattle.store_spec.proofs.Common.{Ballot, IsPermutation}
 use Rattle.body_store.proofs.Blank.{blanks_stored}
 use Rattle.medium_tests.proofs.stores.store_of.Goals as goal
-use Rattle.std.specs.List.Sorted.{IsPermutation}
-use Rattle.store_spec.specs.Ballot.{Ballot}
 
 pub returns-clause-blank : goal.returns-clause-blank
 returns-clause-blank c =

@@ -1,16 +1,16 @@
 use Rattle.std.proofs.Common.{◌∙◌}
+use Rattle.store_spec.proofs.Common.{disk_model}
 use Rattle.merge_commands.proofs.Merged.{told_merged}
 use Rattle.merge_commands.proofs.merge.merge.Goals as goal
 use Rattle.outside_io.specs.Outside.{output}
-use Rattle.store_spec.specs.Disk.{disk_model}
 
 pub returns : goal.returns
 returns g c =
     let old = output g.K.Sink.taken g.K.Sink.faults c.args.out.now in
-    let new = output g.K.Sink.taken g.K.Sink.faults c.tell.new.out in
+    let new = output g.K.Sink.taken g.K.Sink.faults c.write_out.new.out in
     record {
-      tells = told_merged (disk_model g.D.Disk.seen g.D.Disk.calls g.D.Disk.may_leave g.D.Disk.faults) c.args.election.now c.tell.result old new c.args.disk.now c.united.new.disk c.args.more.now c.united.new.more
-          c.in_ok-count.count c.deref.result.now c.in_ok-count.ensures.merged (c.deref.ensures.value ∙ c.in_ok-line.ensures) c.tell.ensures.all c.tell.ensures.some c.tell.ensures.failed c.tell.ensures.fault;
+      tells = told_merged (disk_model g.D.Disk.seen g.D.Disk.calls g.D.Disk.may_leave g.D.Disk.faults) c.args.election.now c.write_out.result old new c.args.disk.now c.united.new.disk c.args.more.now c.united.new.more
+          c.in_ok-count.count c.deref.result.now c.in_ok-count.ensures.merged (c.deref.ensures.value ∙ c.in_ok-line.ensures) c.write_out.ensures.all c.write_out.ensures.some c.write_out.ensures.failed c.write_out.ensures.fault;
       crashes = c.in_ok-count.ensures.crashes;
       reads = c.in_ok-count.ensures.reads;
       told = c.in_ok-count.ensures.told;

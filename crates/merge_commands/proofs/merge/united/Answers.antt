@@ -1,11 +1,11 @@
 use Rattle.std.proofs.Common.{◌≡◌, refl}
+use Rattle.store_spec.proofs.Common.{disk_model}
 use Rattle.merge_commands.proofs.merge.united.Goals as goal
 use Rattle.merge_commands.specs.Merge.{MergesNone}
 use Rattle.recovery.proofs.OneByOne.{handed_on, zip_same}
 use Rattle.recovery.proofs.OnlyReading.{nothing_called}
 use Rattle.recovery.specs.ReadsOnly.{WritesNothing}
 use Rattle.run_outcome.specs.declared.status.Status.TheVariants as status
-use Rattle.store_spec.specs.Disk.{disk_model}
 
 pub returns-in_err-scratch-clause-reads : goal.returns-in_err-scratch-clause-reads
 returns-in_err-scratch-clause-reads g c =

@@ -1,11 +1,8 @@
 use Rattle.std.proofs.Common.{◌<◌, length, get_or, sym, subst, arith}
-use Rattle.std.proofs.lemmas.List.Elements.{All-nil, All-push}
-use Rattle.std.specs.Prelude.{slice_range}
-use Rattle.std.specs.List.{All}
+use Rattle.store_spec.proofs.Common.{All, All-nil, All-push, Ballot, slice_range}
 use Rattle.ballot_record.proofs.BallotNumbers.{no_ballot, number_at}
 use Rattle.merge_media.proofs.Ranges.{range_more, range_none}
 use Rattle.merge_media.proofs.adding.first_not_below.Goals as goal
-use Rattle.store_spec.specs.Ballot.{Ballot}
 
 pub loop-at-init : goal.loop-at-init
 loop-at-init c =

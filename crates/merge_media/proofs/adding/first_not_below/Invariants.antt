@@ -1,6 +1,5 @@
 use Rattle.std.proofs.Common.{◌<◌}
-use Rattle.std.specs.Prelude.{slice_range}
-use Rattle.std.specs.List.{All}
+use Rattle.store_spec.proofs.Common.{All, slice_range}
 use Rattle.merge_media.proofs.adding.first_not_below.Given as goal
 
 -- those before are below it

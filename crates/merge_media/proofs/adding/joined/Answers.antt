@@ -1,14 +1,11 @@
 use Rattle.std.proofs.Common.{◌≡◌, ◌++◌, is_some, get_or, sym, ap, subst, ◌∙◌, arith}
-use Rattle.std.specs.Prelude.{slice_range}
-use Rattle.std.proofs.lemmas.List.Elements.{All-contains}
+use Rattle.store_spec.proofs.Common.{All-contains, Ballot, Election, IsValid, slice_range}
 use Rattle.ballot_record.proofs.Lookups.{found_in}
 use Rattle.ballot_record.specs.BallotList.{ListedBallots}
 use Rattle.ballot_record.specs.Record.{ballot}
 use Rattle.body_store.specs.declared.lookup.Place.{Place}
 use Rattle.merge_media.proofs.Running.{IsRun, below_next, found_at, found_is, listed_all, numbered, run_begins, run_ends, run_on}
 use Rattle.merge_media.proofs.adding.joined.Goals as goal
-use Rattle.store_spec.specs.Ballot.{Ballot, IsValid}
-use Rattle.store_spec.specs.Election.{Election}
 
 abbrev nowhere : Place
 nowhere = record { number = 0; cell = 0 }

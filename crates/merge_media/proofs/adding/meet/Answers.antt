@@ -1,4 +1,5 @@
 use Rattle.std.proofs.Common.{◌≡◌, ◌≢◌, ◌<◌, [], ◌∷◌, ◌++◌, Some, length, get_or, drop, sym, ap, subst, ◌∙◌, arith}
+use Rattle.store_spec.proofs.Common.{numbers_of}
 use Rattle.ballot_record.proofs.BallotLists.{number_at_place}
 use Rattle.ballot_record.proofs.BallotSets.{Ascend}
 use Rattle.ballot_record.specs.BallotList.{ListedBallots}
@@ -10,7 +11,6 @@ use Rattle.merge_media.proofs.Same.{other_ballot, same_ballot}
 use Rattle.merge_media.proofs.adding.meet.Goals as goal
 use Rattle.merge_media.proofs.adding.meet.Goals.{then-next-len-via-then-next-len, then-next-len-via-else-next-len+then-number-cast}
 use Rattle.merge_media.specs.Union.{IsJoinedOf}
-use Rattle.store_spec.specs.Ballot.{numbers_of}
 
 pub returns-then-next-len-clause-joined : goal.returns-then-next-len-clause-joined
 returns-then-next-len-clause-joined c set sets j =

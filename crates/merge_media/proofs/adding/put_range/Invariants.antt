@@ -1,5 +1,5 @@
 use Rattle.std.proofs.Common.{◌≡◌, ◌++◌}
-use Rattle.std.specs.Prelude.{slice_range}
+use Rattle.store_spec.proofs.Common.{slice_range}
 use Rattle.merge_media.proofs.adding.put_range.Given as goal
 
 -- those before were put

@@ -1,4 +1,4 @@
-use Rattle.std.proofs.lemmas.List.Sorted.{IsPermutation-sym}
+use Rattle.store_spec.proofs.Common.{IsPermutation-sym}
 use Rattle.merge_media.proofs.Standing.{disputed_within}
 use Rattle.merge_media.proofs.Unions.{permuted, union_same}
 use Rattle.merge_media.proofs.laws.any_order.Goals as goal

@@ -1,7 +1,5 @@
 use Rattle.std.proofs.Common.{◌≡◌, ◌+◌, ◌++◌, ◌∷◌, [], Some, get_or, refl, sym, ap, subst, set, take, ◌∙◌, arith}
-use Rattle.std.proofs.lemmas.List.{take-set}
-use Rattle.std.proofs.lemmas.Option.{get_or_from_slice_get}
-use Rattle.std.specs.List.{AllZip}
+use Rattle.store_spec.proofs.Common.{AllZip, disk_model, get_or_from_slice_get, take-set}
 use Rattle.merge_media.proofs.Media.{joined_behind, none_failed, refuses_further}
 use Rattle.merge_media.proofs.merging.join_each.Goals as goal
 use Rattle.merge_media.specs.Merging.{RefusesFurther}
@@ -9,7 +7,6 @@ use Rattle.recovery.proofs.OneByOne.{handed_on, rest_still, stands_now, stood_th
 use Rattle.recovery.proofs.OnlyReading.{nothing_called}
 use Rattle.recovery.specs.Media.{HoldsIfTold}
 use Rattle.recovery.specs.ReadsOnly.{WritesNothing}
-use Rattle.store_spec.specs.Disk.{disk_model}
 
 pub loop-place-init : goal.loop-place-init
 loop-place-init g c = record {

@@ -1,12 +1,9 @@
 use Rattle.std.proofs.Common.{◌≡◌, ◌+◌, ◌*◌, ◌≤◌, List, [], ◌∷◌, length, take, drop}
-use Rattle.std.specs.List.{AllZip}
+use Rattle.store_spec.proofs.Common.{AllZip, Ballot, disk_model, most_ballots}
 use Rattle.merge_media.proofs.merging.join_each.Given as goal
 use Rattle.merge_media.specs.Union.{Joins}
 use Rattle.recovery.specs.Media.{EachHolds, NoneRose}
 use Rattle.recovery.specs.ReadsOnly.{WritesNothing}
-use Rattle.store_spec.specs.Ballot.{Ballot}
-use Rattle.store_spec.specs.Disk.{disk_model}
-use Rattle.store_spec.specs.Election.{most_ballots}
 
 -- the media before this one were joined, and those from it on are as they were
 abbrev pub invariant-loop-place : goal.invariant-loop-place

@@ -1,4 +1,5 @@
 use Rattle.std.proofs.Common.{◌∷◌, length, sym, ap, subst, ◌∙◌, arith}
+use Rattle.store_spec.proofs.Common.{IsElection, disk_model}
 use Rattle.body_store.specs.Contents.{Contents}
 use Rattle.merge_media.proofs.Merged.{begun_run, merged_run, refuses_all, refuses_begun, refuses_joining}
 use Rattle.merge_media.proofs.merging.merge.Goals as goal
@@ -7,8 +8,6 @@ use Rattle.recovery.proofs.OneByOne.{handed_on, zip_same}
 use Rattle.recovery.proofs.OnlyReading.{nothing_called}
 use Rattle.recovery.proofs.Recovered.{medium_now, medium_then}
 use Rattle.recovery.specs.ReadsOnly.{WritesNothing}
-use Rattle.store_spec.specs.Disk.{disk_model}
-use Rattle.store_spec.specs.Election.{IsElection}
 
 pub returns-in_err-union-clause-any_moment : goal.returns-in_err-union-clause-any_moment
 returns-in_err-union-clause-any_moment g c bytes set sees holds =
@@ -81,7 +80,7 @@ returns-in-Ok-clause-merged g c =
       medium = medium_then c.args.election.now store.election begun.0 store.ballots (g.A.Disk.seen c.args.disk.now) (g.A.Disk.seen c.begin.new.disk) (g.A.Disk.seen c.checkpoint.new.disk)
           c.in_ok-store.ensures.election begun.1.medium c.in-Ok.ensures.medium;
       settled = c.in-Ok.ensures.settled;
-      no_fault = c.in-Ok.ensures.fault.steady ∙ begun.1.no_fault;
+      no_fault = c.in-Ok.ensures.calls.fault.steady ∙ begun.1.no_fault;
       none_rose = c.in_ok-join_each.ensures.steady;
     }
 
@@ -106,4 +105,4 @@ returns-clause-any_moment g c bytes set sees holds =
     (c.in_ok-store.ensures.union (begun.0 ∷ joined.0) (joined.2 begun.0 begun.2)) c.begin.ensures.called (c.in_ok-union.ensures.once_synced bytes sees) c.checkpoint.ensures.any_moment
 
 pub returns-clause-refused : goal.returns-clause-refused
-returns-clause-refused g c = (λ lt. let more = c.in-Err.ensures.fault.rose lt in omega (arith, c.begin.ensures.never_falls), c.in_ok-join_each.ensures.steady)
+returns-clause-refused g c = (λ lt. let more = c.in-Err.ensures.calls.fault.rose lt in omega (arith, c.begin.ensures.never_falls), c.in_ok-join_each.ensures.steady)

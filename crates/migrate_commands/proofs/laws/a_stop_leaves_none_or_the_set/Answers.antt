@@ -1,6 +1,6 @@
 use Rattle.migrate_commands.proofs.Stops.{left_holds, left_unused}
 use Rattle.migrate_commands.proofs.laws.a_stop_leaves_none_or_the_set.Goals as goal
-use Rattle.store_spec.specs.Disk.{disk_model}
+use Rattle.store_spec.proofs.Common.{disk_model}
 
 pub returns-clause-holds : goal.returns-clause-holds
 returns-clause-holds g c e from before after medium bytes set valid reads old sees none fills =

@@ -1,5 +1,5 @@
 use Rattle.std.proofs.Common.{◌++◌, ℕ, List, replicate, ap, ◌∙◌, arith}
-use Rattle.std.proofs.lemmas.List.{take-replicate}
+use Rattle.store_spec.proofs.Common.{take-replicate}
 use Rattle.ballot_record.proofs.CellFormat.{largest_cell_width}
 use Rattle.migrate_medium.proofs.carrying.push_empty.Goals as goal
 

@@ -1,13 +1,9 @@
 use Rattle.std.proofs.Common.{◌≡◌, ◌++◌, ℕ, List, append_assoc, get_or, length, replicate, take, ap, ◌∙◌, arith}
-use Rattle.std.proofs.lemmas.List.{take_all}
-use Rattle.std.specs.Option.{option_map_or}
-use Rattle.std.specs.Prelude.{flat_map, slice_index}
+use Rattle.store_spec.proofs.Common.{Election, ballot_bytes, ballot_of, cell_bytes, cell_size, cells_of, header_of, option_map_or, slice_index, take_all}
+use Rattle.std.specs.Prelude.{flat_map}
 use Rattle.body_store.proofs.Images.{pieces_more}
 use Rattle.migrate_medium.proofs.Versions.{same_cells, valid_in_cell}
 use Rattle.migrate_medium.proofs.carrying.widened.Goals as goal
-use Rattle.store_spec.specs.Ballot.{ballot_of}
-use Rattle.store_spec.specs.Election.{Election, cell_size}
-use Rattle.store_spec.specs.Image.{ballot_bytes, cell_bytes, cells_of, header_of}
 
 pub push_cell-requires : goal.push_cell-requires
 push_cell-requires c =

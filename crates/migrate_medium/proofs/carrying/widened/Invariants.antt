@@ -1,7 +1,7 @@
 use Rattle.std.proofs.Common.{◌≡◌, ◌++◌, take}
+use Rattle.store_spec.proofs.Common.{cell_bytes, cells_of, header_of}
 use Rattle.std.specs.Prelude.{flat_map}
 use Rattle.migrate_medium.proofs.carrying.widened.Given as goal
-use Rattle.store_spec.specs.Image.{cell_bytes, cells_of, header_of}
 
 -- the first cells were put behind the header
 abbrev pub invariant-cells : goal.invariant-cells

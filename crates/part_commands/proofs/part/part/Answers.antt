@@ -1,4 +1,5 @@
 use Rattle.std.proofs.Common.{inr, sym, subst}
+use Rattle.store_spec.proofs.Common.{Election, disk_model, share}
 use Rattle.any_store.specs.Checkpointed.{IsMediumNow}
 use Rattle.outside_io.specs.Outside.{input, output}
 use Rattle.part_commands.proofs.Opening.{has_begun, no_memory}
@@ -11,9 +12,6 @@ use Rattle.run_outcome.proofs.Laws.{ended_with}
 use Rattle.run_outcome.specs.Status.{ended}
 use Rattle.run_outcome.specs.declared.status.Status.TheVariants.{Memory}
 use Rattle.session_commands.specs.Session.{reported}
-use Rattle.store_spec.specs.Disk.{disk_model}
-use Rattle.store_spec.specs.Election.{Election}
-use Rattle.store_spec.specs.Parts.{share}
 
 pub returns-in_err-scratch : goal.returns-in_err-scratch
 returns-in_err-scratch g c =

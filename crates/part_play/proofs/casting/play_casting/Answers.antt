@@ -1,5 +1,5 @@
 use Rattle.std.proofs.Common.{◌^◌, All, Global, List, Vec, ℕ, map, subst, sym}
-use Rattle.std.proofs.lemmas.Simd.{map-map}
+use Rattle.store_spec.proofs.Common.{Ballot, CastReply, map-map, part_of}
 use Rattle.ballot_record.specs.BallotList.{ListedBallots}
 use Rattle.body_store.specs.Contents.{Contents}
 use Rattle.part_play.proofs.Playing.{all_stored, casts_in_parts, elections_stay}
@@ -8,9 +8,6 @@ use Rattle.part_play.specs.Plays.{PlaysCastingInParts}
 use Rattle.phase_insert.specs.Closing.{ClosesAs, reply_of}
 use Rattle.phase_insert.specs.declared.reply.Final.{Final}
 use Rattle.phase_kind.specs.Team.{GoesWithin}
-use Rattle.store_spec.specs.Ballot.{Ballot}
-use Rattle.store_spec.specs.BallotPhase.{CastReply}
-use Rattle.store_spec.specs.Parts.{part_of}
 
 abbrev ballots : ListedBallots → List Ballot
 ballots list = list.ballots

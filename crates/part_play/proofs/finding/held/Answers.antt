@@ -1,11 +1,9 @@
 use Rattle.std.proofs.Common.{◌∙◌, [], List, ap, map, sym}
-use Rattle.std.proofs.lemmas.Option.{get_or_from_slice_get}
+use Rattle.store_spec.proofs.Common.{Ballot, get_or_from_slice_get, part_of}
 use Rattle.body_store.specs.Contents.{Contents}
 use Rattle.part_play.proofs.Stages.{shown_at}
 use Rattle.part_play.proofs.finding.held.Goals as goal
 use Rattle.phase_find.specs.Present.{is_present}
-use Rattle.store_spec.specs.Ballot.{Ballot}
-use Rattle.store_spec.specs.Parts.{part_of}
 
 pub returns : goal.returns
 returns g c =

@@ -1,5 +1,5 @@
 use Rattle.std.proofs.Common.{◌≡◌, ◌∙◌, arith, false, length, map, sym}
-use Rattle.std.proofs.lemmas.List.{ext_get_or, get_or-map, length-map}
+use Rattle.store_spec.proofs.Common.{ext_get_or, get_or-map, length-map}
 use Rattle.body_store.specs.Contents.{Contents}
 use Rattle.part_play.specs.Plays.{is_present_in}
 use Rattle.part_play.proofs.finding.look_up.Goals as goal

@@ -1,5 +1,5 @@
 use Rattle.std.proofs.Common.{◌≡◌, ◌∙◌, ℕ, ◌<◌, Bool, Global, List, Vec, ap, arith, get_or, length, map, rules, sym, vec_len}
-use Rattle.std.proofs.lemmas.List.{length-map}
+use Rattle.store_spec.proofs.Common.{length-map}
 use Rattle.body_store.specs.Contents.{Contents}
 use Rattle.part_play.specs.Plays.{is_present_in}
 use Rattle.part_play.proofs.finding.look_up_all.Goals as goal

@@ -1,6 +1,5 @@
 use Rattle.std.proofs.Common.{◌≡◌, ◌∙◌, ◌++◌, ap, arith, drop, length, map, sym, take}
-use Rattle.std.proofs.lemmas.List.{take_at}
-use Rattle.std.proofs.lemmas.Simd.{map-map}
+use Rattle.store_spec.proofs.Common.{map-map, take_at}
 use Rattle.body_store.specs.Contents.{Contents}
 use Rattle.part_play.specs.Plays.{is_present_in}
 use Rattle.part_play.proofs.finding.play_finding.Goals as goal

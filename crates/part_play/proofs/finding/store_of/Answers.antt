@@ -1,5 +1,5 @@
 use Rattle.std.proofs.Common.{◌<◌, ◌∙◌, Some, ap, arith, length, slice_get, sym}
-use Rattle.std.proofs.lemmas.Option.{slice_get-get_or}
+use Rattle.store_spec.proofs.Common.{slice_get-get_or}
 use Rattle.part_play.proofs.Numbers.{few_parts}
 use Rattle.part_play.proofs.finding.store_of.Goals as goal
 use Rattle.partition_store.proofs.Shares.{each_in_part}

@@ -1,8 +1,5 @@
 use Rattle.std.proofs.Common.{◌∙◌, [], All, Global, List, Vec, ℕ, length, map, rules, subst, sym, zip}
-use Rattle.std.proofs.lemmas.Iterator.Adapters.{YieldsList-from_vec}
-use Rattle.std.proofs.lemmas.Iterator.Consumers.{YieldsList-end, YieldsList-turn}
-use Rattle.std.proofs.lemmas.List.{map-id, map_push}
-use Rattle.std.proofs.lemmas.List.Elements.{All-nil}
+use Rattle.store_spec.proofs.Common.{All-nil, YieldsList-end, YieldsList-from_vec, YieldsList-turn, map-id, map_push}
 use Rattle.part_play.proofs.Stages.{none_shared}
 use Rattle.part_play.proofs.several.all_shared.Goals as goal
 use Rattle.part_play.specs.Several.{AreAllShared}

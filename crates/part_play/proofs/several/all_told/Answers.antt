@@ -1,8 +1,5 @@
 use Rattle.std.proofs.Common.{◌≡◌, All, Global, List, Vec, ℕ, ap, arith, get_or, length, map, subst, sym}
-use Rattle.std.proofs.lemmas.List.{length-map}
-use Rattle.std.proofs.lemmas.List.Elements.{All-map}
-use Rattle.std.proofs.lemmas.Option.{slice_get-get_or}
-use Rattle.std.proofs.lemmas.Simd.{map-map}
+use Rattle.store_spec.proofs.Common.{All-map, length-map, map-map, slice_get-get_or}
 use Rattle.part_play.proofs.Stages.{shown_at}
 use Rattle.part_play.proofs.Told.{all_by_place, all_told, all_within}
 use Rattle.part_play.proofs.several.all_told.Goals as goal

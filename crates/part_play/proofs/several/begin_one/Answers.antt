@@ -1,5 +1,5 @@
 use Rattle.std.proofs.Common.{◌∙◌, Global, Vec, map, sym}
-use Rattle.std.proofs.lemmas.List.{length-map}
+use Rattle.store_spec.proofs.Common.{length-map}
 use Rattle.part_play.proofs.Stages.{next_begun}
 use Rattle.part_play.proofs.several.begin_one.Goals as goal
 use Rattle.phase_kind.specs.Worker.{WorkerView}

@@ -1,12 +1,12 @@
 use Rattle.std.proofs.Common.{◌≤◌, ◌++◌, ◌∷◌, ◌∙◌, [], All, Global, List, Vec, ap, arith, length, map, rules, subst, sym, zip}
-use Rattle.std.proofs.lemmas.List.{map_push, nil_from_length}
+use Rattle.store_spec.proofs.Common.{map_push, nil_from_length}
 use Rattle.body_store.specs.Contents.{Contents}
 use Rattle.part_play.proofs.Stages.{none_begun}
 use Rattle.phase_kind.proofs.Taken.{all_taken, as_many_left, beside_there, both_there, none_taken, one_taken}
 use Rattle.part_play.proofs.several.begun.Goals as goal
 use Rattle.part_play.specs.Several.{HaveBegun}
 use Rattle.phase_kind.proofs.Planned.{holds_at}
-use Rattle.phase_kind.specs.Phase.{Phase}
+use Rattle.phase_kind.specs.Phase.{OpenPhase}
 use Rattle.phase_kind.specs.Worker.{WorkerView}
 
 pub loop-store-init : goal.loop-store-init
@@ -16,7 +16,7 @@ loop-store-init g c =
       [],
       [],
       none_taken c.args.stores.items c.args.lists.items _ _ (search rules) (search rules),
-      subst (λ (phases : List Phase). HaveBegun fresh [] [] phases (map (λ (row : Vec W Global). row.items) c.in_ok-phases.rows.items)) (sym c.in_ok-phases.ensures.first)
+      subst (λ (phases : List OpenPhase). HaveBegun fresh [] [] phases (map (λ (row : Vec W Global). row.items) c.in_ok-phases.rows.items)) (sym c.in_ok-phases.ensures.first)
           (subst (λ (rows : List (Vec W Global)). HaveBegun fresh [] [] [] (map (λ (row : Vec W Global). row.items) rows)) (sym c.in_ok-phases.ensures.second) (none_begun fresh)),
     )
 

@@ -1,12 +1,12 @@
 use Rattle.std.proofs.Common.{◌++◌, ◌∷◌, ◌∙◌, [], Global, List, Vec, ap, arith, length, map, rules, subst, sym, zip}
-use Rattle.std.proofs.lemmas.List.{length-map, map_push, nil_from_length}
+use Rattle.store_spec.proofs.Common.{length-map, map_push, nil_from_length}
 use Rattle.body_store.specs.Contents.{Contents}
 use Rattle.part_play.proofs.Stages.{none_ended}
 use Rattle.phase_kind.proofs.Taken.{all_taken, as_many_left, both_there, none_taken, one_taken}
 use Rattle.part_play.proofs.several.closed.Goals as goal
 use Rattle.part_play.specs.Several.{HaveEnded}
 use Rattle.phase_kind.proofs.Planned.{holds_at}
-use Rattle.phase_kind.specs.Phase.{Phase}
+use Rattle.phase_kind.specs.Phase.{OpenPhase}
 use Rattle.phase_kind.specs.Worker.{AreAll, WorkerView}
 
 pub loop-phase-init : goal.loop-phase-init
@@ -31,21 +31,21 @@ pub close_one-requires-clause-all : goal.close_one-requires-clause-all
 close_one-requires-clause-all g c κs within =
     let W = WorkerView g.row.K-Sight.Denot g.row.K-Item.Denot g.row.K-Reply.Denot in
     let i = c.loop-phase.invariant in
-    (holds_at (λ (at : Phase × Vec W Global). AreAll at.0 at.1.items) (zip c.args.phases.items c.args.columns.items) (length i.0) (c.in-Some.phase, c.in-Some-next.column) c.requires.all
+    (holds_at (λ (at : OpenPhase × Vec W Global). AreAll at.0 at.1.items) (zip c.args.phases.items c.args.columns.items) (length i.0) (c.in-Some.phase, c.in-Some-next.column) c.requires.all
     (both_there c.args.phases.items c.args.columns.items i.0 i.1 c.loop-phase.phase-iterator.rest.items c.loop-phase.rest.rest.items i.2 c.in-Some.phase c.next.new.self.rest.items c.in-Some-next.column c.next-in-loop-phase.new.self.rest.items c.in-Some.ensures.steps.0 c.in-Some-next.ensures.items)).all
 
 pub close_one-requires-clause-belong : goal.close_one-requires-clause-belong
 close_one-requires-clause-belong g c κs within =
     let W = WorkerView g.row.K-Sight.Denot g.row.K-Item.Denot g.row.K-Reply.Denot in
     let i = c.loop-phase.invariant in
-    (holds_at (λ (at : Phase × Vec W Global). AreAll at.0 at.1.items) (zip c.args.phases.items c.args.columns.items) (length i.0) (c.in-Some.phase, c.in-Some-next.column) c.requires.all
+    (holds_at (λ (at : OpenPhase × Vec W Global). AreAll at.0 at.1.items) (zip c.args.phases.items c.args.columns.items) (length i.0) (c.in-Some.phase, c.in-Some-next.column) c.requires.all
     (both_there c.args.phases.items c.args.columns.items i.0 i.1 c.loop-phase.phase-iterator.rest.items c.loop-phase.rest.rest.items i.2 c.in-Some.phase c.next.new.self.rest.items c.in-Some-next.column c.next-in-loop-phase.new.self.rest.items c.in-Some.ensures.steps.0 c.in-Some-next.ensures.items)).belong
 
 pub close_one-requires-clause-idle : goal.close_one-requires-clause-idle
 close_one-requires-clause-idle g c κs within =
     let W = WorkerView g.row.K-Sight.Denot g.row.K-Item.Denot g.row.K-Reply.Denot in
     let i = c.loop-phase.invariant in
-    (holds_at (λ (at : Phase × Vec W Global). AreAll at.0 at.1.items) (zip c.args.phases.items c.args.columns.items) (length i.0) (c.in-Some.phase, c.in-Some-next.column) c.requires.all
+    (holds_at (λ (at : OpenPhase × Vec W Global). AreAll at.0 at.1.items) (zip c.args.phases.items c.args.columns.items) (length i.0) (c.in-Some.phase, c.in-Some-next.column) c.requires.all
     (both_there c.args.phases.items c.args.columns.items i.0 i.1 c.loop-phase.phase-iterator.rest.items c.loop-phase.rest.rest.items i.2 c.in-Some.phase c.next.new.self.rest.items c.in-Some-next.column c.next-in-loop-phase.new.self.rest.items c.in-Some.ensures.steps.0 c.in-Some-next.ensures.items)).idle
 
 pub loop-phase-preserved : goal.loop-phase-preserved
@@ -70,5 +70,5 @@ returns g c =
     let none = nil_from_length c.loop-phase.phase-iterator.rest.items (sym c.loop-phase.phase-iterator.rest.ok.0 ∙ c.in-None.ensures.steps.0) in
     let all = all_taken c.args.phases.items c.args.columns.items i.0 i.1 c.loop-phase.phase-iterator.rest.items c.loop-phase.rest.rest.items i.2 c.requires.as_many none in
     let told = map (λ (finals : Vec (Vec F Global) Global). map (λ (list : Vec F Global). list.items) finals.items) c.loop-phase.told.items in
-    subst (λ (p : List Phase). HaveEnded g.K.Kind.closes p (map (λ column. column.items) c.args.columns.items) c.loop-phase.stores.items told) all.0
+    subst (λ (p : List OpenPhase). HaveEnded g.K.Kind.closes p (map (λ column. column.items) c.args.columns.items) c.loop-phase.stores.items told) all.0
     (subst (λ (w : List (Vec W Global)). HaveEnded g.K.Kind.closes i.0 (map (λ column. column.items) w) c.loop-phase.stores.items told) all.1 i.3)

@@ -1,19 +1,16 @@
 use Rattle.std.proofs.Common.{◌+◌, ◌∙◌, [], ◌∷◌, All, Bor, Global, List, Vec, ℕ, ap, ap₂, arith, length, length-append, map, rules, subst, sym, zip}
+use Rattle.store_spec.proofs.Common.{All-nil, All-push, YieldsList-end, YieldsList-turn, length-map, length-zip, map_push}
 use Rattle.std.proofs.lemmas.Iterator.{YieldsList-from_slice, YieldsList-from_zip}
-use Rattle.std.proofs.lemmas.Iterator.Consumers.{YieldsList-end, YieldsList-turn}
-use Rattle.std.proofs.lemmas.List.{length-map, map_push}
-use Rattle.std.proofs.lemmas.List.Elements.{All-nil, All-push}
-use Rattle.std.proofs.lemmas.Slice.Zip.{length-zip}
 use Rattle.part_play.proofs.Stages.{taken_there}
 use Rattle.part_play.proofs.several.each_in_order.Goals as goal
 use Rattle.phase_kind.proofs.Planned.{holds_at}
 use Rattle.phase_kind.proofs.Trays.{zip_more}
-use Rattle.phase_kind.specs.Team.{AreByPlace, AreInOrder, GoesWithin}
+use Rattle.phase_kind.specs.Team.{AreByPlace, AreInListOrder, GoesWithin}
 
 pub loop-order-init : goal.loop-order-init
 loop-order-init g c =
     let F = g.row.F.Denot in
-    let Told : (Vec ℕ Global × Vec (Vec F Global) Global) × Vec F Global → Type 0 = λ at. AreInOrder (λ p. p) at.0.0.items (map (λ (row : Vec F Global). row.items) at.0.1.items) at.1.items in
+    let Told : (Vec ℕ Global × Vec (Vec F Global) Global) × Vec F Global → Type 0 = λ at. AreInListOrder (λ p. p) at.0.0.items (map (λ (row : Vec F Global). row.items) at.0.1.items) at.1.items in
     record {
       as_many = ap length c.in_ok-told.ensures.items;
       in_order = All-nil Told;
@@ -51,7 +48,7 @@ loop-order-preserved g c =
     let L = Vec ℕ Global in
     let Y = Bor L × Bor (Vec (Vec F Global) Global) in
     let V = L × Vec (Vec F Global) Global in
-    let Told : V × Vec F Global → Type 0 = λ at. AreInOrder (λ p. p) at.0.0.items (map (λ (row : Vec F Global). row.items) at.0.1.items) at.1.items in
+    let Told : V × Vec F Global → Type 0 = λ at. AreInListOrder (λ p. p) at.0.0.items (map (λ (row : Vec F Global). row.items) at.0.1.items) at.1.items in
     let shown : Y → V = λ y. (y.0.now, y.1.now) in
     let i = c.loop-order.invariant in
     let yielded = c.loop-order.yielded in
@@ -63,8 +60,8 @@ loop-order-preserved g c =
     record {
       as_many = ap length pushed ∙ length-append told (reply ∷ []) ∙ ap (λ n. n + 1) i.as_many ∙ sym (length-append yielded (y ∷ []));
       in_order = subst (All Told) (sym both) (All-push Told (zip (map shown yielded) told) (shown y, reply) i.in_order
-          (subst (λ (order : List ℕ). AreInOrder (λ p. p) order (map (λ (r : Vec F Global). r.items) c.in-Some.row.now.items) reply.items) c.deref.ensures.value
-          (subst (λ (row : List (Vec F Global)). AreInOrder (λ p. p) c.deref.result.now (map (λ (r : Vec F Global). r.items) row) reply.items) c.deref-in-loop-order.ensures.value c.in_ok-in_order.ensures)));
+          (subst (λ (order : List ℕ). AreInListOrder (λ p. p) order (map (λ (r : Vec F Global). r.items) c.in-Some.row.now.items) reply.items) c.deref.ensures.value
+          (subst (λ (row : List (Vec F Global)). AreInListOrder (λ p. p) c.deref.result.now (map (λ (r : Vec F Global). r.items) row) reply.items) c.deref-in-loop-order.ensures.value c.in_ok-in_order.ensures)));
     }
 
 pub returns-clause-as_many : goal.returns-clause-as_many
@@ -81,7 +78,7 @@ returns-clause-in_order g c =
     let V = Vec ℕ Global × Vec (Vec F Global) Global in
     let orders = c.args.orders.now in
     let rows = c.args.rows.now in
-    let Told : V × Vec F Global → Type 0 = λ at. AreInOrder (λ p. p) at.0.0.items (map (λ (row : Vec F Global). row.items) at.0.1.items) at.1.items in
+    let Told : V × Vec F Global → Type 0 = λ at. AreInListOrder (λ p. p) at.0.0.items (map (λ (row : Vec F Global). row.items) at.0.1.items) at.1.items in
     let end = YieldsList-end (YieldsList-from_zip (YieldsList-from_slice orders (search rules)) (YieldsList-from_slice rows (search rules)))
     c.loop-order.yielded c.loop-order.order-iterator c.loop-order.yielded_by c.next.result c.next.new.self c.in-None.is c.next.ensures.steps in
     subst (λ (l : List V). All Told (zip l c.loop-order.told.items)) end.0 c.loop-order.invariant.in_order

@@ -1,8 +1,8 @@
 use Rattle.std.proofs.Common.{◌≡◌, ◌++◌, ◌∙◌, All, Global, List, Vec, ℕ, ap, arith, drop, length, map, subst, sym, take, zip}
-use Rattle.std.proofs.lemmas.List.{length-map, take_at}
+use Rattle.store_spec.proofs.Common.{length-map, take_at}
 use Rattle.part_play.proofs.Stages.{all_belong, all_closed, teams_long, zip_maps}
 use Rattle.part_play.proofs.several.handled.Goals as goal
-use Rattle.phase_kind.specs.Phase.{Phase}
+use Rattle.phase_kind.specs.Phase.{OpenPhase}
 use Rattle.phase_kind.specs.Table.{IsTurned}
 use Rattle.phase_kind.specs.Team.{AreNamed, HaveFinished, IsTeam}
 use Rattle.phase_kind.specs.Worker.{WorkerView}
@@ -18,7 +18,7 @@ run_several-requires-clause-belong g c κs within =
     let W = WorkerView g.row.K-Sight.Denot g.row.K-Item.Denot g.row.K-Reply.Denot in
     let workers : Vec W Global → List W = λ team. team.items in
     subst (λ (teams : List (Vec W Global)). All (λ team. IsTeam c.deref.result.now team.items) teams) (sym c.deref_mut.ensures.value)
-    (subst (λ (phases : List Phase). All (λ (team : Vec W Global). IsTeam phases team.items) c.args.teams.items) (sym c.deref.ensures.value)
+    (subst (λ (phases : List OpenPhase). All (λ (team : Vec W Global). IsTeam phases team.items) c.args.teams.items) (sym c.deref.ensures.value)
     (All-from_map (IsTeam c.args.phases.items) workers c.args.teams.items c.requires.ready.belong))
 
 pub run_several-requires-clause-named : goal.run_several-requires-clause-named
@@ -55,12 +55,12 @@ closed-requires-clause-all g c κs within =
     let phases = c.args.phases.items in
     let after = c.run_several.new.teams in
     let whole : take held.len (after ++ drop (length after) held.items) ≡ after = take_at after (drop (length after) held.items) held.len (omega (arith, c.run_several.ensures.as_many, c.deref_mut.ensures.len, held.ok)) in
-    let belong = subst (λ (p : List Phase). All (λ (team : Vec W Global). IsTeam p team.items) after) c.deref.ensures.value c.run_several.ensures.belong in
+    let belong = subst (λ (p : List OpenPhase). All (λ (team : Vec W Global). IsTeam p team.items) after) c.deref.ensures.value c.run_several.ensures.belong in
     let turned = subst (λ (n : ℕ). IsTurned n (map workers after) (map workers c.in_ok-columns.columns.items)) {x = c.len-places.result} {y = length phases} (c.len-places.ensures ∙ c.args.phases.ok.0)
     (subst (λ (teams : List (Vec W Global)). IsTurned c.len-places.result (map workers teams) (map workers c.in_ok-columns.columns.items)) whole c.in_ok-columns.ensures) in
     let many : length (map (λ (order : Vec ℕ Global). order.items) c.args.orders.now) ≡ length after = omega (arith, c.requires.ready.as_many, length-map held.items workers, ap length c.deref_mut.ensures.value, c.run_several.ensures.as_many) in
     all_belong workers workers phases after c.in_ok-columns.columns.items belong c.run_several.ensures.idle turned
-    (subst (λ (n : ℕ). All (λ (phase : Phase). phase.words.seats ≡ n) phases) many c.requires.ready.seats)
+    (subst (λ (n : ℕ). All (λ (phase : OpenPhase). phase.words.seats ≡ n) phases) many c.requires.ready.seats)
 
 pub returns : goal.returns
 returns g c goes work have =

@@ -1,16 +1,15 @@
 use Rattle.std.proofs.Common.{◌≡◌, All, Global, List, Vec, ℕ, ap, arith, length, map, subst, sym}
-use Rattle.std.proofs.lemmas.List.{length-map}
-use Rattle.std.proofs.lemmas.List.Elements.{All-map}
+use Rattle.store_spec.proofs.Common.{All-map, length-map}
 use Rattle.body_store.specs.Contents.{Contents}
 use Rattle.part_play.proofs.Told.{by_places, by_places_named, has_played, told_named, within_named}
 use Rattle.part_play.proofs.several.play_several.Goals as goal
 use Rattle.part_play.specs.Several.{AreAllTold, AreByPlaces, AreReady, HasPlayed}
-use Rattle.phase_kind.specs.Phase.{Phase}
+use Rattle.phase_kind.specs.Phase.{OpenPhase}
 use Rattle.phase_kind.specs.Team.{GoesWithin}
 use Rattle.phase_kind.specs.Worker.{WorkerView}
 use Rattle.step_core.proofs.Sets.{All-from_map}
 
-abbrev base_of : Phase → Contents
+abbrev base_of : OpenPhase → Contents
 base_of phase = phase.base
 
 pub handled-requires-clause-ready : goal.handled-requires-clause-ready

@@ -1,6 +1,5 @@
 use Rattle.std.proofs.Common.{◌≡◌, ◌∙◌, All, Global, List, Vec, ℕ, arith, length, map, refl, subst, sym, zip}
-use Rattle.std.proofs.lemmas.List.{length-map}
-use Rattle.std.proofs.lemmas.List.Elements.{All-map}
+use Rattle.store_spec.proofs.Common.{All-map, length-map}
 use Rattle.body_store.specs.Contents.{Contents}
 use Rattle.part_play.proofs.Ready.{all, lists_long, orders_long, planned, plans_long, shared_long, turned}
 use Rattle.part_play.proofs.Stages.{are_ready, have_work, rows_long, turned_beside}

@@ -1,5 +1,5 @@
 use Rattle.std.proofs.Common.{All, Global, Vec, ℕ, length, map, subst, sym, zip}
-use Rattle.std.proofs.lemmas.List.Elements.{All-push}
+use Rattle.store_spec.proofs.Common.{All-push}
 use Rattle.part_play.proofs.Stages.{next_shared}
 use Rattle.part_play.proofs.several.share_one.Goals as goal
 

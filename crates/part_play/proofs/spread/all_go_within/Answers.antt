@@ -1,6 +1,5 @@
 use Rattle.std.proofs.Common.{◌^◌, ◌<◌, All, List, get_or, subst, sym, take}
-use Rattle.std.proofs.lemmas.List.{take_all, take_more}
-use Rattle.std.proofs.lemmas.List.Elements.{All-nil, All-push}
+use Rattle.store_spec.proofs.Common.{All-nil, All-push, take_all, take_more}
 use Rattle.part_play.proofs.spread.all_go_within.Goals as goal
 use Rattle.partition_store.proofs.Shares.{each_in_part}
 

@@ -1,6 +1,5 @@
 use Rattle.std.proofs.Common.{◌^◌, ◌<◌, All, List, arith, subst}
-use Rattle.std.proofs.lemmas.List.{take_all}
-use Rattle.std.proofs.lemmas.List.Elements.{All-nil}
+use Rattle.store_spec.proofs.Common.{All-nil, take_all}
 use Rattle.part_play.proofs.Numbers.{one_short}
 use Rattle.part_play.proofs.spread.short_numbers.Goals as goal
 

@@ -1,16 +1,15 @@
 use Rattle.std.proofs.Common.{◌^◌, ◌∙◌, All, Global, List, Vec, ℕ, ap, length, map, subst, sym}
-use Rattle.std.proofs.lemmas.Simd.{map-map}
+use Rattle.store_spec.proofs.Common.{map-map, part_of}
 use Rattle.body_store.specs.Contents.{Contents}
 use Rattle.part_play.proofs.Playing.{all_stored, elections_stay, withdraws_in_parts}
 use Rattle.part_play.proofs.Told.{lengths_of}
 use Rattle.part_play.proofs.withdrawing.play_withdrawing.Goals as goal
 use Rattle.part_play.specs.Plays.{PlaysWithdrawingInParts}
 use Rattle.phase_delete.specs.Closing.{ClosesAs}
-use Rattle.phase_delete.specs.Tray.{Withdrawal}
+use Rattle.phase_delete.specs.Tray.{TrayWithdrawal}
 use Rattle.phase_kind.specs.Team.{GoesWithin}
 use Rattle.step_core.specs.WithdrawCore.{reply_of}
 use Rattle.step_core.specs.declared.withdrawer.WithdrawReply.{WithdrawReply}
-use Rattle.store_spec.specs.Parts.{part_of}
 use Rattle.store_spec.specs.WithdrawPhase as outcome
 
 abbrev numbers : Vec ℕ Global → List ℕ
@@ -32,7 +31,7 @@ play_several-requires-clause-is_of g c κs within k d below i e there = tt
 
 pub play_several-requires-clause-finals : goal.play_several-requires-clause-finals
 play_several-requires-clause-finals g c κs within base trays finals after closes =
-    ap (map (λ (l : List WithdrawReply). length l)) closes.of_trays ∙ sym (lengths_of (λ (w : Withdrawal). w.reply) trays)
+    ap (map (λ (l : List WithdrawReply). length l)) closes.of_trays ∙ sym (lengths_of (λ (w : TrayWithdrawal). w.reply) trays)
 
 pub returns-clause-elections : goal.returns-clause-elections
 returns-clause-elections g c =

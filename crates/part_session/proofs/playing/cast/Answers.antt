@@ -1,4 +1,5 @@
 use Rattle.std.proofs.Common.{◌∙◌, Global, List, Vec, ap, map, subst, sym}
+use Rattle.store_spec.proofs.Common.{Ballot, ClosesCastingInParts, cast_text, closing}
 use Rattle.ballot_record.specs.BallotList.{ListedBallots}
 use Rattle.part_session.proofs.Stores.{cast_closes, election_now, parts_cast, stores_now}
 use Rattle.part_session.proofs.playing.cast.Goals as goal
@@ -6,9 +7,6 @@ use Rattle.partition_store.specs.Parted.{AreParts, joined}
 use Rattle.partition_store.specs.PartedKept.{sets_of}
 use Rattle.phase_insert.specs.Closing.{reply_of}
 use Rattle.phase_insert.specs.declared.reply.Final.{Final}
-use Rattle.store_spec.specs.Ballot.{Ballot}
-use Rattle.store_spec.specs.Parts.{ClosesCastingInParts}
-use Rattle.store_spec.specs.Session.{cast_text, closing}
 
 abbrev given : ListedBallots → List Ballot
 given list = list.ballots

@@ -1,10 +1,10 @@
 use Rattle.std.proofs.Common.{◌≡◌, ◌∙◌, Bool, Global, List, Vec, ap, map, subst, ℕ}
+use Rattle.store_spec.proofs.Common.{Ballot}
 use Rattle.part_play.specs.Plays.{PlaysFindingInParts}
 use Rattle.part_session.proofs.Found.{found_closes}
 use Rattle.part_session.proofs.Stores.{election_before}
 use Rattle.part_session.proofs.playing.find.Goals as goal
 use Rattle.partition_store.specs.PartedKept.{sets_of}
-use Rattle.store_spec.specs.Ballot.{Ballot}
 
 pub returns-clause-store : goal.returns-clause-store
 returns-clause-store g c =

@@ -1,13 +1,11 @@
 use Rattle.std.proofs.Common.{◌∙◌, Global, List, Vec, ap, map, subst, sym, ℕ}
+use Rattle.store_spec.proofs.Common.{Ballot, ClosesWithdrawingInParts, closing, withdraw_text}
 use Rattle.part_session.proofs.Stores.{election_now, parts_withdrawn, stores_now, withdrawal_closes}
 use Rattle.part_session.proofs.playing.withdraw.Goals as goal
 use Rattle.partition_store.specs.Parted.{AreParts, joined}
 use Rattle.partition_store.specs.PartedKept.{sets_of}
 use Rattle.step_core.specs.WithdrawCore.{reply_of}
 use Rattle.step_core.specs.declared.withdrawer.WithdrawReply.{WithdrawReply}
-use Rattle.store_spec.specs.Ballot.{Ballot}
-use Rattle.store_spec.specs.Parts.{ClosesWithdrawingInParts}
-use Rattle.store_spec.specs.Session.{closing, withdraw_text}
 
 abbrev given : Vec ℕ Global → List ℕ
 given list = list.items

@@ -1,9 +1,8 @@
 use Rattle.std.proofs.Common.{length, subst, sym}
+use Rattle.store_spec.proofs.Common.{Election, disk_model}
 use Rattle.any_store.specs.Checkpointed.{AreMedia}
 use Rattle.part_tests.proofs.acknowledging.open_and_renew.Goals as goal
 use Rattle.parted_store.specs.Slots.{parted_disks}
-use Rattle.store_spec.specs.Disk.{disk_model}
-use Rattle.store_spec.specs.Election.{Election}
 
 pub renew-requires-clause-media : goal.renew-requires-clause-media
 renew-requires-clause-media g c =

@@ -1,14 +1,11 @@
 use Rattle.std.proofs.Common.{◌≡◌, ◌≤◌, ℕ, List, length, sym, ap, subst, ◌∙◌}
+use Rattle.store_spec.proofs.Common.{Ballot, DiskModel, Election, disk_model, example, share}
 use Rattle.any_store.specs.Checkpointed.{IsMediumNow}
 use Rattle.part_tests.proofs.media.opened.Goals as goal
 use Rattle.parted_store.proofs.Opened.{opened_media}
 use Rattle.parted_store.specs.Slots.{models_of}
 use Rattle.partition_store.specs.Opening.{IsOpened}
 use Rattle.partition_store.specs.Parted.{Parted, bits_of, joined}
-use Rattle.store_spec.specs.Ballot.{Ballot}
-use Rattle.store_spec.specs.Disk.{DiskModel, disk_model}
-use Rattle.store_spec.specs.Election.{Election, example}
-use Rattle.store_spec.specs.Parts.{share}
 
 -- the disks of two parts that were opened are the media of their set
 media : {A B : Type 0} (one : DiskModel A) (other : DiskModel B) (e own : Election) (old new : A) (more now : List B) (store : Parted) → IsOpened one other e old new more now store

@@ -1,6 +1,5 @@
 use Rattle.std.proofs.Common.{◌≡◌, ◌^◌, ◌∙◌, [], ◌∷◌, All, ap, get_or, length, subst, sym}
-use Rattle.std.proofs.lemmas.List.{length-map}
-use Rattle.std.proofs.lemmas.List.Elements.{All-cons, All-nil}
+use Rattle.store_spec.proofs.Common.{All-cons, All-nil, length-map}
 use Rattle.body_store.specs.Contents.{Contents}
 use Rattle.part_tests.proofs.phases.casts.Goals as goal
 

@@ -1,5 +1,5 @@
 use Rattle.std.proofs.Common.{◌^◌, ◌∙◌, ap, length, sym}
-use Rattle.std.proofs.lemmas.List.{length-map}
+use Rattle.store_spec.proofs.Common.{length-map}
 use Rattle.body_store.specs.Contents.{Contents}
 use Rattle.part_tests.proofs.phases.withdraws.Goals as goal
 

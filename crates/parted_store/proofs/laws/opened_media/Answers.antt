@@ -1,6 +1,6 @@
 use Rattle.parted_store.proofs.Opened.{opened_media}
 use Rattle.parted_store.proofs.laws.opened_media.Goals as goal
-use Rattle.store_spec.specs.Disk.{disk_model}
+use Rattle.store_spec.proofs.Common.{disk_model}
 
 pub returns : goal.returns
 returns g c =

@@ -1,4 +1,5 @@
 use Rattle.std.proofs.Common.{◌+◌, ◌<◌, [], get_or, length, refl, subst, sym, arith}
+use Rattle.store_spec.proofs.Common.{disk_model}
 use Rattle.any_store.proofs.Acknowledging.{on_err, on_ok}
 use Rattle.any_store.specs.Checkpointed.{IsMediumNow}
 use Rattle.body_store.specs.Contents.{Contents}
@@ -6,7 +7,6 @@ use Rattle.parted_store.proofs.Slots.{checkpointed_part, failed_part}
 use Rattle.parted_store.proofs.Stepping.{leads_next, medium_next, renewed_next, still_next, stops_next}
 use Rattle.parted_store.proofs.renewing.renew_further.Goals as goal
 use Rattle.recovery.proofs.OneByOne.{zip_same}
-use Rattle.store_spec.specs.Disk.{disk_model}
 
 pub disks-init : goal.disks-init
 disks-init g c = record {

@@ -1,8 +1,7 @@
-use Rattle.std.specs.List.{AllZip}
+use Rattle.store_spec.proofs.Common.{AllZip, disk_model}
 use Rattle.parted_store.proofs.Stepping.{AreStill}
 use Rattle.parted_store.proofs.renewing.renew_further.Given as goal
 use Rattle.parted_store.specs.Stops.{AreRenewed}
-use Rattle.store_spec.specs.Disk.{disk_model}
 
 -- the disks before this one were renewed, and those from it on are as they were
 abbrev pub invariant-disks : goal.invariant-disks

@@ -1,10 +1,10 @@
 use Rattle.std.proofs.Common.{[], get_or, refl, sym}
+use Rattle.store_spec.proofs.Common.{disk_model}
 use Rattle.any_store.proofs.Acknowledging.{on_err, on_ok}
 use Rattle.parted_store.proofs.AllParts.{failed_if, first_failed, further_media, renewed_if}
 use Rattle.parted_store.proofs.Slots.{checkpointed_part, failed_part}
 use Rattle.parted_store.proofs.renewing.renew_parts.Goals as goal
 use Rattle.recovery.proofs.OneByOne.{zip_same}
-use Rattle.store_spec.specs.Disk.{disk_model}
 
 pub returns-then-is_err-clause-failed : goal.returns-then-is_err-clause-failed
 returns-then-is_err-clause-failed g c =

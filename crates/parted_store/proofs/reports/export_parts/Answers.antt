@@ -1,9 +1,9 @@
 use Rattle.std.proofs.Common.{length, subst}
+use Rattle.store_spec.proofs.Common.{export_text}
 use Rattle.outside_io.specs.Stream.{TakesAll, TakesSome}
 use Rattle.parted_store.proofs.Joining.{next_on_failure, some_of_first}
 use Rattle.parted_store.proofs.reports.export_parts.Goals as goal
 use Rattle.partition_store.specs.Parted.{joined}
-use Rattle.store_spec.specs.Report.{export_text}
 use Rattle.outside_io.proofs.Written.{on_failure}
 use Rattle.tally_export.specs.Exported.{count_text, records_text}
 

@@ -1,9 +1,8 @@
 use Rattle.std.proofs.Common.{◌⊎◌, ⊎_elim}
-use Rattle.std.specs.Prelude.{IsTrue}
+use Rattle.store_spec.proofs.Common.{IsTrue, leaves_now}
 use Rattle.crash_disk.proofs.Moments.{weaker}
 use Rattle.partition_store.proofs.laws.every_property.Goals as goal
 use Rattle.recovery.specs.Refused.{HoldsSetOf}
-use Rattle.store_spec.specs.Disk.{leaves_now}
 
 pub returns : goal.returns
 returns g c e old new bytes p sees start held run =

@@ -2,7 +2,7 @@ use Rattle.partition_store.proofs.Opened.{Runs, all_run_behind, runs_behind}
 use Rattle.partition_store.proofs.SideBySide.{zip_weaker}
 use Rattle.partition_store.proofs.laws.looked_then_recovered.Goals as goal
 use Rattle.partition_store.specs.Opening.{HoldsThroughout}
-use Rattle.store_spec.specs.Disk.{disk_model}
+use Rattle.store_spec.proofs.Common.{disk_model}
 
 pub returns-clause-first : goal.returns-clause-first
 returns-clause-first g c e answer one after more now run =

@@ -1,11 +1,9 @@
 use Rattle.std.proofs.Common.{◌≡◌, ◌⊎◌, ⊎_elim, List, Some, subst}
+use Rattle.store_spec.proofs.Common.{Ballot, HoldsSet, leaves_now}
 use Rattle.crash_disk.proofs.Moments.{weaker}
 use Rattle.image_builder.proofs.Held.{one_held}
 use Rattle.partition_store.proofs.laws.one_held_set.Goals as goal
 use Rattle.recovery.specs.Refused.{HoldsSetOf}
-use Rattle.store_spec.specs.Ballot.{Ballot}
-use Rattle.store_spec.specs.Disk.{leaves_now}
-use Rattle.store_spec.specs.Medium.{HoldsSet}
 
 pub returns : goal.returns
 returns g c e old new bytes set valid sees start run =

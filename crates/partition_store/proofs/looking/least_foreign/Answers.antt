@@ -1,5 +1,5 @@
 use Rattle.std.proofs.Common.{sym, subst, take}
-use Rattle.std.proofs.lemmas.List.{take_all, take_more}
+use Rattle.store_spec.proofs.Common.{take_all, take_more}
 use Rattle.partition_store.proofs.looking.least_foreign.Goals as goal
 use Rattle.partition_store.specs.Foreign.{IsAmong, IsLeastForeign}
 

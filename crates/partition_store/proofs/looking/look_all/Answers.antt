@@ -1,4 +1,5 @@
 use Rattle.std.proofs.Common.{◌≤◌, ◌∷◌, [], sym, subst, arith}
+use Rattle.store_spec.proofs.Common.{disk_model}
 use Rattle.partition_store.proofs.Looks.{first_found, refuses_first, refuses_rest}
 use Rattle.partition_store.proofs.looking.look_all.Goals as goal
 use Rattle.partition_store.specs.Foreign.{IsFirstForeign, IsMisplaced}
@@ -6,7 +7,6 @@ use Rattle.partition_store.specs.Opening.{IsAgainst}
 use Rattle.recovery.proofs.OneByOne.{handed_on, zip_same}
 use Rattle.recovery.proofs.OnlyReading.{nothing_called}
 use Rattle.recovery.specs.ReadsOnly.{WritesNothing}
-use Rattle.store_spec.specs.Disk.{disk_model}
 
 pub returns-in_err-number-clause-refused : goal.returns-in_err-number-clause-refused
 returns-in_err-number-clause-refused g c =

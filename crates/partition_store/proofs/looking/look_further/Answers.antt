@@ -1,18 +1,15 @@
 use Rattle.std.proofs.Common.{◌≡◌, ◌<◌, ◌≤◌, ◌+◌, ◌++◌, ◌∷◌, [], Some, get_or, length, refl, sym, ap, subst, set, take, ◌∙◌, arith}
-use Rattle.std.proofs.lemmas.List.{length-take, take-set}
-use Rattle.std.proofs.lemmas.Slice.Zip.{AllZip-long}
-use Rattle.std.specs.List.{AllZip}
+use Rattle.store_spec.proofs.Common.{AllZip, AllZip-long, disk_model, length-take, take-set}
 use Rattle.partition_store.proofs.Looks.{none_failed, refuses_further}
 use Rattle.partition_store.proofs.Seeking.{first_more}
 use Rattle.partition_store.proofs.looking.look_further.Goals as goal
 use Rattle.partition_store.specs.Foreign.{IsFirstForeign}
-use Rattle.partition_store.specs.Opening.{RefusesFurther}
+use Rattle.partition_store.specs.Opening.{RefusesParts}
 use Rattle.partition_store.proofs.SideBySide.{zip_next}
 use Rattle.recovery.proofs.OneByOne.{handed_on, rest_still, stands_now, stood_there, zip_more, zip_same, zip_take}
 use Rattle.recovery.proofs.OnlyReading.{nothing_called}
 use Rattle.recovery.specs.Media.{HoldsIfTold}
 use Rattle.recovery.specs.ReadsOnly.{WritesNothing}
-use Rattle.store_spec.specs.Disk.{disk_model}
 
 pub loop-place-init : goal.loop-place-init
 loop-place-init g c = record {
@@ -36,7 +33,7 @@ returns-in_err-number-clause-refused g c =
     let old = get_or now place x in
     let lt : place < length now = omega (arith, c.loop-place.auto.more) in
     let there = stood_there first now place x c.loop-place.auto.more c.loop-place.invariant.rest lt c.index-more-place.is ∙ ap Some c.index-more-place.is in
-    handed_on c.from_residual.result (RefusesFurther model e first (set now place c.look_part.new.disk)) fault c.from_residual.ensures.1
+    handed_on c.from_residual.result (RefusesParts model e first (set now place c.look_part.new.disk)) fault c.from_residual.ensures.1
     (refuses_further model e first (set now place c.look_part.new.disk) fault
     (record {
       place = place;

@@ -1,11 +1,9 @@
 use Rattle.std.proofs.Common.{◌≡◌, ◌≤◌, List, [], ◌∷◌, take, drop}
-use Rattle.std.specs.List.{AllZip}
+use Rattle.store_spec.proofs.Common.{AllZip, Ballot, disk_model}
 use Rattle.partition_store.proofs.looking.look_further.Given as goal
 use Rattle.partition_store.specs.Foreign.{IsFirstForeign}
 use Rattle.recovery.specs.Media.{EachHolds, NoneRose}
 use Rattle.recovery.specs.ReadsOnly.{WritesNothing}
-use Rattle.store_spec.specs.Ballot.{Ballot}
-use Rattle.store_spec.specs.Disk.{disk_model}
 
 -- the media before this one were looked at, and those from it on are as they were
 abbrev pub invariant-loop-place : goal.invariant-loop-place

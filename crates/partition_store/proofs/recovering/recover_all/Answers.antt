@@ -1,6 +1,5 @@
 use Rattle.std.proofs.Common.{◌≡◌, ◌<◌, ◌++◌, ◌∷◌, List, [], length, sym, ap, subst, ◌∙◌, arith}
-use Rattle.std.proofs.lemmas.List.{length-map}
-use Rattle.std.proofs.lemmas.Slice.Zip.{AllZip-long}
+use Rattle.store_spec.proofs.Common.{AllZip-long, disk_model, length-map}
 use Rattle.body_store.specs.Contents.{Contents}
 use Rattle.partition_store.proofs.Keeping.{are_parts, own_election}
 use Rattle.partition_store.proofs.Opened.{no_room, opened, refuses_first, refuses_rest}
@@ -12,7 +11,6 @@ use Rattle.partition_store.specs.Recovering.{RefusesAll}
 use Rattle.partition_store.specs.declared.fault.PartFault.TheVariants.{Memory}
 use Rattle.recovery.proofs.OneByOne.{handed_on, zip_same}
 use Rattle.recovery.specs.Media.{HoldsIfTold}
-use Rattle.store_spec.specs.Disk.{disk_model}
 
 pub returns-in_err-first-clause-refused : goal.returns-in_err-first-clause-refused
 returns-in_err-first-clause-refused g c =

@@ -1,7 +1,5 @@
 use Rattle.std.proofs.Common.{◌≡◌, ◌<◌, ◌+◌, ◌++◌, ◌∷◌, List, [], Some, EachIndex, get_or, length, length-append, refl, sym, ap, subst, set, take, ◌∙◌, arith}
-use Rattle.std.proofs.lemmas.List.{append-nil, take_all}
-use Rattle.std.proofs.lemmas.List.Elements.{All-push}
-use Rattle.std.specs.List.{AllZip}
+use Rattle.store_spec.proofs.Common.{All-push, AllZip, append-nil, disk_model, last_count, take_all}
 use Rattle.body_store.specs.Contents.{Contents, IsStored}
 use Rattle.partition_store.proofs.Keeping.{own_more, sets_more}
 use Rattle.partition_store.proofs.Recoveries.{kept_still, recovered_keeps, recovered_more, recovers_still, refuses_recoveries}
@@ -13,8 +11,6 @@ use Rattle.partition_store.specs.Recovering.{KeepsSteady, RefusesRecoveries}
 use Rattle.partition_store.specs.declared.fault.PartFault.TheVariants.{Memory}
 use Rattle.partition_store.proofs.SideBySide.{zip_next, zip_taken}
 use Rattle.recovery.proofs.OneByOne.{handed_on, rest_still, stood_there, zip_same}
-use Rattle.store_spec.specs.Disk.{disk_model}
-use Rattle.store_spec.specs.Fault.{last_count}
 
 pub loop-place-init : goal.loop-place-init
 loop-place-init g c =

@@ -1,13 +1,10 @@
 use Rattle.std.proofs.Common.{◌≡◌, ◌++◌, ◌+◌, ◌<◌, List, [], EachIndex, get_or, length, take, drop}
-use Rattle.std.specs.List.{AllZip}
+use Rattle.store_spec.proofs.Common.{AllZip, Ballot, disk_model, last_count}
 use Rattle.partition_store.proofs.recovering.recover_further.Given as goal
 use Rattle.partition_store.specs.Opening.{Recovers}
 use Rattle.partition_store.specs.Parted.{BelongsTo}
 use Rattle.partition_store.specs.PartedKept.{AreStores, sets_of}
 use Rattle.partition_store.specs.Recovering.{AreRecoveredAs, KeepsSteady}
-use Rattle.store_spec.specs.Ballot.{Ballot}
-use Rattle.store_spec.specs.Disk.{disk_model}
-use Rattle.store_spec.specs.Fault.{last_count}
 
 -- the media before this one were recovered, and those from it on are as they were
 abbrev pub invariant-loop-place : goal.invariant-loop-place

@@ -1,10 +1,9 @@
 use Rattle.std.proofs.Common.{◌∙◌, sym, subst, List, ℕ}
-use Rattle.std.specs.List.{Contains}
+use Rattle.store_spec.proofs.Common.{Contains, listed}
 use Rattle.std.specs.Prelude.{◌↔◌}
 use Rattle.phase_delete.proofs.Left.{left_alike, members_left, without_alike}
 use Rattle.phase_delete.proofs.laws.the_numbers_fix_the_set.Goals as goal
 use Rattle.phase_delete.specs.Closing.{all_numbers}
-use Rattle.store_spec.specs.WithdrawPhase.{listed}
 
 pub returns-clause-rest : goal.returns-clause-rest
 returns-clause-rest c held after lists outcome x = subst (λ (l : List ℕ). Contains l x ↔ (Contains held x × (¬ Contains (listed lists) x))) (sym outcome.rest) (members_left held (listed lists) x)

@@ -1,12 +1,11 @@
 use Rattle.std.proofs.Common.{◌≡◌, ℕ, List, None, Some, slice_index, refl, subst, sym}
-use Rattle.std.specs.List.{Contains}
+use Rattle.store_spec.proofs.Common.{Contains, numbers_of}
 use Rattle.phase_delete.proofs.Held.{cell_at, room}
 use Rattle.phase_delete.proofs.Trays.{absent_exactly, right_of_held}
 use Rattle.phase_delete.proofs.removing.withdraw.Goals as goal
 use Rattle.phase_delete.specs.Stands.{StoodAt}
 use Rattle.step_core.specs.declared.shape.Shape.{Shape}
 use Rattle.step_core.specs.declared.withdrawer.WithdrawReply.TheVariants.{Absent}
-use Rattle.store_spec.specs.Ballot.{numbers_of}
 use Rattle.word_rule.proofs.Stores.{ordered_by, some_number}
 use Rattle.word_rule.specs.Stores.{IsShapeOf}
 

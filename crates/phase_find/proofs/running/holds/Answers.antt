@@ -1,13 +1,10 @@
 use Rattle.std.proofs.Common.{◌≡◌, ◌≢◌, ℕ, List, Option, None, Some, MatchOption, is_some, slice_index, sym, ◌∙◌, arith}
-use Rattle.std.proofs.lemmas.List.Elements.{All-contains}
-use Rattle.std.specs.List.{Contains}
+use Rattle.store_spec.proofs.Common.{All-contains, Ballot, Contains, HoldsExactly, IsValid, numbers_of}
 use Rattle.ballot_record.proofs.BallotNumbers.{ballot_with}
 use Rattle.layout_def.proofs.OrderedCells.{contains_from_place, place_within}
 use Rattle.phase_find.proofs.Held.{absent, present}
 use Rattle.phase_find.proofs.running.holds.Goals as goal
 use Rattle.phase_find.specs.Present.{is_present}
-use Rattle.store_spec.specs.Ballot.{Ballot, IsValid, numbers_of}
-use Rattle.store_spec.specs.Layout.{HoldsExactly}
 
 pub returns-then-number-eq0 : goal.returns-then-number-eq0
 returns-then-number-eq0 c =

@@ -1,5 +1,5 @@
 use Rattle.std.proofs.Common.{◌≡◌, ◌∙◌, arith, false, length, map, sym}
-use Rattle.std.proofs.lemmas.List.{ext_get_or, get_or-map, length-map}
+use Rattle.store_spec.proofs.Common.{ext_get_or, get_or-map, length-map}
 use Rattle.phase_find.specs.Present.{is_present}
 use Rattle.phase_find.proofs.running.look_up.Goals as goal
 

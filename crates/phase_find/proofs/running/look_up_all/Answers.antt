@@ -1,5 +1,5 @@
 use Rattle.std.proofs.Common.{◌≡◌, ◌∙◌, ℕ, ◌<◌, Bool, Global, List, Vec, ap, arith, get_or, length, map, rules, sym, vec_len}
-use Rattle.std.proofs.lemmas.List.{length-map}
+use Rattle.store_spec.proofs.Common.{length-map}
 use Rattle.phase_find.proofs.Rows.{rows_alike, same_rows}
 use Rattle.phase_find.specs.Present.{is_present}
 use Rattle.phase_find.proofs.running.look_up_all.Goals as goal

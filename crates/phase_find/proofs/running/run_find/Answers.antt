@@ -1,6 +1,5 @@
 use Rattle.std.proofs.Common.{◌≡◌, ◌∙◌, ◌++◌, ap, arith, drop, length, map, sym, take}
-use Rattle.std.proofs.lemmas.List.{take_at}
-use Rattle.std.proofs.lemmas.Simd.{map-map}
+use Rattle.store_spec.proofs.Common.{map-map, take_at}
 use Rattle.phase_find.specs.Present.{is_present}
 use Rattle.phase_find.proofs.running.run_find.Goals as goal
 

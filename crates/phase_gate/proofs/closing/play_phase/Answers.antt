@@ -2,7 +2,7 @@ use Rattle.std.proofs.Common.{ℕ, List, Vec, Global, map, subst, sym, ap}
 use Rattle.phase_gate.proofs.Closes.{closes_casting, closes_finding, closes_withdrawing}
 use Rattle.phase_gate.proofs.closing.play_phase.Goals as goal
 use Rattle.phase_gate.specs.Replies.{ClosesBy, words_of}
-use Rattle.phase_gate.specs.Work.{phase_of}
+use Rattle.phase_gate.specs.Waiting.{phase_of}
 use Rattle.phase_gate.specs.declared.replies.Replies.TheVariants.{Cast, Withdrawn, Found}
 use Rattle.phase_insert.specs.Closing as casting
 use Rattle.step_core.specs.WithdrawCore as withdrawing

@@ -3,7 +3,7 @@ use Rattle.std.proofs.lemmas.List.{get_or-map, get_or-set_other, length-map, map
 use Rattle.phase_insert.proofs.Rows.{all_finals_more}
 use Rattle.phase_insert.proofs.closing.all_finals.Goals as goal
 use Rattle.phase_insert.specs.Ends.{AreAllFinals}
-use Rattle.phase_insert.specs.Tray.{CastTray, IsPaired, casts_of}
+use Rattle.phase_insert.specs.Tray.{CastTray, IsTrayPaired, casts_of}
 use Rattle.phase_insert.specs.declared.reply.Final.{Final}
 
 -- as many lists as trays
@@ -19,7 +19,7 @@ tray_finals-requires-clause-election c =
     ap (λ (tray : CastTray). tray.items.election) c.index-trays-place.is ∙ c.requires.elections c.loop-place.place tray c.loop-place-test.true
 
 pub tray_finals-requires-clause-paired : goal.tray_finals-requires-clause-paired
-tray_finals-requires-clause-paired c = subst IsPaired (sym c.index-trays-place.is) (c.requires.paired c.loop-place.place c.index-trays-place.result c.loop-place-test.true)
+tray_finals-requires-clause-paired c = subst IsTrayPaired (sym c.index-trays-place.is) (c.requires.paired c.loop-place.place c.index-trays-place.result c.loop-place-test.true)
 
 pub tray_finals-requires-clause-room : goal.tray_finals-requires-clause-room
 tray_finals-requires-clause-room c =

@@ -1,5 +1,5 @@
 use Rattle.std.proofs.Common.{take}
-use Rattle.std.specs.List.{All}
+use Rattle.store_spec.proofs.Common.{All}
 use Rattle.phase_insert.proofs.closing.are_all_accepted.Given as goal
 use Rattle.phase_insert.specs.Tray.{IsAllAccepted}
 

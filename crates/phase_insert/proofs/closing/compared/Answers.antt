@@ -1,8 +1,7 @@
 use Rattle.std.proofs.Common.{◌≡◌, None, Some, sym, ap, subst, ◌∙◌}
-use Rattle.std.specs.Prelude.{MatchOption}
+use Rattle.store_spec.proofs.Common.{MatchOption, ballot_of}
 use Rattle.phase_insert.proofs.Compared.{IsHeldCell, number_there, other_held, same_held}
 use Rattle.phase_insert.proofs.closing.compared.Goals as goal
-use Rattle.store_spec.specs.Ballot.{ballot_of}
 
 pub returns-in-Some : goal.returns-in-Some
 returns-in-Some c b there =

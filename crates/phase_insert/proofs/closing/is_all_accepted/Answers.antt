@@ -1,7 +1,5 @@
 use Rattle.std.proofs.Common.{◌≡◌, get_or, take, sym, subst, ◌∙◌, arith}
-use Rattle.std.proofs.lemmas.List.{get_or_default, take_all, take_more}
-use Rattle.std.proofs.lemmas.List.Elements.{All-push}
-use Rattle.std.specs.List.{All}
+use Rattle.store_spec.proofs.Common.{All, All-push, get_or_default, take_all, take_more}
 use Rattle.phase_insert.proofs.closing.is_all_accepted.Goals as goal
 use Rattle.phase_insert.specs.declared.reply.CastReply.{CastReply}
 use Rattle.phase_insert.specs.declared.reply.CastReply.TheVariants.{Accepted}

@@ -1,6 +1,5 @@
 use Rattle.std.proofs.Common.{[], ◌∷◌, ◌++◌, append_assoc, arith, get_or, sym, take, ap, ◌∙◌}
-use Rattle.std.proofs.lemmas.List.{take_all}
-use Rattle.std.proofs.lemmas.Option.{slice_get-get_or}
+use Rattle.store_spec.proofs.Common.{slice_get-get_or, take_all}
 use Rattle.phase_insert.proofs.Casts.{cast_of, no_ballot}
 use Rattle.phase_kind.proofs.Trays.{length-told, take_next}
 use Rattle.phase_insert.proofs.Trays.{ballots_that-push}

@@ -1,6 +1,5 @@
 use Rattle.std.proofs.Common.{◌≡◌, ◌≢◌, [], ◌∷◌, ◌++◌, Some, refl, sym, ap, ◌∙◌}
-use Rattle.std.proofs.lemmas.List.{append-nil}
-use Rattle.std.proofs.lemmas.Option.{get_or_from_slice_get}
+use Rattle.store_spec.proofs.Common.{append-nil, get_or_from_slice_get}
 use Rattle.ballot_record.specs.BallotList.{ListedBallots}
 use Rattle.phase_kind.proofs.Trays.{told_parts}
 use Rattle.phase_insert.proofs.Trays.{one_accepted, one_other}

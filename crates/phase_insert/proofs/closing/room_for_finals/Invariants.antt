@@ -1,5 +1,5 @@
 use Rattle.std.proofs.Common.{◌≡◌, [], length, map, take, vec_capacity}
-use Rattle.std.specs.List.{All}
+use Rattle.store_spec.proofs.Common.{All}
 use Rattle.phase_insert.proofs.closing.room_for_finals.Given as goal
 
 abbrev pub invariant-loop-tray : goal.invariant-loop-tray

@@ -1,5 +1,5 @@
 use Rattle.std.proofs.Common.{◌≡◌, ap, sym, ◌∙◌}
-use Rattle.std.proofs.lemmas.List.{length-map}
+use Rattle.store_spec.proofs.Common.{length-map}
 use Rattle.phase_kind.proofs.closing.opened.Goals as goal
 use Rattle.step_core.proofs.Sets.{All-from_map}
 use Rattle.word_rule.specs.Places.{Place}

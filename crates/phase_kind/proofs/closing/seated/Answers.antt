@@ -1,8 +1,5 @@
 use Rattle.std.proofs.Common.{◌≡◌, ◌+◌, ◌++◌, [], ◌∷◌, List, Some, ap, arith, get_or, length, length-append, map, ℕ, ◌∙◌, rules, slice_get, subst, sym, zip}
-use Rattle.std.proofs.lemmas.Iterator.Adapters.{YieldsList-from_vec}
-use Rattle.std.proofs.lemmas.Iterator.Consumers.{YieldsList-end, YieldsList-turn}
-use Rattle.std.proofs.lemmas.List.{map-id, map_push}
-use Rattle.std.proofs.lemmas.Option.{slice_get-get_or}
+use Rattle.store_spec.proofs.Common.{YieldsList-end, YieldsList-from_vec, YieldsList-turn, map-id, map_push, slice_get-get_or}
 use Rattle.phase_kind.proofs.Trays.{made_alike, zip_under}
 use Rattle.phase_kind.proofs.closing.seated.Goals as goal
 use Rattle.phase_kind.specs.Worker.{WorkerView, new_worker}

@@ -1,6 +1,5 @@
 use Rattle.std.proofs.Common.{◌≡◌, ◌++◌, [], ◌∷◌, List, ap, ap₂, length, map, sym, zip, ◌∙◌, rules}
-use Rattle.std.proofs.lemmas.List.{map_push, nil_from_length}
-use Rattle.std.proofs.lemmas.Simd.{map-map}
+use Rattle.store_spec.proofs.Common.{map-map, map_push, nil_from_length}
 use Rattle.phase_kind.proofs.Planned.{holds_at}
 use Rattle.phase_kind.proofs.Taken.{all_taken, beside_there, none_taken, one_taken, there}
 use Rattle.phase_kind.proofs.Trays.{made_alike, zip_more}

@@ -1,8 +1,7 @@
 use Rattle.std.proofs.Common.{◌≡◌, ◌++◌, [], ◌∷◌, All, List, ap, length, map, ◌∙◌, subst, sym}
-use Rattle.std.proofs.lemmas.List.{map_push}
-use Rattle.std.proofs.lemmas.List.Elements.{All-push}
+use Rattle.store_spec.proofs.Common.{All-push, map_push}
 use Rattle.phase_kind.proofs.closing.take_apart.Goals as goal
-use Rattle.phase_kind.specs.Told.{Told, told_in}
+use Rattle.phase_kind.specs.AnsweredItem.{AnsweredItem, answered_items}
 use Rattle.phase_kind.specs.declared.tray.Tray.{Tray}
 use Rattle.word_rule.specs.Places.{Place}
 
@@ -18,10 +17,10 @@ pub returns-clause-trays : goal.returns-clause-trays
 returns-clause-trays g c =
     let k = g.K.Kind in
     let trays = c.args.trays.now.items in
-    let told : Tray g.row.K-List.Denot g.row.K-Reply.Denot → List (Told g.row.K-Item.Denot g.row.K-Reply.Denot) = λ t. told_in (k.items t.items) t.replies.items in
+    let told : Tray g.row.K-List.Denot g.row.K-Reply.Denot → List (AnsweredItem g.row.K-Item.Denot g.row.K-Reply.Denot) = λ t. answered_items (k.items t.items) t.replies.items in
     ap (map told) c.in_ok-push-2.ensures.items
     ∙ map_push told trays c.into_parts-seat.result.1
-    ∙ ap (λ (t : List (Told g.row.K-Item.Denot g.row.K-Reply.Denot)). map told trays ++ t ∷ []) c.into_parts-seat.ensures.tray
+    ∙ ap (λ (t : List (AnsweredItem g.row.K-Item.Denot g.row.K-Reply.Denot)). map told trays ++ t ∷ []) c.into_parts-seat.ensures.tray
 
 pub returns-clause-is_of : goal.returns-clause-is_of
 returns-clause-is_of g c before =

@@ -1,13 +1,10 @@
 use Rattle.std.proofs.Common.{◌≡◌, ◌++◌, [], ◌∷◌, All, List, ap, length, map-id, ◌∙◌, rules, subst, sym}
-use Rattle.std.proofs.lemmas.Iterator.Adapters.{YieldsList-from_vec}
-use Rattle.std.proofs.lemmas.Iterator.Consumers.{YieldsList-end, YieldsList-turn}
-use Rattle.std.proofs.lemmas.List.{map_push}
-use Rattle.std.proofs.lemmas.List.Elements.{All-push}
+use Rattle.store_spec.proofs.Common.{All-push, YieldsList-end, YieldsList-from_vec, YieldsList-turn, map_push}
 use Rattle.phase_kind.proofs.Trays.{front_and_last}
 use Rattle.phase_kind.proofs.closing.taken_apart.Goals as goal
-use Rattle.phase_kind.specs.Phase.{Phase}
-use Rattle.phase_kind.specs.Told.{Told, told_in}
-use Rattle.phase_kind.specs.Worker.{AreParts, WorkerView, seat_of}
+use Rattle.phase_kind.specs.Phase.{OpenPhase}
+use Rattle.phase_kind.specs.AnsweredItem.{AnsweredItem, answered_items}
+use Rattle.phase_kind.specs.Worker.{AreSeatsAndTrays, WorkerView, seat_of}
 use Rattle.phase_kind.specs.declared.tray.Tray.{Tray}
 use Rattle.word_rule.specs.Places.{Place}
 
@@ -31,11 +28,11 @@ loop-worker-preserved g c =
     let e = c.in_ok-take_apart.ensures in
     record {
       seats_are = e.seats ∙ ap (λ (l : List (Place g.row.K-Sight.Denot)). l ++ seat_of worker ∷ []) i.seats_are ∙ sym (map_push (λ (w : W). seat_of w) before worker);
-      trays_are = e.trays ∙ ap (λ (l : List (List (Told g.row.K-Item.Denot g.row.K-Reply.Denot))). l ++ worker.tray ∷ []) i.trays_are ∙ sym (map_push (λ (w : W). w.tray) before worker);
+      trays_are = e.trays ∙ ap (λ (l : List (List (AnsweredItem g.row.K-Item.Denot g.row.K-Reply.Denot))). l ++ worker.tray ∷ []) i.trays_are ∙ sym (map_push (λ (w : W). w.tray) before worker);
       of_base = λ phase belong.
           let both = front_and_last (λ (w : W). w.phase ≡ phase) before worker belong in
-          subst (λ (p : Phase). All (λ (t : T). k.is_of p.base t.items) c.take_apart.new.trays.items) both.1
-          (e.is_of (subst (λ (p : Phase). All (λ (t : T). k.is_of p.base t.items) c.loop-worker.trays.items) (sym both.1) (i.of_base phase both.0)));
+          subst (λ (p : OpenPhase). All (λ (t : T). k.is_of p.base t.items) c.take_apart.new.trays.items) both.1
+          (e.is_of (subst (λ (p : OpenPhase). All (λ (t : T). k.is_of p.base t.items) c.loop-worker.trays.items) (sym both.1) (i.of_base phase both.0)));
       paired = e.paired;
       all_told = All-push (λ (w : W). k.tells w.phase w.seat w.tray) before worker i.all_told e.told;
     }
@@ -46,4 +43,4 @@ returns g c =
     let W = WorkerView g.row.K-Sight.Denot g.row.K-Item.Denot g.row.K-Reply.Denot in
     let T = Tray g.row.K-List.Denot g.row.K-Reply.Denot in
     let end = YieldsList-end (YieldsList-from_vec c.args.workers.items (search rules) (search rules)) c.loop-worker.yielded c.loop-worker.worker-iterator c.loop-worker.yielded_by c.next.result c.next.new.self c.in-None.is c.next.ensures.steps in
-    subst (λ (ws : List W). AreParts k.standing (λ (t : T). told_in (k.items t.items) t.replies.items) (λ base (t : T). k.is_of base t.items) (λ (t : T). length (k.items t.items) ≡ length t.replies.items) k.tells ws c.loop-worker.seats.items c.loop-worker.trays.items) (sym (map-id c.loop-worker.yielded) ∙ end.0) c.loop-worker.invariant
+    subst (λ (ws : List W). AreSeatsAndTrays k.standing (λ (t : T). answered_items (k.items t.items) t.replies.items) (λ base (t : T). k.is_of base t.items) (λ (t : T). length (k.items t.items) ≡ length t.replies.items) k.tells ws c.loop-worker.seats.items c.loop-worker.trays.items) (sym (map-id c.loop-worker.yielded) ∙ end.0) c.loop-worker.invariant

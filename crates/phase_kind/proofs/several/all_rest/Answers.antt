@@ -1,6 +1,5 @@
 use Rattle.std.proofs.Common.{All, get_or, subst, sym, take}
-use Rattle.std.proofs.lemmas.List.{take_all, take_more}
-use Rattle.std.proofs.lemmas.List.Elements.{All-nil, All-push}
+use Rattle.store_spec.proofs.Common.{All-nil, All-push, take_all, take_more}
 use Rattle.phase_kind.proofs.several.all_rest.Goals as goal
 use Rattle.phase_kind.specs.Worker.{WorkerView}
 

@@ -1,5 +1,5 @@
 use Rattle.std.proofs.Common.{◌<◌, arith, get_or, length, zip}
-use Rattle.std.proofs.lemmas.Option.{slice_get-get_or}
+use Rattle.store_spec.proofs.Common.{slice_get-get_or}
 use Rattle.phase_kind.proofs.Counts.{something_there}
 use Rattle.phase_kind.proofs.Planned.{holds_at, zipped_there}
 use Rattle.phase_kind.proofs.Shared.{each_set, one_filled, room_there}

@@ -1,6 +1,5 @@
 use Rattle.std.proofs.Common.{◌+◌, ◌<◌, ◌∙◌, Global, Vec, ap, arith, get_or, length, map, refl, subst, sym}
-use Rattle.std.proofs.lemmas.List.{get_or_default}
-use Rattle.std.proofs.lemmas.Option.{slice_get-get_or}
+use Rattle.store_spec.proofs.Common.{get_or_default, slice_get-get_or}
 use Rattle.phase_kind.proofs.Counts.{AreMerged, all_merged, count_there, fewer_there, none_counted, none_merged, one_counted, one_merged, short, shown_there}
 use Rattle.phase_kind.proofs.several.in_order.Goals as goal
 

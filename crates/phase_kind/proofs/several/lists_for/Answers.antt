@@ -1,5 +1,5 @@
 use Rattle.std.proofs.Common.{◌∙◌, ◌<◌, List, ℕ, ap, arith, get_or, length, slice_get, sym, zip}
-use Rattle.std.proofs.lemmas.Option.{slice_get-get_or, slice_get_within}
+use Rattle.store_spec.proofs.Common.{slice_get-get_or, slice_get_within}
 use Rattle.phase_kind.proofs.Counts.{short, something_there}
 use Rattle.phase_kind.proofs.Planned.{zipped_at}
 use Rattle.phase_kind.proofs.Shared.{none_filled}

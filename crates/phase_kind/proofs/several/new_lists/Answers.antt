@@ -1,8 +1,8 @@
 use Rattle.std.proofs.Common.{◌≡◌, ◌+◌, ◌∙◌, [], ◌∷◌, List, Some, ap, arith, get_or, length, length-append, slice_get, subst, sym}
-use Rattle.std.proofs.lemmas.Option.{none-some, slice_get-get_or}
+use Rattle.store_spec.proofs.Common.{none-some, slice_get-get_or}
 use Rattle.phase_kind.proofs.Shared.{one_new}
 use Rattle.phase_kind.proofs.several.new_lists.Goals as goal
-use Rattle.phase_kind.specs.Team.{AreNew}
+use Rattle.phase_kind.specs.Team.{AreEmptyLists}
 
 pub loop-place-init : goal.loop-place-init
 loop-place-init g c = record {
@@ -26,5 +26,5 @@ loop-place-preserved g c =
     let its_share : slice_get shares (length lists) ≡ Some (get_or shares place 0) = ap (slice_get shares) i.as_many ∙ slice_get-get_or shares place 0 (omega (arith, c.loop-place-test.true, c.requires.as_many)) in
     record {
       as_many = ap length pushed ∙ length-append lists (list ∷ []) ∙ ap (λ n. n + 1) i.as_many;
-      new = subst (λ l. AreNew k.is_of k.items k.room stores shares l) (sym pushed) (one_new k.is_of k.items k.room stores shares lists list store (get_or shares place 0) i.new its_store its_share new.is_of new.empty new.room);
+      new = subst (λ l. AreEmptyLists k.is_of k.items k.room stores shares l) (sym pushed) (one_new k.is_of k.items k.room stores shares lists list store (get_or shares place 0) i.new its_store its_share new.is_of new.empty new.room);
     }

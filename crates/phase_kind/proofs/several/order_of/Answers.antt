@@ -1,5 +1,5 @@
 use Rattle.std.proofs.Common.{[], ◌∷◌, ◌++◌, ◌∙◌, ℕ, List, ap, ap₂, map, sym, take}
-use Rattle.std.proofs.lemmas.List.{map_push}
+use Rattle.store_spec.proofs.Common.{map_push}
 use Rattle.phase_kind.proofs.Trays.{take_next}
 use Rattle.phase_kind.proofs.several.order_of.Goals as goal
 

@@ -1,5 +1,5 @@
 use Rattle.std.proofs.Common.{◌≡◌, ◌++◌, ◌∙◌, ℕ, List, arith, drop, length, map, subst, sym, take}
-use Rattle.std.proofs.lemmas.List.{take_at}
+use Rattle.store_spec.proofs.Common.{take_at}
 use Rattle.phase_kind.proofs.Shared.{all_shared, goes_within}
 use Rattle.phase_kind.proofs.several.share_out.Goals as goal
 use Rattle.phase_kind.specs.Team.{AreSharedOut}

@@ -1,6 +1,5 @@
 use Rattle.std.proofs.Common.{◌+◌, ◌∙◌, ap, arith, get_or, refl, subst}
-use Rattle.std.proofs.lemmas.List.{get_or_default, take_all}
-use Rattle.std.proofs.lemmas.Option.{slice_get-get_or}
+use Rattle.store_spec.proofs.Common.{get_or_default, slice_get-get_or, take_all}
 use Rattle.phase_kind.proofs.Counts.{AreCounts, are_shares, count_there, fewer_there, none_counted, one_counted, short}
 use Rattle.phase_kind.proofs.several.shares.Goals as goal
 

@@ -1,5 +1,5 @@
 use Rattle.std.proofs.Common.{◌≡◌, ◌+◌, ◌∙◌, [], ◌∷◌, All, Vec, Global, ap, arith, length, length-append, subst, sym}
-use Rattle.std.proofs.lemmas.List.Elements.{All-nil, All-push}
+use Rattle.store_spec.proofs.Common.{All-nil, All-push}
 use Rattle.phase_kind.proofs.table.empty.Goals as goal
 
 pub loop-init : goal.loop-init

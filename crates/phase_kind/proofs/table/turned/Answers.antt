@@ -1,7 +1,5 @@
 use Rattle.std.proofs.Common.{◌≡◌, ◌∙◌, ◌++◌, [], ◌∷◌, Global, Vec, length, map, rules, subst, sym}
-use Rattle.std.proofs.lemmas.Iterator.Adapters.{YieldsList-from_vec}
-use Rattle.std.proofs.lemmas.Iterator.Consumers.{YieldsList-end, YieldsList-turn}
-use Rattle.std.proofs.lemmas.List.{length-map, map-id, map_push}
+use Rattle.store_spec.proofs.Common.{YieldsList-end, YieldsList-from_vec, YieldsList-turn, length-map, map-id, map_push}
 use Rattle.phase_kind.proofs.Columns.{turned_more, turned_none}
 use Rattle.phase_kind.proofs.table.turned.Goals as goal
 use Rattle.phase_kind.specs.Table.{IsTurned, grown}

@@ -1,15 +1,11 @@
 use Rattle.std.proofs.Common.{◌≡◌, ◌++◌, ◌∙◌, List, ap, arith, drop, length, map, subst, sym, take}
-use Rattle.std.proofs.lemmas.List.{length-map, take_at}
-use Rattle.std.proofs.lemmas.Simd.{map-map}
+use Rattle.store_spec.proofs.Common.{Ballot, fresh_cast_view, length-map, map-map, take_at}
 use Rattle.ballot_record.specs.BallotList.{ListedBallots}
 use Rattle.body_store.specs.Contents.{Contents}
 use Rattle.phase_insert.specs.Closing.{reply_of}
-use Rattle.phase_kind.specs.Worker.{worker_with}
 use Rattle.phase_play.proofs.Playing.{all_belong, all_there, all_trays, plays_casting}
 use Rattle.phase_play.specs.Plays.{PlaysCasting}
 use Rattle.phase_play.proofs.casting.play_casting.Goals as goal
-use Rattle.store_spec.specs.Ballot.{Ballot}
-use Rattle.store_spec.specs.CastStep.{fresh_cast_view}
 use Rattle.word_rule.specs.CastSeats.{IsAtRest}
 
 abbrev ballots : ListedBallots → List Ballot

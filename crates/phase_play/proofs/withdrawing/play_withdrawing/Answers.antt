@@ -1,13 +1,10 @@
 use Rattle.std.proofs.Common.{Global, Vec, ℕ, ◌≡◌, ◌++◌, ◌∙◌, List, arith, drop, length, map, subst, sym, take}
-use Rattle.std.proofs.lemmas.List.{length-map, take_at}
-use Rattle.std.proofs.lemmas.Simd.{map-map}
+use Rattle.store_spec.proofs.Common.{fresh_withdraw_view, length-map, map-map, take_at}
 use Rattle.body_store.specs.Contents.{Contents}
-use Rattle.phase_kind.specs.Worker.{worker_with}
 use Rattle.step_core.specs.WithdrawCore.{reply_of}
 use Rattle.phase_play.proofs.Playing.{all_belong, all_there, all_trays, plays_withdrawing}
 use Rattle.phase_play.specs.Plays.{PlaysWithdrawing}
 use Rattle.phase_play.proofs.withdrawing.play_withdrawing.Goals as goal
-use Rattle.store_spec.specs.WithdrawStep.{fresh_withdraw_view}
 use Rattle.word_rule.specs.WithdrawSeats.{IsAtRest}
 
 abbrev numbers : Vec ℕ Global → List ℕ

@@ -1,7 +1,5 @@
 use Rattle.std.proofs.Common.{◌≡◌, ◌≤◌, ◌∙◌, ◌++◌, [], ◌∷◌, ℕ, All, List, ap, arith, drop, length, map, refl, subst, sym, take}
-use Rattle.std.proofs.lemmas.List.{length-map, take_at}
-use Rattle.std.proofs.lemmas.List.Elements.{All-cons, All-map, All-nil}
-use Rattle.std.specs.List.{zip}
+use Rattle.store_spec.proofs.Common.{All-cons, All-map, All-nil, length-map, take_at, zip}
 use Rattle.phase_kind.specs.Worker.{AreAll, WorkerView, new_worker}
 use Rattle.phase_tests.proofs.phases.run.Goals as goal
 

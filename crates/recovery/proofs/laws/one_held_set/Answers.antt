@@ -1,7 +1,7 @@
 use Rattle.std.proofs.Common.{Some}
+use Rattle.store_spec.proofs.Common.{HoldsSet, HoldsTheSame}
 use Rattle.crash_disk.proofs.Moments.{syncs_first}
 use Rattle.recovery.proofs.laws.one_held_set.Goals as goal
-use Rattle.store_spec.specs.Medium.{HoldsSet, HoldsTheSame}
 
 pub returns : goal.returns
 returns g c e old new bytes set sees start =

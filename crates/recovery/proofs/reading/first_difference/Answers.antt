@@ -1,5 +1,5 @@
 use Rattle.std.proofs.Common.{ℕ, ◌+◌, subst, arith, ◌∙◌}
-use Rattle.std.specs.Prelude.{slice_range, IfSome}
+use Rattle.store_spec.proofs.Common.{IfSome, slice_range}
 use Rattle.bank_medium.specs.Banks.{bank_named, bytes_of}
 use Rattle.checkpoint.proofs.Pages.{page_long}
 use Rattle.recovery.proofs.Differences.{none_of}
@@ -29,8 +29,8 @@ loop-at-preserved g c =
       few = omega (arith, c.min-count.ensures, c.loop-at-test.true);
       same = agrees_told e (bank_named c.args.bank) made (g.D.Disk.seen c.args.disk.now) (g.D.Disk.seen c.loop-at.disk) at c.min-count.result c.in_ok-place.field-0 (none_of c.in_ok-place.field-0 c.in_default.not-Some) c.loop-at.invariant.reads.same_bytes c.loop-at.invariant.same here;
       reads = nothing_on g.D.Disk.seen g.D.Disk.calls g.D.Disk.may_leave c.args.disk.now c.loop-at.disk c.page_difference.new.disk c.loop-at.invariant.reads c.page_difference.ensures.same_bytes c.page_difference.ensures.crash_images;
-      no_fault = c.in_ok-place.ensures.fault.steady ∙ c.loop-at.invariant.no_fault;
-      leads = g.met.D.Disk.leads_on _ _ _ c.loop-at.invariant.leads c.page_difference.ensures.leads;
+      no_fault = c.in_ok-place.ensures.calls.fault.steady ∙ c.loop-at.invariant.no_fault;
+      leads = g.met.D.Disk.leads_on _ _ _ c.loop-at.invariant.leads c.page_difference.ensures.calls.leads;
     }
 
 pub returns-clause-difference : goal.returns-clause-difference

@@ -1,5 +1,5 @@
 use Rattle.std.proofs.Common.{◌≡◌, ◌-◌, ◌≤◌, take}
-use Rattle.std.specs.Prelude.{IfSome}
+use Rattle.store_spec.proofs.Common.{IfSome}
 use Rattle.bank_medium.specs.Banks.{bytes_of}
 use Rattle.recovery.proofs.reading.first_difference.Given as goal
 use Rattle.recovery.specs.ReadsOnly.{WritesNothing}

@@ -1,9 +1,8 @@
 use Rattle.std.proofs.Common.{List, ℕ, subst, arith}
-use Rattle.std.proofs.lemmas.List.{with_items_is}
+use Rattle.store_spec.proofs.Common.{IsImageOf, with_items_is}
 use Rattle.bank_medium.specs.Banks.{bank_named}
 use Rattle.recovery.proofs.Paging.{read_told}
 use Rattle.recovery.proofs.reading.read_bank.Goals as goal
-use Rattle.store_spec.specs.Image.{IsImageOf}
 
 pub returns-clause-read : goal.returns-clause-read
 returns-clause-read g c =

@@ -1,9 +1,7 @@
 use Rattle.std.proofs.Common.{◌≡◌, ℕ, ◌+◌, ◌-◌, ◌≤◌, ◌++◌, List, length, take, drop, arith, ap, refl, subst, ◌∙◌}
-use Rattle.std.proofs.lemmas.List.{length-drop, length-take-le}
-use Rattle.std.proofs.lemmas.Result.{err_from_is_err_and}
+use Rattle.store_spec.proofs.Common.{IfSome, err_from_is_err_and, length-drop, length-take-le, slice_range}
 use Rattle.std.proofs.lemmas.Slice.{take-put_mid}
 use borrow.Rule.Slice.PartMut.{put_mid, same_len_mid}
-use Rattle.std.specs.Prelude.{IfSome, slice_range}
 use Rattle.bank_medium.specs.Banks.{bank_named, bytes_of}
 use Rattle.image_builder.specs.Feeding.{Feeding}
 use Rattle.recovery.proofs.OnlyReading.{nothing_on}
@@ -63,8 +61,8 @@ loop-at-preserved g c =
       judged = c.in_ok-judge.ensures.judged;
       fed = subst (λ (n : ℕ). IsFedFrom e (bank_named c.args.bank) (g.D.Disk.seen c.args.disk.now) (at + n) next) long fed;
       reads = nothing_on g.D.Disk.seen g.D.Disk.calls g.D.Disk.may_leave c.args.disk.now c.loop-at.disk c.read_page.new.disk c.loop-at.invariant.reads c.read_page.ensures.same_bytes c.read_page.ensures.crash_images;
-      no_fault = c.in_ok-read_page.ensures.fault.steady ∙ c.loop-at.invariant.no_fault;
-      leads = g.met.D.Disk.leads_on _ _ _ c.loop-at.invariant.leads c.read_page.ensures.leads;
+      no_fault = c.in_ok-read_page.ensures.calls.fault.steady ∙ c.loop-at.invariant.no_fault;
+      leads = g.met.D.Disk.leads_on _ _ _ c.loop-at.invariant.leads c.read_page.ensures.calls.leads;
     }
 
 pub returns-clause-read : goal.returns-clause-read

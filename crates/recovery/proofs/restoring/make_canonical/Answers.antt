@@ -1,6 +1,6 @@
 use Rattle.std.proofs.Common.{◌≡◌, ℕ, List, Option, Some, sym, ap, subst, ◌∙◌}
-use Rattle.std.proofs.lemmas.Bool.{false≢true}
-use Rattle.std.specs.Prelude.{◌↔◌, is_some, IsTrue, OnOk}
+use Rattle.store_spec.proofs.Common.{Bank, HoldsSet, IsMediumOf, IsTrue, LeavesOnly, OnOk, bank_of, false≢true, image_of, is_some}
+use Rattle.std.specs.Prelude.{◌↔◌}
 use Rattle.bank_medium.specs.Banks.{bank_named, bytes_of}
 use Rattle.checkpoint.specs.Renewal.{IsHalfRenewed, IsRenewed}
 use Rattle.outside_io.proofs.Told.{told_holds}
@@ -9,9 +9,6 @@ use Rattle.recovery.proofs.Agreeing.{agreeing_medium, medium_agrees, medium_open
 use Rattle.recovery.proofs.OnlyReading.{settled_reads}
 use Rattle.recovery.proofs.Runs.{reading, reading_then, renewed_told, renewing}
 use Rattle.recovery.proofs.restoring.make_canonical.Goals as goal
-use Rattle.store_spec.specs.Disk.{LeavesOnly}
-use Rattle.store_spec.specs.Image.{image_of}
-use Rattle.store_spec.specs.Medium.{Bank, HoldsSet, IsMediumOf, bank_of}
 
 pub returns-then-not-open_too-clause-medium : goal.returns-then-not-open_too-clause-medium
 returns-then-not-open_too-clause-medium g c set image =

@@ -1,6 +1,5 @@
 use Rattle.std.proofs.Common.{◌≡◌, ℕ, List, Option, Some, inl, subst, ◌∙◌}
-use Rattle.std.proofs.lemmas.Result.{IfErr-weaker, on_ok_weaker}
-use Rattle.std.specs.Prelude.{IfOk}
+use Rattle.store_spec.proofs.Common.{HoldsTheSame, IfErr-weaker, IfOk, IsMediumOf, disk_model, on_ok_weaker}
 use Rattle.crash_disk.proofs.Moments.{synced_first}
 use Rattle.outside_io.specs.Told.{IfTold}
 use Rattle.recovery.proofs.OnlyReading.{reads_joined}
@@ -9,12 +8,10 @@ use Rattle.recovery.proofs.Unharmed.{each_fault, synced, unsynced}
 use Rattle.recovery.proofs.restoring.recover.Goals as goal
 use Rattle.recovery.specs.Refused.{IsUnharmedAt}
 use Rattle.recovery.specs.declared.fault.RecoverFault.{RecoverFault}
-use Rattle.store_spec.specs.Disk.{disk_model}
-use Rattle.store_spec.specs.Medium.{HoldsTheSame, IsMediumOf}
 
 pub returns-in_err-settle-clause-canonical : goal.returns-in_err-settle-clause-canonical
 returns-in_err-settle-clause-canonical g c bytes set settled sees medium =
-    unsynced_reads g.D.Disk.seen g.D.Disk.calls g.D.Disk.may_leave c.args.disk.now c.settle.new.disk settled bytes sees c.settle.ensures.told (λ x is. g.met.D.Disk.seen_is_crash_image c.settle.new.disk x is) c.in_err-settle.ensures.unsettled
+    unsynced_reads g.D.Disk.seen g.D.Disk.calls g.D.Disk.may_leave c.args.disk.now c.settle.new.disk settled bytes sees c.settle.ensures.calls.told (λ x is. g.met.D.Disk.seen_is_crash_image c.settle.new.disk x is) c.in_err-settle.ensures.unsettled
 
 pub returns-clause-medium : goal.returns-clause-medium
 returns-clause-medium g c =

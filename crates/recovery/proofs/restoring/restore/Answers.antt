@@ -1,4 +1,5 @@
-use Rattle.std.proofs.Common.{◌≡◌, ℕ, List, Option, Some, sym, subst, ap, ◌∙◌}
+use Rattle.std.proofs.Common.{◌≡◌, ℕ, List, Option, Some, Err, sym, subst, ap, ◌∙◌, arith}
+use Rattle.store_spec.proofs.Common.{IsErrOf, IsMediumOf, disk_model, err_from_is_err_and, image_of}
 use Rattle.bank_medium.specs.Banks.{bank_named}
 use Rattle.outside_io.proofs.Told.{told_holds}
 use Rattle.outside_io.specs.Told.{IfTold}
@@ -12,9 +13,6 @@ use Rattle.recovery.specs.Canonical.{IsReadAs}
 use Rattle.recovery.specs.Refused.{IsUnharmedAt}
 use Rattle.recovery.specs.declared.fault.RecoverFault.{RecoverFault}
 use Rattle.recovery.specs.declared.fault.RecoverFault.TheVariants.{DiskFault}
-use Rattle.store_spec.specs.Disk.{disk_model}
-use Rattle.store_spec.specs.Image.{image_of}
-use Rattle.store_spec.specs.Medium.{IsMediumOf}
 
 pub make_canonical-requires-clause-election : goal.make_canonical-requires-clause-election
 make_canonical-requires-clause-election g c = stored_election c.args.election.now c.in_ok-closed.closed (sym c.in_ok-closed.ensures.election) c.in_ok-closed.ensures.stored
@@ -82,3 +80,37 @@ returns-in_err-make_canonical-clause-unharmed g c =
     (λ bytes sees. half_restored model e bytes c.in_ok-closed.closed.ballots c.args.disk.now c.choose.new.disk c.read_bank.new.disk c.make_canonical.new.disk (bank_named c.in_ok-bank.bank)
     c.choose.ensures.reads c.read_bank.ensures.reads sees c.in_ok-closed.ensures.read (λ x is. c.make_canonical.ensures.any_moment x c.in_ok-closed.closed.ballots is
     (shown_image e c.in_ok-closed.closed c.image.result.now c.in_ok-closed.ensures.election c.in_ok-closed.ensures.stored c.image.ensures.image)))
+
+pub returns-in_err-make_canonical-clause-calls : goal.returns-in_err-make_canonical-clause-calls
+returns-in_err-make_canonical-clause-calls g c =
+    let chose = c.in_ok-bank.ensures.calls.fault.steady (λ failed. cc) in
+    let read = c.in_ok-closed.ensures.calls.fault.steady (λ failed. cc) in
+    let made = c.in_err-make_canonical.ensures.calls.fault in
+    let left = err_from_is_err_and c.from_residual-in_err-make_canonical.result c.from_residual-in_err-make_canonical.ensures.1 in
+    let failed : IsErrOf c.from_residual-in_err-make_canonical.result DiskFault = left.1 ∙ ap Err left.2 in
+    record {
+      told = c.make_canonical.ensures.calls.told ∙ c.read_bank.ensures.calls.told ∙ c.choose.ensures.calls.told;
+      later = omega (arith, c.choose.ensures.calls.later, c.read_bank.ensures.calls.later, c.make_canonical.ensures.calls.later);
+      fault = record {
+        never_falls = omega (arith, chose, read, made.never_falls);
+        steady = λ not. absurd (not failed);
+        rose = λ is lt. let more = made.rose lt in omega (arith, chose, read, more);
+      };
+      leads = g.met.D.Disk.leads_on _ _ _ (g.met.D.Disk.leads_on _ _ _ c.choose.ensures.calls.leads c.read_bank.ensures.calls.leads) c.make_canonical.ensures.calls.leads;
+    }
+
+pub returns-clause-calls : goal.returns-clause-calls
+returns-clause-calls g c =
+    let chose = c.in_ok-bank.ensures.calls.fault.steady (λ failed. cc) in
+    let read = c.in_ok-closed.ensures.calls.fault.steady (λ failed. cc) in
+    let made = c.in_ok-make_canonical.ensures.calls.fault.steady in
+    record {
+      told = c.make_canonical.ensures.calls.told ∙ c.read_bank.ensures.calls.told ∙ c.choose.ensures.calls.told;
+      later = omega (arith, c.choose.ensures.calls.later, c.read_bank.ensures.calls.later, c.make_canonical.ensures.calls.later);
+      fault = record {
+        never_falls = omega (arith, chose, read, made);
+        steady = λ not. made ∙ read ∙ chose;
+        rose = λ failed. absurd (cc);
+      };
+      leads = g.met.D.Disk.leads_on _ _ _ (g.met.D.Disk.leads_on _ _ _ c.choose.ensures.calls.leads c.read_bank.ensures.calls.leads) c.make_canonical.ensures.calls.leads;
+    }

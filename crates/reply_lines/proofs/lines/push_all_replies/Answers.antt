@@ -1,8 +1,6 @@
 use Rattle.std.proofs.Common.{◌≡◌, ◌+◌, ◌<◌, ◌++◌, drop, get_or, length, map, [], arith, ap, sym, ◌∙◌}
-use Rattle.std.proofs.lemmas.List.{get_or-map, length-map}
-use Rattle.std.specs.Prelude.{string_bytes}
+use Rattle.store_spec.proofs.Common.{all_reply_lines, get_or-map, length-map, reply_lines, string_bytes}
 use Rattle.reply_lines.proofs.Texts.{next_list, one_written}
-use Rattle.store_spec.specs.Session.{all_reply_lines, reply_lines}
 use Rattle.reply_lines.proofs.lines.push_all_replies.Goals as goal
 
 pub lists-preserved : goal.lists-preserved

@@ -1,9 +1,7 @@
 use Rattle.std.proofs.Common.{◌≡◌, ◌+◌, ◌<◌, get_or, length, map, take, arith, sym, ap, refl, ◌∙◌}
-use Rattle.std.proofs.lemmas.List.{get_or-map, length-map}
+use Rattle.store_spec.proofs.Common.{get_or-map, length-map, reply_line, string_bytes}
 use Rattle.std.proofs.lemmas.Str.{IsUtf8-nil}
-use Rattle.std.specs.Prelude.{string_bytes}
 use Rattle.reply_lines.proofs.Texts.{next_reply, one_gathered}
-use Rattle.store_spec.specs.Session.{reply_line}
 use Rattle.reply_lines.proofs.lines.push_replies.Goals as goal
 
 pub replies-init : goal.replies-init

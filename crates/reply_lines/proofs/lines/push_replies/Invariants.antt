@@ -1,7 +1,5 @@
 use Rattle.std.proofs.Common.{◌≡◌, ◌+◌, ◌≤◌, ◌++◌, drop, map, take}
-use Rattle.std.specs.Prelude.{string_bytes}
-use Rattle.std.specs.Str.{IsUtf8}
-use Rattle.store_spec.specs.Session.{reply_lines}
+use Rattle.store_spec.proofs.Common.{IsUtf8, reply_lines, string_bytes}
 use Rattle.reply_lines.proofs.lines.push_replies.Given as goal
 
 -- the lines of the first replies are appended or gathered

@@ -1,6 +1,5 @@
 use Rattle.std.proofs.Common.{◌∷◌, ◌++◌, drop, ap, ◌∙◌, arith}
-use Rattle.std.proofs.lemmas.Fmt.{length-decimal-le}
-use Rattle.std.proofs.lemmas.List.{drop_all}
+use Rattle.store_spec.proofs.Common.{drop_all, length-decimal-le}
 use Rattle.reply_lines.proofs.Texts.{line_put}
 use Rattle.reply_lines.proofs.lines.put_line.Goals as goal
 

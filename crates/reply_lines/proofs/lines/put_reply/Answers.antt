@@ -1,10 +1,8 @@
 use Rattle.std.proofs.Common.{◌≡◌, ◌-◌, ◌++◌, take, drop, length, ap, subst, sym, ◌∙◌, arith}
-use Rattle.std.proofs.lemmas.List.{length-drop, take_all}
+use Rattle.store_spec.proofs.Common.{IsUtf8, length-drop, reply_line, take_all}
 use Rattle.std.proofs.lemmas.Str.{IsUtf8-append}
-use Rattle.std.specs.Str.{IsUtf8}
 use Rattle.reply_lines.proofs.Texts.{line_is_utf8, placed}
 use Rattle.reply_lines.proofs.lines.put_reply.Goals as goal
-use Rattle.store_spec.specs.Session.{reply_line}
 
 pub returns-clause-text : goal.returns-clause-text
 returns-clause-text c =

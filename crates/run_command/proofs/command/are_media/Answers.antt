@@ -1,4 +1,4 @@
-use Rattle.std.proofs.Common.{◌≡◌, ◌≤◌, length, refl, sym, ◌∙◌, arith}
+use Rattle.std.proofs.Common.{refl, sym, ◌∙◌, arith}
 use Rattle.run_command.proofs.Media.{may_follow_there, media_all, media_none, media_to}
 use Rattle.run_command.proofs.command.are_media.Goals as goal
 

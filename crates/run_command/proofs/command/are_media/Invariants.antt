@@ -1,5 +1,5 @@
 use Rattle.std.proofs.Common.{map, take, true}
-use Rattle.std.specs.Prelude.{string_bytes}
+use Rattle.store_spec.proofs.Common.{string_bytes}
 use Rattle.run_command.proofs.command.are_media.Given as goal
 use Rattle.run_outcome.specs.Row.{AreMediaIf}
 

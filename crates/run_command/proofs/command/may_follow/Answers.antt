@@ -1,5 +1,5 @@
-use Rattle.std.proofs.Common.{◌≡◌, sym, ◌∙◌}
-use Rattle.std.proofs.lemmas.Bool.{false≢true}
+use Rattle.std.proofs.Common.{sym, ◌∙◌}
+use Rattle.store_spec.proofs.Common.{false≢true}
 use Rattle.run_command.proofs.Media.{differs, follows}
 use Rattle.run_command.proofs.command.may_follow.Goals as goal
 use Rattle.run_command.proofs.command.may_follow.Goals.{then-is_plain, else-is_plain}

@@ -1,5 +1,5 @@
 use Rattle.std.proofs.Common.{List, ℕ, map, string_bytes, subst, sym}
-use Rattle.std.specs.Prelude.{IfOk, IfSome}
+use Rattle.store_spec.proofs.Common.{IfOk, IfSome}
 use Rattle.run_command.proofs.Rows.{found_behind, named_behind, names_large, no_compare, no_large, no_merge, no_migrate, no_part, no_sample, no_twin, named_one}
 use Rattle.run_command.specs.Command.{row}
 use Rattle.run_command.specs.declared.command.Command.TheVariants.{Migrate, Twin}

@@ -1,12 +1,10 @@
 use Rattle.std.proofs.Common.{◌≡◌, ℕ, ◌+◌, ◌++◌, ◌≤◌, List, length, take, Option, ap, sym, ◌∙◌, arith, refl, subst}
-use Rattle.std.proofs.lemmas.List.{length-append, take_at}
-use Rattle.std.specs.Prelude.{slice_range}
+use Rattle.store_spec.proofs.Common.{Rose, length-append, slice_range, take_at}
 use Rattle.run_command.specs.ElectionText.{election_limit, RefusesElection}
 use Rattle.outside_io.specs.Outside.{input}
 use Rattle.run_outcome.specs.declared.status.Status.TheVariants as status
 use Rattle.outside_io.specs.Stream.{GivesAtMost}
 use Rattle.outside_io.specs.Told.{IfTold}
-use Rattle.store_spec.specs.Fault.{Rose}
 use Rattle.run_command.proofs.Texts.{if_err, front_length, front_piece, told_start, told_piece, told_end, told_few, told_few_more, told_long, told_none_given}
 use Rattle.run_command.proofs.election.read_text.Goals as goal
 

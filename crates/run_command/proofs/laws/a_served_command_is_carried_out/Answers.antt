@@ -1,5 +1,5 @@
 use Rattle.run_command.proofs.Runs.{carried_out_whole}
-use Rattle.store_spec.specs.Disk.{disk_model}
+use Rattle.store_spec.proofs.Common.{disk_model}
 use Rattle.run_command.proofs.laws.a_served_command_is_carried_out.Goals as goal
 
 pub returns : goal.returns

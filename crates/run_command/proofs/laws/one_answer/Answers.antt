@@ -1,5 +1,5 @@
 use Rattle.run_command.proofs.Runs.{one_answer}
-use Rattle.store_spec.specs.Disk.{disk_model}
+use Rattle.store_spec.proofs.Common.{disk_model}
 use Rattle.run_command.proofs.laws.one_answer.Goals as goal
 
 pub returns : goal.returns

@@ -1,6 +1,5 @@
 use Rattle.std.proofs.Common.{ℕ, ◌-◌, ◌∙◌, Option, ap, arith, map, subst, string_bytes, sym}
-use Rattle.std.proofs.lemmas.List.{length-map}
-use Rattle.std.specs.Prelude.{IfSome}
+use Rattle.store_spec.proofs.Common.{IfSome, length-map}
 use Rattle.run_command.proofs.Rows.{few_media, further_parts, one_second, one_target}
 use Rattle.run_command.proofs.whole.run.Goals as goal
 use Rattle.run_command.specs.Command.{Forms}

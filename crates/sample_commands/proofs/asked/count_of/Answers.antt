@@ -1,6 +1,5 @@
 use Rattle.std.proofs.Common.{arith, eqb-true, sym, ◌∙◌}
-use Rattle.std.proofs.lemmas.Bool.{eqb-false}
-use Rattle.std.proofs.lemmas.List.{nil_from_length}
+use Rattle.store_spec.proofs.Common.{eqb-false, nil_from_length}
 use Rattle.sample_commands.proofs.Numbers.{count_read, more_behind, none_read}
 use Rattle.sample_commands.proofs.asked.count_of.Goals as goal
 

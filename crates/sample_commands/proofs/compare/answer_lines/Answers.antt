@@ -1,4 +1,5 @@
 use Rattle.std.proofs.Common.{◌+◌, ◌∙◌, ℕ, List, Option, Some, None, Err, ap, refl, subst}
+use Rattle.store_spec.proofs.Common.{Rose}
 use Rattle.outside_io.proofs.Reading.{few_given, read_fault, read_first, read_nothing, read_out, read_too_much, read_whole, read_wide}
 use Rattle.outside_io.proofs.Told.{told_as}
 use Rattle.outside_io.specs.Outside.{input, output, outside}
@@ -7,7 +8,6 @@ use Rattle.run_outcome.specs.declared.status.Status.TheVariants as status
 use Rattle.sample_commands.proofs.Answering.{answered_none, leaves_more, leaves_wide, none_answered}
 use Rattle.sample_commands.proofs.Telling.{Behind, Replied, answer_failed, behind, end_told, first_later, nothing_answered, read_failed, replied_more, replied_none, too_long, whole_right, wide_right}
 use Rattle.sample_commands.specs.Compare.{LinesEnd}
-use Rattle.store_spec.specs.Fault.{Rose}
 use Rattle.ticket_sample.specs.Comparing.{Takes}
 use Rattle.ticket_sample.specs.declared.compare.CompareReply.TheVariants.{Malformed}
 use Rattle.sample_commands.proofs.compare.answer_lines.Goals as goal

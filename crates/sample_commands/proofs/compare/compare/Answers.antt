@@ -1,5 +1,5 @@
 use Rattle.sample_commands.proofs.Sampling.{drawn_ascending, drawn_few}
-use Rattle.store_spec.specs.Disk.{disk_model}
+use Rattle.store_spec.proofs.Common.{disk_model}
 use Rattle.sample_commands.proofs.compare.compare.Goals as goal
 
 pub new-requires-clause-ascending : goal.new-requires-clause-ascending

@@ -1,8 +1,7 @@
 use Rattle.std.proofs.Common.{[], arith, subst}
-use Rattle.std.proofs.lemmas.List.{get_or-map, length-map}
+use Rattle.store_spec.proofs.Common.{IsValid, get_or-map, length-map}
 use Rattle.ballot_record.specs.Record.{ballot}
 use Rattle.ballot_record.specs.declared.record.Record.{Record}
-use Rattle.store_spec.specs.Ballot.{IsValid}
 use Rattle.sample_commands.proofs.sample.text_of.Goals as goal
 
 pub put_line-requires : goal.put_line-requires

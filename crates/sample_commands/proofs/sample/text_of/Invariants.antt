@@ -1,8 +1,6 @@
 use Rattle.std.proofs.Common.{◌≡◌, ◌∷◌, length, map, take}
-use Rattle.std.specs.Prelude.{codes}
+use Rattle.store_spec.proofs.Common.{codes, count_line, lines_text, record_line}
 use Rattle.body_store.specs.Contents.{ballots_of}
-use Rattle.store_spec.specs.BallotLine.{record_line}
-use Rattle.store_spec.specs.Report.{count_line, lines_text}
 use Rattle.sample_commands.proofs.sample.text_of.Given as goal
 
 -- the first line and those of the ballots so far

@@ -1,6 +1,6 @@
 use Rattle.std.proofs.Common.{Bool, List, ℕ, subst, sym}
+use Rattle.store_spec.proofs.Common.{false≢true}
 use Rattle.std.specs.Prelude.{MatchBool}
-use Rattle.std.proofs.lemmas.Bool.{false≢true}
 use Rattle.schedule_replay.proofs.Words.{no_numbers, no_form, reads_as}
 use Rattle.schedule_replay.specs.ReplayLine.{AreNumbers, HasForm}
 use Rattle.schedule_replay.proofs.line.read_line.Goals as goal

@@ -1,5 +1,5 @@
 use Rattle.std.proofs.Common.{arith, eqb-true, sym, ◌∙◌}
-use Rattle.std.proofs.lemmas.Bool.{eqb-false}
+use Rattle.store_spec.proofs.Common.{eqb-false}
 use Rattle.schedule_replay.proofs.Numbers.{read_none, read_more, read_all, read_stops}
 use Rattle.schedule_replay.proofs.line.read_numbers.Goals as goal
 

@@ -1,6 +1,6 @@
 use Rattle.std.proofs.Common.{Some, [], ◌∷◌}
+use Rattle.store_spec.proofs.Common.{Decides-eqb}
 use Rattle.std.proofs.lemmas.Slice.Eq.{strip_prefix_is}
-use Rattle.std.proofs.lemmas.Bool.Decides.{Decides-eqb}
 use Rattle.schedule_replay.proofs.Numbers.{takes_first}
 use Rattle.schedule_replay.proofs.line.take_spaced.Goals as goal
 

@@ -1,5 +1,5 @@
 use Rattle.std.proofs.Common.{◌≡◌, ◌+◌, ◌<◌, Err, Ok, ap, subst, sym, refl, ◌∙◌, arith}
-use Rattle.std.proofs.lemmas.Bool.{both_ways}
+use Rattle.store_spec.proofs.Common.{Malformed, both_ways}
 use Rattle.ballot_record.specs.LineWhy.{reason}
 use Rattle.outside_io.proofs.Reading.{few_given, read_nothing, read_whole, read_wide, read_first, read_out, read_too_much, read_fault}
 use Rattle.outside_io.specs.Told.{AsTold}
@@ -8,7 +8,6 @@ use Rattle.schedule_replay.proofs.Reading.{AreBad, none_taken, one_more, one_bad
 use Rattle.schedule_replay.specs.Ends.{HasBadLine, NoInput}
 use Rattle.schedule_replay.specs.Script.{TakesLine}
 use Rattle.schedule_replay.specs.declared.fault.Refusal.{Refusal}
-use Rattle.store_spec.specs.Build.Reason.{Malformed}
 use Rattle.schedule_replay.proofs.reader.read_script.Goals as goal
 
 pub lines-init : goal.lines-init

@@ -1,7 +1,7 @@
 use Rattle.std.proofs.Common.{◌≡◌, ◌+◌, ◌≤◌}
+use Rattle.store_spec.proofs.Common.{script_limit}
 use Rattle.outside_io.proofs.Reading.{ReadSoFar}
 use Rattle.schedule_replay.proofs.Reading.{AreTaken}
-use Rattle.store_spec.specs.Input.{script_limit}
 use Rattle.schedule_replay.proofs.reader.read_script.Given as goal
 
 -- so many lines were taken, and nothing failed

@@ -1,5 +1,5 @@
 use Rattle.std.proofs.Common.{◌≡◌, ◌+◌, ◌-◌, ◌++◌, [], ◌∷◌, get_or, take, refl, rules, sym, ap, ◌∙◌, subst}
-use Rattle.std.proofs.lemmas.List.{map_push, take_more}
+use Rattle.store_spec.proofs.Common.{map_push, take_more}
 use Rattle.schedule_replay.proofs.Following.{one_more}
 use Rattle.step_core.specs.Schedule.{Follows}
 use Rattle.step_core.specs.Schedule.Follows.{ended}

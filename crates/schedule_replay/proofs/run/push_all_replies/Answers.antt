@@ -1,7 +1,6 @@
 use Rattle.std.proofs.Common.{◌≡◌, ◌+◌, ◌-◌, ◌<◌, get_or, length, [], ap, arith, ◌∙◌}
+use Rattle.store_spec.proofs.Common.{reply_lines, slice_get, string_bytes}
 use Rattle.reply_lines.proofs.Texts.{next_list, one_written, stands}
-use Rattle.store_spec.specs.Session.{reply_lines}
-use Rattle.std.specs.Prelude.{slice_get, string_bytes}
 use Rattle.schedule_replay.proofs.run.push_all_replies.Goals as goal
 
 pub tabs-preserved : goal.tabs-preserved

@@ -1,6 +1,5 @@
 use Rattle.std.proofs.Common.{◌≡◌, ◌+◌, ◌++◌, drop}
-use Rattle.std.specs.Prelude.{string_bytes}
-use Rattle.store_spec.specs.Session.{all_reply_lines}
+use Rattle.store_spec.proofs.Common.{all_reply_lines, string_bytes}
 use Rattle.schedule_replay.proofs.run.push_all_replies.Given as goal
 
 -- the lines of the first lists are written

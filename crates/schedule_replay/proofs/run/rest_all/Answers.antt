@@ -1,5 +1,5 @@
 use Rattle.std.proofs.Common.{◌≡◌, ◌≢◌, ⊎_elim, refl, sym, subst, ◌∙◌, arith}
-use Rattle.std.proofs.lemmas.Bool.{cases_eq}
+use Rattle.store_spec.proofs.Common.{cases_eq}
 use Rattle.schedule_replay.proofs.Following.{next_in_turn, nobody_yet}
 use Rattle.schedule_replay.proofs.run.rest_all.Goals as goal
 

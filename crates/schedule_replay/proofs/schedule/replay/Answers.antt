@@ -1,5 +1,5 @@
 use Rattle.std.proofs.Common.{◌≡◌, ℕ, List, Err, ap, subst, refl, ◌∙◌}
-use Rattle.std.specs.Prelude.{string_bytes}
+use Rattle.store_spec.proofs.Common.{string_bytes}
 use Rattle.outside_io.specs.Stream.{TakesAll, TakesSome}
 use Rattle.schedule_replay.proofs.Ending.{ends_with, no_memory, script_refused, writes_replay}
 use Rattle.outside_io.specs.Outside.{input, output, outside}

@@ -1,5 +1,5 @@
 use Rattle.std.proofs.Common.{subst, sym}
-use Rattle.std.specs.Prelude.{IfOk, string_bytes}
+use Rattle.store_spec.proofs.Common.{IfOk, string_bytes}
 use Rattle.schedule_replay.specs.Replayed.{ReplaysAs}
 use Rattle.schedule_replay.specs.Script.{lists_of}
 use Rattle.schedule_replay.specs.declared.line.Kind.{Kind}

@@ -1,6 +1,5 @@
 use Rattle.std.proofs.Common.{subst, sym}
-use Rattle.std.proofs.lemmas.List.Sorted.{IsNonDecreasingBy-from_sort}
-use Rattle.std.specs.List.Sorted.{IsStrictlyIncreasing}
+use Rattle.store_spec.proofs.Common.{IsNonDecreasingBy-from_sort, IsStrictlyIncreasing}
 use Rattle.schedule_replay.proofs.Takings.{distinct_sorted, sorted_distinct}
 use Rattle.schedule_replay.proofs.script.are_distinct.Goals as goal
 

@@ -1,5 +1,5 @@
 use Rattle.std.proofs.Common.{◌≡◌, ◌++◌, drop}
-use Rattle.std.specs.Prelude.{string_bytes}
+use Rattle.store_spec.proofs.Common.{string_bytes}
 use Rattle.schedule_replay.specs.Replayed.{cell_lines}
 use Rattle.schedule_replay.proofs.text.push_cells.Given as goal
 

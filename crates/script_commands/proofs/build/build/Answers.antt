@@ -1,5 +1,5 @@
 use Rattle.std.proofs.Common.{◌≡◌, ℕ, List, ◌++◌, Err, ap, ap₂, subst, refl, sym, ◌∙◌}
-use Rattle.std.specs.List.{flat_map}
+use Rattle.store_spec.proofs.Common.{cell_bytes, flat_map, image_of}
 use Rattle.outside_io.specs.Outside.{input, output, outside}
 use Rattle.outside_io.specs.Stream.{TakesAll, TakesSome}
 use Rattle.run_outcome.proofs.Laws.{ended_told, ended_with}
@@ -8,7 +8,6 @@ use Rattle.script_commands.proofs.Building.{no_memory, script_refused, writes_im
 use Rattle.script_commands.specs.Ballots.{ballots_so_far}
 use Rattle.script_commands.specs.Build.{BuildEnds}
 use Rattle.script_commands.specs.declared.build.script.ScriptFault.TheVariants.{ReadFault}
-use Rattle.store_spec.specs.Image.{cell_bytes, image_of}
 use Rattle.script_commands.proofs.build.build.Goals as goal
 
 pub returns-in-Err : goal.returns-in-Err

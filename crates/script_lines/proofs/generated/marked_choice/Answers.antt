@@ -1,7 +1,7 @@
 use Rattle.std.proofs.Common.{sym, ap, ◌∙◌, arith, refl}
+use Rattle.store_spec.proofs.Common.{is_on_style}
 use Rattle.script_lines.proofs.Ballots.{choices_offered, marked, off_style, unmarked}
 use Rattle.script_lines.proofs.generated.marked_choice.Goals as goal
-use Rattle.store_spec.specs.Election.{is_on_style}
 
 pub returns-then-i-eq0 : goal.returns-then-i-eq0
 returns-then-i-eq0 c = unmarked c.args.election.now c.args.i c.args.k c.if-i-eq0.true

@@ -1,6 +1,5 @@
 use Rattle.std.proofs.Common.{◌≡◌, ◌-◌, ℕ, List, [], ◌∷◌, ◌++◌, drop, ap, subst, ◌∙◌, arith}
-use Rattle.std.proofs.lemmas.List.{drop_all}
-use Rattle.std.specs.Prelude.{IfSome, slice_get, unwrap_or}
+use Rattle.store_spec.proofs.Common.{IfSome, drop_all, slice_get, unwrap_or}
 use Rattle.script_lines.proofs.generated.put_ended_line.Goals as goal
 use Rattle.script_lines.specs.Generated.{generated}
 

@@ -1,8 +1,8 @@
 use Rattle.std.proofs.Common.{◌≡◌, ◌+◌, ◌-◌, ◌++◌, drop, length, ap, sym, ◌∙◌, arith}
+use Rattle.store_spec.proofs.Common.{group_text}
 use Rattle.ballot_record.proofs.Versions.{contests_fit}
 use Rattle.script_lines.proofs.Ballots.{group_before, groups_from}
 use Rattle.script_lines.proofs.generated.put_groups.Goals as goal
-use Rattle.store_spec.specs.BallotLine.{group_text}
 
 pub contests-init : goal.contests-init
 contests-init c =

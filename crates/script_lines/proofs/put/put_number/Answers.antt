@@ -1,5 +1,5 @@
 use Rattle.std.proofs.Common.{arith}
-use Rattle.std.proofs.lemmas.Fmt.{length-decimal-le}
+use Rattle.store_spec.proofs.Common.{length-decimal-le}
 use Rattle.script_lines.proofs.put.put_number.Goals as goal
 
 pub write_digits-requires : goal.write_digits-requires

@@ -1,5 +1,5 @@
 use Rattle.std.proofs.Common.{◌≡◌, ◌≤◌, slice_index_or, arith}
-use Rattle.std.proofs.lemmas.Bool.Decides.{nat_tests}
+use Rattle.store_spec.proofs.Common.{nat_tests}
 use Rattle.script_lines.proofs.Decimals.{short_tab}
 use Rattle.script_lines.proofs.words.take_short_tab.Goals as goal
 

@@ -1,5 +1,5 @@
 use Rattle.std.proofs.Common.{◌∙◌, eqb-true, sym}
-use Rattle.std.proofs.lemmas.Bool.{eqb-false}
+use Rattle.store_spec.proofs.Common.{eqb-false}
 use Rattle.script_lines.proofs.Decimals.{more_behind, none_whole, whole}
 use Rattle.script_lines.proofs.words.whole_number.Goals as goal
 

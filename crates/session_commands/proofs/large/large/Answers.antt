@@ -1,11 +1,11 @@
 use Rattle.std.proofs.Common.{rules, Some, Ok, Err, ap, refl, subst, sym}
+use Rattle.store_spec.proofs.Common.{disk_model}
 use Rattle.outside_io.specs.Outside.{input, output}
 use Rattle.run_outcome.specs.declared.status.Status.{Status}
 use Rattle.script_lines.specs.Script.{script_left}
 use Rattle.session_commands.proofs.Generating.{large_played, reports_alone}
 use Rattle.session_commands.specs.Large.{LargeEnds}
 use Rattle.session_commands.specs.Session.{reported}
-use Rattle.store_spec.specs.Disk.{disk_model}
 use Rattle.session_commands.proofs.large.large.Goals as goal
 
 pub returns-in-Ok : goal.returns-in-Ok

@@ -5,7 +5,7 @@ use Rattle.phase_gate.specs.Around.{around}
 use Rattle.any_store.specs.Beside.{row_width}
 use Rattle.any_store.specs.Disks.{first_of, store_model}
 use Rattle.phase_gate.specs.LineEnds.{state_left}
-use Rattle.phase_gate.specs.Telling.{told_by}
+use Rattle.phase_gate.specs.Writing.{written_of}
 use Rattle.session_run.proofs.Handling.{before, ended, rows}
 use Rattle.session_run.proofs.Marks.{handled, line_stood, on_left, stands_now, stood_now}
 use Rattle.session_run.proofs.run.handle.Goals as goal
@@ -16,7 +16,7 @@ use Rattle.session_run.specs.History.{Stands, Stood}
 pub complete-requires-clause-before : goal.complete-requires-clause-before
 complete-requires-clause-before g c =
     let model = store_model g.Y.Store.closes g.M.Disks.disks in
-    before model (told_by c.args.session.telling) c.args.session.election c.args.index c.args.session.state c.args.line.now
+    before model (written_of c.args.session.writing) c.args.session.election c.args.index c.args.session.state c.args.line.now
     (output g.K.Sink.taken g.K.Sink.faults c.args.out.now)
     (output g.K.Sink.taken g.K.Sink.faults c.line_by-answer.new.out)
     c.args.disks.now c.line_by-answer.new.disks c.args.report.now c.room.new.self c.line_by-answer.new.report
@@ -32,7 +32,7 @@ complete-requires-clause-list g c =
 pub returns-clause-rows : goal.returns-clause-rows
 returns-clause-rows g c =
     let model = store_model g.Y.Store.closes g.M.Disks.disks in
-    rows model (told_by c.args.session.telling) c.args.session.election c.args.index c.args.session.state c.args.line.now
+    rows model (written_of c.args.session.writing) c.args.session.election c.args.index c.args.session.state c.args.line.now
     (output g.K.Sink.taken g.K.Sink.faults c.args.out.now)
     (output g.K.Sink.taken g.K.Sink.faults c.line_by-answer.new.out)
     c.args.disks.now c.line_by-answer.new.disks c.args.report.now c.room.new.self c.line_by-answer.new.report
@@ -43,7 +43,7 @@ returns-clause-rows g c =
 pub returns-clause-ends : goal.returns-clause-ends
 returns-clause-ends g c =
     let model = store_model g.Y.Store.closes g.M.Disks.disks in
-    ended model (told_by c.args.session.telling) c.args.session.election c.args.index c.args.session.state c.args.line.now
+    ended model (written_of c.args.session.writing) c.args.session.election c.args.index c.args.session.state c.args.line.now
     (output g.K.Sink.taken g.K.Sink.faults c.args.out.now)
     (output g.K.Sink.taken g.K.Sink.faults c.line_by-answer.new.out)
     c.args.disks.now c.line_by-answer.new.disks c.args.report.now c.room.new.self c.line_by-answer.new.report
@@ -62,7 +62,7 @@ returns-clause-stands g c =
     let all = subst (λ marks. All (λ mark. mark ≤ (first_of g.M.Disks.disks).calls c.args.disks.now) marks) (ap (λ v. v.items) (sym c.room.ensures.marks)) c.requires.marks in
     on_left (λ session. session.state) (P c.complete.new.self.marks.items) c.line_by-answer.result
     (subst (λ marks. OnOk (state_left (λ session. session.state) c.line_by-answer.result) (P marks)) (ap (λ v. v.items) (sym c.complete.ensures.marks))
-    (handled model (told_by c.args.session.telling) c.args.session.election c.args.index c.args.session.state c.args.line.now before after all
+    (handled model (written_of c.args.session.writing) c.args.session.election c.args.index c.args.session.state c.args.line.now before after all
     (state_left (λ session. session.state) c.line_by-answer.result) c.line_by-answer.ensures.ends))
 
 pub returns-clause-stood : goal.returns-clause-stood
@@ -72,7 +72,7 @@ returns-clause-stood g c =
     let after = around (output g.K.Sink.taken g.K.Sink.faults c.line_by-answer.new.out) c.line_by-answer.new.disks c.line_by-answer.new.report in
     let all = subst (λ marks. All (λ mark. mark ≤ (first_of g.M.Disks.disks).calls c.args.disks.now) marks) (ap (λ v. v.items) (sym c.room.ensures.marks)) c.requires.marks in
     subst (λ marks. Stood model.disks g.M.Disks.leads_to c.args.disks.now c.line_by-answer.new.disks marks) (ap (λ v. v.items) (sym c.complete.ensures.marks))
-    (line_stood model (told_by c.args.session.telling) c.args.session.election c.args.index c.args.session.state c.args.line.now before after all
+    (line_stood model (written_of c.args.session.writing) c.args.session.election c.args.index c.args.session.state c.args.line.now before after all
     g.M.Disks.leads_to g.met.M.Disks.leads_to_itself c.line_by-answer.ensures.leads (state_left (λ session. session.state) c.line_by-answer.result) c.line_by-answer.ensures.ends)
 
 pub returns-in_err-list-clause-stood : goal.returns-in_err-list-clause-stood

@@ -1,12 +1,14 @@
 use Rattle.std.proofs.Common.{◌+◌, [], ◌∙◌, None, Some, Ok, Err, inl, inr, refl, subst, sym, ap}
+use Rattle.store_spec.proofs.Common.{AnswersBy, Election, replies}
 use Rattle.outside_io.specs.Outside.{input, output}
 use Rattle.phase_gate.specs.Around.{around, rows_of}
 use Rattle.any_store.specs.Beside.{AreRows}
 use Rattle.any_store.specs.Disks.{store_model}
 use Rattle.phase_gate.specs.LineEnds.{IsHandled, LastEnds, LineEnds}
-use Rattle.phase_gate.specs.Telling.{told_by}
+use Rattle.phase_gate.specs.Writing.{written_of}
 use Rattle.phase_gate.specs.declared.fault.SessionFault.TheVariants as session
-use Rattle.phase_gate.specs.declared.telling.Telling.{Telling}
+use Rattle.phase_gate.specs.declared.writing.Writing.{Writing}
+use Rattle.script_lines.specs.Line.{IsSaid}
 use Rattle.session_run.proofs.Beginning.{answer_is, no_fault}
 use Rattle.session_run.proofs.Going.{IsBrought, at_session, counts_line, failed, handled, handled_none, line_ended, queued, room_of, script_ended, takes_room}
 use Rattle.session_run.proofs.Marks.{stands_first, stands_on, stood_now, stood_on}
@@ -16,19 +18,17 @@ use Rattle.session_run.proofs.run.play_by.Goals as goal
 use Rattle.session_run.proofs.run.play_by.Goals.{in-Whole, in-TooWide}
 use Rattle.session_run.specs.Ends.{GoesOn}
 use Rattle.session_run.specs.Faults.{line_fault, session_fault}
-use Rattle.store_spec.specs.Election.{Election}
-use Rattle.store_spec.specs.Session.{AnswersBy, replies}
 
 pub lines-init : goal.lines-init
 lines-init g c =
     let model = store_model g.Y.Store.closes g.M.Disks.disks in
     let start = around (output g.K.Sink.taken g.K.Sink.faults c.args.out.now) c.args.disks.now c.args.report.now in
     record {
-      read = handled_none model (told_by c.args.session.telling) c.args.session.election c.args.session.state
+      read = handled_none model (written_of c.args.session.writing) c.args.session.election c.args.session.state
           c.args.lines.now (g.S.Source.left c.args.script.now) start c.requires.media c.requires.nothing_kept
           c.requires.room c.requires.not_ended;
       own = refl;
-      telling = refl;
+      writing = refl;
       counted = room_of c.args.lines.now.room c.requires.room;
       no_fault = refl;
       stands = stands_first model.disks c.args.disks.now c.args.report.now.marks.items c.requires.marks;
@@ -40,7 +40,7 @@ lines-init g c =
 pub returns-in_err-next_line-clause-ends : goal.returns-in_err-next_line-clause-ends
 returns-in_err-next_line-clause-ends g c =
     let model = store_model g.Y.Store.closes g.M.Disks.disks in
-    let tell = told_by c.args.session.telling in
+    let write = written_of c.args.session.writing in
     let e = c.args.session.election in
     let first = c.args.session.state in
     let old = input g.S.Source.left g.S.Source.faults c.args.script.now in
@@ -50,16 +50,16 @@ returns-in_err-next_line-clause-ends g c =
     let now = around (output g.K.Sink.taken g.K.Sink.faults c.lines.out) c.lines.disks c.lines.report in
     let why = c.in_err-next_line.field-0.0 in
     let said = c.in_err-next_line.ensures in
-    subst (λ r. GoesOn model tell e first r old new start now)
+    subst (λ r. GoesOn model write e first r old new start now)
     (sym (answer_is c.from_residual.result (line_fault why) c.from_residual.ensures.1))
-    (line_ended model tell e c.requires.election first c.lines.session.state c.lines.index c.lines.lines
+    (line_ended model write e c.requires.election first c.lines.session.state c.lines.index c.lines.lines
     c.next_line.new.self old mid new start now c.lines.invariant.read c.lines.invariant.no_fault why said.answers
     said.gives said.within_room said.none_whole said.fault)
 
 pub returns-in_err-end-in-End-clause-ends : goal.returns-in_err-end-in-End-clause-ends
 returns-in_err-end-in-End-clause-ends g c =
     let model = store_model g.Y.Store.closes g.M.Disks.disks in
-    let tell = told_by c.args.session.telling in
+    let write = written_of c.args.session.writing in
     let e = c.args.session.election in
     let first = c.args.session.state in
     let old = input g.S.Source.left g.S.Source.faults c.args.script.now in
@@ -71,19 +71,19 @@ returns-in_err-end-in-End-clause-ends g c =
     let after = around sink c.lines.disks c.lines.report in
     let why = c.in_err-end-in-End.field-0.0 in
     let said = c.in_ok-next_line.ensures in
-    subst (λ r. GoesOn model tell e first r old new start after)
+    subst (λ r. GoesOn model write e first r old new start after)
     (sym (answer_is c.from_residual-in_err-end-in-End.result (session_fault why)
     c.from_residual-in_err-end-in-End.ensures.1))
-    (script_ended model tell e c.requires.election first c.lines.session.state c.lines.index c.lines.lines
+    (script_ended model write e c.requires.election first c.lines.session.state c.lines.index c.lines.lines
     c.next_line.new.self old mid new start now c.lines.invariant.read c.lines.invariant.no_fault
     c.in_ok-next_line.field-0 said.answers (no_fault said.fault) (Err why) sink c.in-End.is
-    (subst (λ (t : Telling). LastEnds (told_by t) c.lines.session.state.phase (Err why) now.sink sink)
-    c.lines.invariant.telling c.in_err-end-in-End.ensures))
+    (subst (λ (t : Writing). LastEnds (written_of t) c.lines.session.state.phase (Err why) now.sink sink)
+    c.lines.invariant.writing c.in_err-end-in-End.ensures))
 
 pub returns-in-End-clause-ends : goal.returns-in-End-clause-ends
 returns-in-End-clause-ends g c =
     let model = store_model g.Y.Store.closes g.M.Disks.disks in
-    let tell = told_by c.args.session.telling in
+    let write = written_of c.args.session.writing in
     let old = input g.S.Source.left g.S.Source.faults c.args.script.now in
     let mid = input g.S.Source.left g.S.Source.faults c.lines.script in
     let new = input g.S.Source.left g.S.Source.faults c.next_line.new.source in
@@ -91,16 +91,16 @@ returns-in-End-clause-ends g c =
     let now = around (output g.K.Sink.taken g.K.Sink.faults c.lines.out) c.lines.disks c.lines.report in
     let sink = output g.K.Sink.taken g.K.Sink.faults c.end.new.out in
     let said = c.in_ok-next_line.ensures in
-    script_ended model tell c.args.session.election c.requires.election c.args.session.state c.lines.session.state
+    script_ended model write c.args.session.election c.requires.election c.args.session.state c.lines.session.state
     c.lines.index c.lines.lines c.next_line.new.self old mid new start now c.lines.invariant.read
     c.lines.invariant.no_fault c.in_ok-next_line.field-0 said.answers (no_fault said.fault) (Ok tt) sink c.in-End.is
-    (subst (λ (t : Telling). LastEnds (told_by t) c.lines.session.state.phase (Ok tt) now.sink sink)
-    c.lines.invariant.telling c.in_ok-end-in-End.ensures)
+    (subst (λ (t : Writing). LastEnds (written_of t) c.lines.session.state.phase (Ok tt) now.sink sink)
+    c.lines.invariant.writing c.in_ok-end-in-End.ensures)
 
-pub returns-in_err-queue-clause-ends : goal.returns-in_err-queue-clause-ends
-returns-in_err-queue-clause-ends g c =
+pub returns-in_err-said-clause-ends : goal.returns-in_err-said-clause-ends
+returns-in_err-said-clause-ends g c =
     let model = store_model g.Y.Store.closes g.M.Disks.disks in
-    let tell = told_by c.args.session.telling in
+    let write = written_of c.args.session.writing in
     let e = c.args.session.election in
     let first = c.args.session.state in
     let old = input g.S.Source.left g.S.Source.faults c.args.script.now in
@@ -114,18 +114,26 @@ returns-in_err-queue-clause-ends g c =
       | in-Whole w ↦ inl (w.in-Whole.is, ap (λ l. l.now) w.line-is ∙ w.line-line.ensures)
       | in-TooWide w ↦ inr (w.in-TooWide.is, ap (λ l. l.now) w.line-is)
     ] in
-    subst (λ r. GoesOn model tell e first r old new start now)
-    (sym (answer_is c.from_residual-in_err-queue.result (session_fault session.Memory)
-    c.from_residual-in_err-queue.ensures.1))
-    (failed model tell e c.requires.election first c.lines.session.state c.lines.index c.lines.lines
+    subst (λ r. GoesOn model write e first r old new start now)
+    (sym (answer_is c.from_residual-in_err-said.result (session_fault session.Memory)
+    c.from_residual-in_err-said.ensures.1))
+    (failed model write e c.requires.election first c.lines.session.state c.lines.index c.lines.lines
     c.next_line.new.self old mid new start now c.lines.invariant.read c.lines.invariant.no_fault
     c.in_ok-next_line.field-0 said.answers (no_fault said.fault) c.match-branch-2.line.now brought said.progress
     said.within_room session.Memory now (inl refl) None (inl (refl, refl)))
 
+pub handle-requires-clause-said : goal.handle-requires-clause-said
+handle-requires-clause-said g c = λ lives longer.
+    let bytes = c.match-branch-2.line.now in
+    let e = c.lines.session.election in
+    subst (λ (e : Election). IsSaid e bytes c.in-Some.said c.queue.new.ballot) (sym c.queue.ensures.election)
+    (not_queued c.in_ok-said.field-0 c.in-Some.said (AnswersBy (g.Y.Store.closes e) e 0 c.lines.session.state (Some bytes))
+    (λ said. IsSaid e bytes said c.queue.new.ballot) c.lines.session.state c.queue.new.self.state c.in-Some.is (c.in_ok-said.ensures.queued 0)).0
+
 pub returns-in_err-session-clause-ends : goal.returns-in_err-session-clause-ends
 returns-in_err-session-clause-ends g c =
     let model = store_model g.Y.Store.closes g.M.Disks.disks in
-    let tell = told_by c.args.session.telling in
+    let write = written_of c.args.session.writing in
     let e = c.args.session.election in
     let first = c.args.session.state in
     let old = input g.S.Source.left g.S.Source.faults c.args.script.now in
@@ -144,15 +152,15 @@ returns-in_err-session-clause-ends g c =
       | in-Whole w ↦ inl (w.in-Whole.is, ap (λ l. l.now) w.line-is ∙ w.line-line.ensures)
       | in-TooWide w ↦ inr (w.in-TooWide.is, ap (λ l. l.now) w.line-is)
     ] in
-    subst (λ r. GoesOn model tell e first r old new start after)
+    subst (λ r. GoesOn model write e first r old new start after)
     (sym (answer_is c.from_residual-in_err-session.result (session_fault why) c.from_residual-in_err-session.ensures.1))
-    (failed model tell e c.requires.election first state index c.lines.lines c.next_line.new.self old mid new start now
+    (failed model write e c.requires.election first state index c.lines.lines c.next_line.new.self old mid new start now
     c.lines.invariant.read c.lines.invariant.no_fault c.in_ok-next_line.field-0 said.answers (no_fault said.fault) bytes
     brought said.progress said.within_room why after
-    (at_session (λ telling e state. LineEnds model (told_by telling) e (index + 1) state bytes (Err why) now after)
-    (c.queue.ensures.telling ∙ c.lines.invariant.telling) (c.queue.ensures.election ∙ c.lines.invariant.own)
-    (not_queued c.in_ok-queue.field-0 (AnswersBy (g.Y.Store.closes c.lines.session.election) c.lines.session.election (index + 1) state (Some bytes)) state
-    c.queue.new.self.state c.if-not-branch.true (c.in_ok-queue.ensures.queued (index + 1))) c.in_err-session.ensures.ends) c.handle.new.report.begun c.handle.ensures.rows)
+    (at_session (λ writing e state. LineEnds model (written_of writing) e (index + 1) state bytes (Err why) now after)
+    (c.queue.ensures.writing ∙ c.lines.invariant.writing) (c.queue.ensures.election ∙ c.lines.invariant.own)
+    (not_queued c.in_ok-said.field-0 c.in-Some.said (AnswersBy (g.Y.Store.closes c.lines.session.election) c.lines.session.election (index + 1) state (Some bytes))
+    (λ said. IsSaid c.lines.session.election bytes said c.queue.new.ballot) state c.queue.new.self.state c.in-Some.is (c.in_ok-said.ensures.queued (index + 1))).1 c.in_err-session.ensures.ends) c.handle.new.report.begun c.handle.ensures.rows)
 
 pub returns-in_err-next_line-clause-stood : goal.returns-in_err-next_line-clause-stood
 returns-in_err-next_line-clause-stood g c =
@@ -172,8 +180,8 @@ returns-in-End-clause-stood g c =
     g.met.M.Disks.leads_to_itself c.args.disks.now c.lines.disks c.lines.report.marks.items c.lines.invariant.leads
     c.lines.invariant.stands
 
-pub returns-in_err-queue-clause-stood : goal.returns-in_err-queue-clause-stood
-returns-in_err-queue-clause-stood g c =
+pub returns-in_err-said-clause-stood : goal.returns-in_err-said-clause-stood
+returns-in_err-said-clause-stood g c =
     stood_now g.M.Disks.disks g.M.Disks.leads_to
     g.met.M.Disks.leads_to_itself c.args.disks.now c.lines.disks c.lines.report.marks.items c.lines.invariant.leads
     c.lines.invariant.stands
@@ -187,7 +195,7 @@ returns-in_err-session-clause-stood g c =
 pub lines-preserved : goal.lines-preserved
 lines-preserved g c =
     let model = store_model g.Y.Store.closes g.M.Disks.disks in
-    let telling = c.args.session.telling in
+    let writing = c.args.session.writing in
     let old = input g.S.Source.left g.S.Source.faults c.args.script.now in
     let mid = input g.S.Source.left g.S.Source.faults c.lines.script in
     let new = input g.S.Source.left g.S.Source.faults c.next_line.new.source in
@@ -205,15 +213,15 @@ lines-preserved g c =
       | in-TooWide w ↦ inr (w.in-TooWide.is, ap (λ l. l.now) w.line-is)
     ] in
     record {
-      read = queued model (told_by telling) c.args.session.election c.requires.election c.args.session.state state index
+      read = queued model (written_of writing) c.args.session.election c.requires.election c.args.session.state state index
           c.lines.lines c.next_line.new.self old mid new start now c.lines.invariant.read c.lines.invariant.no_fault
           c.in_ok-next_line.field-0 said.answers steady bytes brought said.progress said.within_room next
-          (told_nothing telling)
+          (told_nothing writing)
           (subst (λ (e : Election). AnswersBy (g.Y.Store.closes e) e (index + 1) state (Some bytes) (replies [] next)) c.lines.invariant.own
-          (was_queued c.in_ok-queue.field-0 (AnswersBy (g.Y.Store.closes c.lines.session.election) c.lines.session.election (index + 1) state (Some bytes)) state next
-          c.if-not-branch.false (c.in_ok-queue.ensures.queued (index + 1)))) c.queue.ensures.set;
+          (was_queued c.in_ok-said.field-0 (AnswersBy (g.Y.Store.closes c.lines.session.election) c.lines.session.election (index + 1) state (Some bytes))
+          (λ said. IsSaid c.lines.session.election bytes said c.queue.new.ballot) state next c.in_default.is (c.in_ok-said.ensures.queued (index + 1)))) c.queue.ensures.set;
       own = c.queue.ensures.election ∙ c.lines.invariant.own;
-      telling = c.queue.ensures.telling ∙ c.lines.invariant.telling;
+      writing = c.queue.ensures.writing ∙ c.lines.invariant.writing;
       counted = counts_line index c.lines.lines.room c.next_line.new.self.room (takes_room brought said.progress)
           c.lines.invariant.counted;
       no_fault = steady ∙ c.lines.invariant.no_fault;
@@ -223,8 +231,8 @@ lines-preserved g c =
       leads = c.lines.invariant.leads;
     }
 
-pub lines-preserved-then-not-branch : goal.lines-preserved-then-not-branch
-lines-preserved-then-not-branch g c =
+pub lines-preserved-in-Some : goal.lines-preserved-in-Some
+lines-preserved-in-Some g c =
     let model = store_model g.Y.Store.closes g.M.Disks.disks in
     let old = input g.S.Source.left g.S.Source.faults c.args.script.now in
     let mid = input g.S.Source.left g.S.Source.faults c.lines.script in
@@ -239,24 +247,24 @@ lines-preserved-then-not-branch g c =
     let next = c.in_ok-session.session.state in
     let steady = no_fault said.fault in
     let own = c.queue.ensures.election ∙ c.lines.invariant.own in
-    let telling = c.queue.ensures.telling ∙ c.lines.invariant.telling in
+    let writing = c.queue.ensures.writing ∙ c.lines.invariant.writing in
     let brought : IsBrought c.in_ok-next_line.field-0 c.next_line.new.self.line c.match-branch-2.line.now =
     elim c.match-branch-2.branch [
       | in-Whole w ↦ inl (w.in-Whole.is, ap (λ l. l.now) w.line-is ∙ w.line-line.ensures)
       | in-TooWide w ↦ inr (w.in-TooWide.is, ap (λ l. l.now) w.line-is)
     ] in
     record {
-      read = handled model (told_by c.args.session.telling) c.args.session.election c.requires.election
+      read = handled model (written_of c.args.session.writing) c.args.session.election c.requires.election
           c.args.session.state state index c.lines.lines c.next_line.new.self old mid new start now
           c.lines.invariant.read c.lines.invariant.no_fault c.in_ok-next_line.field-0 said.answers steady bytes brought
           said.progress said.within_room next after
-          (at_session (λ telling e state. IsHandled model (told_by telling) e (index + 1) state bytes next now after)
-          telling own
-          (not_queued c.in_ok-queue.field-0 (AnswersBy (g.Y.Store.closes c.lines.session.election) c.lines.session.election (index + 1) state (Some bytes)) state
-          c.queue.new.self.state c.if-not-branch.true (c.in_ok-queue.ensures.queued (index + 1)))
+          (at_session (λ writing e state. IsHandled model (written_of writing) e (index + 1) state bytes next now after)
+          writing own
+          (not_queued c.in_ok-said.field-0 c.in-Some.said (AnswersBy (g.Y.Store.closes c.lines.session.election) c.lines.session.election (index + 1) state (Some bytes))
+          (λ said. IsSaid c.lines.session.election bytes said c.queue.new.ballot) state c.queue.new.self.state c.in-Some.is (c.in_ok-said.ensures.queued (index + 1))).1
           c.in_ok-session.ensures.ends) c.handle.new.report.begun c.handle.ensures.rows;
       own = c.in_ok-session.ensures.election ∙ own;
-      telling = c.in_ok-session.ensures.telling ∙ telling;
+      writing = c.in_ok-session.ensures.writing ∙ writing;
       counted = counts_line index c.lines.lines.room c.next_line.new.self.room (takes_room brought said.progress)
           c.lines.invariant.counted;
       no_fault = steady ∙ c.lines.invariant.no_fault;

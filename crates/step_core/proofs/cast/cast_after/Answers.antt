@@ -1,11 +1,11 @@
 use Rattle.std.proofs.Common.{◌≢◌, ◌+◌, sym, subst}
+use Rattle.store_spec.proofs.Common.{Carrying, Placed, Rest}
 use Rattle.step_core.proofs.CastLeads.{leads_displaced, leads_empty, leads_look, leads_lost}
 use Rattle.step_core.proofs.cast.cast_after.Goals as goal
 use Rattle.step_core.specs.CastTables.{LeadsTo, MayFind, state_of}
 use Rattle.step_core.specs.Shape.{table_of}
 use Rattle.step_core.specs.declared.cast.CastState.{CastState}
-use Rattle.store_spec.specs.CastStep.CastNote.{Quiet, Placed}
-use Rattle.store_spec.specs.CastStep.CastState.{Carrying, Rest}
+use Rattle.store_spec.specs.CastStep.CastNote.{Quiet}
 
 pub returns-in-Carrying : goal.returns-in-Carrying
 returns-in-Carrying c =

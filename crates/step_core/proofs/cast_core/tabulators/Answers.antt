@@ -1,9 +1,5 @@
 use Rattle.std.proofs.Common.{◌∷◌, ◌++◌, [], List, map, ap, ◌∙◌, sym, subst, rules}
-use Rattle.std.proofs.lemmas.Iterator.Adapters.{YieldsList-from_vec}
-use Rattle.std.proofs.lemmas.Iterator.Consumers.{YieldsList-end}
-use Rattle.std.proofs.lemmas.List.{map-id, map_push}
-use Rattle.std.proofs.lemmas.List.Elements.{All-push}
-use Rattle.std.specs.List.{All}
+use Rattle.store_spec.proofs.Common.{All, All-push, YieldsList-end, YieldsList-from_vec, map-id, map_push}
 use Rattle.step_core.proofs.cast_core.tabulators.Goals as goal
 use Rattle.step_core.specs.CastCore.{HasReplyRoom, tab_of}
 use Rattle.step_core.specs.Casting.{opened_tab, opened_tabs}

@@ -1,6 +1,6 @@
 use Rattle.std.proofs.Common.{◌≡◌, ◌↔◌, Bool, true, sym, subst}
+use Rattle.store_spec.proofs.Common.{Contains}
 use Rattle.std.proofs.lemmas.List.Sorted.{searched}
-use Rattle.std.specs.List.{Contains}
 use Rattle.step_core.proofs.CoreSearch.{contains_from_search}
 use Rattle.step_core.proofs.tabulator.contains.Goals as goal
 

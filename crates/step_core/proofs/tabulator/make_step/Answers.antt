@@ -1,9 +1,9 @@
 use Rattle.std.proofs.Common.{sym, subst}
+use Rattle.store_spec.proofs.Common.{CastState}
 use Rattle.step_core.proofs.CoreSteps.{may_tell}
 use Rattle.step_core.proofs.tabulator.make_step.Goals as goal
 use Rattle.step_core.specs.CastCore.{HasTried, tab_of}
 use Rattle.step_core.specs.Shape.{table_of}
-use Rattle.store_spec.specs.CastStep.{CastState}
 
 pub tell-requires-clause-left : goal.tell-requires-clause-left
 tell-requires-clause-left c =

@@ -1,4 +1,4 @@
-use Rattle.std.proofs.lemmas.Bool.{iff_false}
+use Rattle.store_spec.proofs.Common.{iff_false}
 use Rattle.step_core.proofs.WithdrawLeads.{leads_kept, leads_lower_candidate}
 use Rattle.step_core.proofs.withdraw.after_down.Goals as goal
 

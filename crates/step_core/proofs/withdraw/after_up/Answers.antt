@@ -1,7 +1,6 @@
-use Rattle.std.proofs.lemmas.Bool.{iff_false}
+use Rattle.store_spec.proofs.Common.{iff_false, looked_higher}
 use Rattle.step_core.proofs.WithdrawLeads.{leads_candidate}
 use Rattle.step_core.proofs.withdraw.after_up.Goals as goal
-use Rattle.store_spec.specs.WithdrawStep.WithdrawRow.{looked_higher}
 
 pub returns-then-fits : goal.returns-then-fits
 returns-then-fits c =

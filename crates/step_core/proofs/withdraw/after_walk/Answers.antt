@@ -1,6 +1,6 @@
 use Rattle.std.proofs.Common.{arith}
+use Rattle.store_spec.proofs.Common.{began, walked_on}
 use Rattle.step_core.proofs.withdraw.after_walk.Goals as goal
-use Rattle.store_spec.specs.WithdrawStep.WithdrawRow.{began, walked_on}
 
 pub returns-then-found-number : goal.returns-then-found-number
 returns-then-found-number c = λ home. walked_on c.if-found-number.true

@@ -1,9 +1,5 @@
 use Rattle.std.proofs.Common.{◌∷◌, ◌++◌, [], List, map, ap, ◌∙◌, sym, subst, rules}
-use Rattle.std.proofs.lemmas.Iterator.Adapters.{YieldsList-from_vec}
-use Rattle.std.proofs.lemmas.Iterator.Consumers.{YieldsList-end}
-use Rattle.std.proofs.lemmas.List.{map-id, map_push}
-use Rattle.std.proofs.lemmas.List.Elements.{All-push}
-use Rattle.std.specs.List.{All}
+use Rattle.store_spec.proofs.Common.{All, All-push, YieldsList-end, YieldsList-from_vec, map-id, map_push}
 use Rattle.step_core.proofs.withdraw_core.withdrawers.Goals as goal
 use Rattle.step_core.specs.WithdrawCore.{HasReplyRoom, tab_of}
 use Rattle.step_core.specs.Withdrawing.{opened_tab}
@@ -11,7 +7,7 @@ use Rattle.step_core.specs.declared.withdrawer.Withdrawer.{Withdrawer}
 
 pub loop-list-preserved : goal.loop-list-preserved
 loop-list-preserved c =
-    let held = c.args.seats.now.numbers.items in
+    let held = c.args.index.now.numbers.items in
     let tab = c.in_ok-new.field-0 in
     let items = c.loop-list.tabs.items in
     let lists = map (λ list. list.items) c.loop-list.yielded in
@@ -30,4 +26,4 @@ pub returns-clause-tabs : goal.returns-clause-tabs
 returns-clause-tabs c =
     let lists = c.args.lists in
     let t = YieldsList-end (YieldsList-from_vec lists.items (search rules) (search rules)) c.loop-list.yielded c.loop-list.list-iterator c.loop-list.yielded_by _ c.next.new.self c.in-None.is c.next.ensures.steps in
-    c.loop-list.invariant.tabs ∙ ap (λ ls. map (opened_tab c.args.seats.now.numbers.items) (map (λ list. list.items) ls)) (sym (map-id _) ∙ t.0)
+    c.loop-list.invariant.tabs ∙ ap (λ ls. map (opened_tab c.args.index.now.numbers.items) (map (λ list. list.items) ls)) (sym (map-id _) ∙ t.0)

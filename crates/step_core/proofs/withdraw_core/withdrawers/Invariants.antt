@@ -6,6 +6,6 @@ use Rattle.step_core.specs.Withdrawing.{opened_tab}
 -- a withdrawer for each list so far
 abbrev pub invariant-loop-list : goal.invariant-loop-list
 invariant-loop-list l = record {
-  tabs : map tab_of l.tabs.items ≡ map (opened_tab l.seats.numbers.items) (map (λ list. list.items) l.yielded);
+  tabs : map tab_of l.tabs.items ≡ map (opened_tab l.index.numbers.items) (map (λ list. list.items) l.yielded);
   room : All HasReplyRoom l.tabs.items;
 }

@@ -1,7 +1,5 @@
 use Rattle.std.proofs.Common.{◌≡◌, ◌∷◌, [], All, ap, sym, ◌∙◌, subst, length}
-use Rattle.std.proofs.lemmas.List.Elements.{All-cons, All-nil}
-use Rattle.store_spec.specs.CastStep.{CastView}
-use Rattle.store_spec.specs.CastStep.CastState.{Rest}
+use Rattle.store_spec.proofs.Common.{All-cons, All-nil, CastView, Rest}
 use Rattle.step_tests.proofs.cast_words.close.Goals as goal
 use Rattle.word_rule.specs.Places.{Place}
 

@@ -1,5 +1,5 @@
 use Rattle.std.proofs.Common.{arith}
-use Rattle.std.specs.Prelude.{IsTrue}
+use Rattle.store_spec.proofs.Common.{IsTrue}
 use Rattle.layout_def.proofs.Fronts.{holds_own}
 use Rattle.step_tests.proofs.cast_words.is_new.Goals as goal
 

@@ -1,5 +1,5 @@
 use Rattle.std.proofs.Common.{◌≢◌}
-use Rattle.std.specs.List.{All}
+use Rattle.store_spec.proofs.Common.{All}
 use Rattle.step_tests.proofs.casting.drawn_list.Given as goal
 
 abbrev pub invariant-loop-place : goal.invariant-loop-place

@@ -1,5 +1,5 @@
 use Rattle.std.proofs.Common.{◌≡◌, ◌≢◌, length}
-use Rattle.std.specs.List.{All}
+use Rattle.store_spec.proofs.Common.{All}
 use Rattle.step_tests.proofs.casting.eight_lists.Given as goal
 
 abbrev pub invariant-loop-share : goal.invariant-loop-share

@@ -1,6 +1,6 @@
 -- The numbers so far rise, and none reaches the next.
 use Rattle.std.proofs.Common.{◌≢◌, ◌+◌, ◌*◌, ◌<◌, ◌≤◌, length}
-use Rattle.std.specs.List.{All, AllPairs}
+use Rattle.store_spec.proofs.Common.{All, AllPairs}
 use Rattle.step_tests.proofs.draws.numbers_without.Given as goal
 
 abbrev pub invariant-loop-k : goal.invariant-loop-k

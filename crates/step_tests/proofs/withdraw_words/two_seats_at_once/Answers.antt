@@ -1,8 +1,7 @@
 use Rattle.std.proofs.Common.{rules, ◌≡◌, List, Option, Some, subst}
+use Rattle.store_spec.proofs.Common.{All, WithdrawView}
 use Rattle.std.proofs.lemmas.List.Elements.{All-pop}
-use Rattle.std.specs.List.{All}
 use Rattle.std.specs.Option.{IfSome}
-use Rattle.store_spec.specs.WithdrawStep.{WithdrawView}
 use Rattle.word_rule.specs.Places.{AreWhole, Place}
 use Rattle.word_rule.specs.Seats.{SharedWords}
 use Rattle.word_rule.specs.WithdrawSeats.{IsAtRest}

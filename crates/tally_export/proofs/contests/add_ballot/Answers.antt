@@ -1,8 +1,6 @@
 use Rattle.std.proofs.Common.{◌≡◌, ℕ, ◌+◌, [], ◌∷◌, length, sym, ap, subst, ◌∙◌, arith}
-use Rattle.std.proofs.lemmas.List.Elements.{All-nil, All-push}
+use Rattle.store_spec.proofs.Common.{All-nil, All-push, IsValid, is_on_style}
 use Rattle.ballot_record.specs.Contest.{contest_of}
-use Rattle.store_spec.specs.Ballot.{IsValid}
-use Rattle.store_spec.specs.Election.{is_on_style}
 use Rattle.tally_export.proofs.Counting.{allowed_is}
 use Rattle.tally_export.proofs.Placing.{AddedTo, all_added, contest_passed, few_added, set_added, told_off, told_on}
 use Rattle.tally_export.specs.declared.counts.Tally.{Tally}

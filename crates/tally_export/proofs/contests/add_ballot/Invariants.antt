@@ -1,6 +1,5 @@
 use Rattle.std.proofs.Common.{[], ◌∷◌}
-use Rattle.store_spec.specs.Ballot.{Ballot}
-use Rattle.store_spec.specs.Image.{IsCellOf}
+use Rattle.store_spec.proofs.Common.{Ballot, IsCellOf}
 use Rattle.tally_export.proofs.Placing.{AddedTo}
 use Rattle.tally_export.proofs.contests.add_ballot.Given as goal
 

@@ -1,8 +1,6 @@
 use Rattle.std.proofs.Common.{◌≡◌, ℕ, ◌+◌, List, [], ◌∷◌, sym, subst, ◌∙◌, arith}
+use Rattle.store_spec.proofs.Common.{Ballot, Election, IsCellOf, cells_of}
 use Rattle.body_store.specs.Contents.{Contents, IsStored}
-use Rattle.store_spec.specs.Ballot.{Ballot}
-use Rattle.store_spec.specs.Election.{Election}
-use Rattle.store_spec.specs.Image.{IsCellOf, cells_of}
 use Rattle.tally_export.proofs.Adding.{ballots_added, few_counts}
 use Rattle.tally_export.proofs.Ranges.{AreCells, ballot_there, cell_count_is, few_in, next_in, none_in, past_empty_in}
 use Rattle.tally_export.specs.Counted.{AddsBallots, IsTallyOf}

@@ -1,7 +1,6 @@
 use Rattle.std.proofs.Common.{◌≡◌, ◌+◌, ◌^◌, inl, inr, get_or, set, ap, ◌∙◌, arith, get_or-set_other, get_or-set_same}
-use Rattle.std.proofs.lemmas.Bool.{cases_eq}
+use Rattle.store_spec.proofs.Common.{bit_at, cases_eq}
 use Rattle.std.proofs.lemmas.Nat.Bits.{bit_at-pow_other, bit_at-pow_same}
-use Rattle.std.specs.Int.{bit_at}
 use Rattle.tally_export.proofs.counts.add_choice.Goals as goal
 
 pub returns : goal.returns

@@ -1,5 +1,5 @@
 use Rattle.std.proofs.Common.{◌≡◌, ℕ, ◌+◌, ◌<◌, get_or}
-use Rattle.std.specs.Int.{bit_at}
+use Rattle.store_spec.proofs.Common.{bit_at}
 use Rattle.tally_export.proofs.counts.add_choices.Given as goal
 
 -- the choices that are left are not counted yet

@@ -1,5 +1,5 @@
 use Rattle.std.proofs.Common.{◌≡◌, ℕ, ◌++◌, List, length, ap, arith, subst, ◌∙◌}
-use Rattle.std.specs.Prelude.{OnErr}
+use Rattle.store_spec.proofs.Common.{OnErr}
 use Rattle.outside_io.specs.Stream.{TakesSome}
 use Rattle.tally_export.proofs.Listed.{as_many}
 use Rattle.tally_export.specs.Exported.{count_text, records_text}

@@ -1,12 +1,8 @@
 use Rattle.std.proofs.Common.{◌≡◌, ℕ, ◌+◌, ◌<◌, List, [], ◌∷◌, ◌++◌, Some, drop, get_or, length, Option, ap, subst, sym, ◌∙◌, arith}
+use Rattle.store_spec.proofs.Common.{Ballot, Election, IsCellOf, ballot_of, cells_of, line_end, record_line}
 use Rattle.body_store.specs.Contents.{Contents}
 use Rattle.body_store.specs.declared.lookup.Place.{Place}
 use Rattle.outside_io.specs.Stream.{TakesAll, TakesSome}
-use Rattle.store_spec.specs.Ballot.{Ballot, ballot_of}
-use Rattle.store_spec.specs.BallotLine.{record_line}
-use Rattle.store_spec.specs.Election.{Election}
-use Rattle.store_spec.specs.Image.{IsCellOf, cells_of}
-use Rattle.store_spec.specs.Input.{line_end}
 use Rattle.tally_export.proofs.Listed.{as_many, cell_at, cell_within, next_found}
 use Rattle.outside_io.proofs.Written.{IsWritten, all_written, front_written, gathered_written, on_failure, some_written}
 use Rattle.tally_export.proofs.Writing.{ballot_gathered, no_line_left}

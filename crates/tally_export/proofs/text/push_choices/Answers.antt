@@ -1,5 +1,5 @@
 use Rattle.std.proofs.Common.{arith}
-use Rattle.std.specs.Prelude.{string_bytes}
+use Rattle.store_spec.proofs.Common.{string_bytes}
 use Rattle.tally_export.proofs.Texts.{choice_put}
 use Rattle.tally_export.proofs.text.push_choices.Goals as goal
 

@@ -1,7 +1,5 @@
 use Rattle.std.proofs.Common.{◌≡◌, ◌+◌, ◌-◌, ◌++◌, map, get_or}
-use Rattle.std.specs.List.{range_with_len}
-use Rattle.std.specs.Prelude.{string_bytes}
-use Rattle.store_spec.specs.Report.{choice_line, lines_text}
+use Rattle.store_spec.proofs.Common.{choice_line, lines_text, range_with_len, string_bytes}
 use Rattle.tally_export.proofs.text.push_choices.Given as goal
 
 -- the lines of the first choices are put

@@ -1,10 +1,7 @@
 use Rattle.std.proofs.Common.{◌≡◌, ℕ, List, ◌+◌, ◌-◌, ◌++◌, get_or, [], map, length, arith, subst, sym, ◌∙◌}
-use Rattle.std.specs.List.{range_with_len}
-use Rattle.std.specs.Prelude.{string_bytes}
+use Rattle.store_spec.proofs.Common.{choice_line, choices_of, lines_text, range_with_len, string_bytes}
 use Rattle.ballot_record.proofs.Versions.{contests_fit, few_choices}
 use Rattle.ballot_record.specs.Contest.{contest_of}
-use Rattle.store_spec.specs.Election.{choices_of}
-use Rattle.store_spec.specs.Report.{choice_line, lines_text}
 use Rattle.tally_export.proofs.Counting.{choices_is}
 use Rattle.tally_export.proofs.Texts.{contest_put}
 use Rattle.tally_export.proofs.text.push_contests.Goals as goal

@@ -1,8 +1,5 @@
 use Rattle.std.proofs.Common.{◌≡◌, ◌+◌, ◌-◌, ◌++◌, List, length}
-use Rattle.std.specs.List.{flat_map, range_with_len}
-use Rattle.std.specs.Prelude.{string_bytes}
-use Rattle.store_spec.specs.Ballot.{Ballot}
-use Rattle.store_spec.specs.Report.{contest_lines, lines_text}
+use Rattle.store_spec.proofs.Common.{Ballot, contest_lines, flat_map, lines_text, range_with_len, string_bytes}
 use Rattle.tally_export.specs.Counted.{IsTallyOf}
 use Rattle.tally_export.proofs.text.push_contests.Given as goal
 

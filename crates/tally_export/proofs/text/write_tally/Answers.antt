@@ -1,8 +1,6 @@
 use Rattle.std.proofs.Common.{subst, sym}
-use Rattle.std.specs.Prelude.{OnErr, OnOk}
+use Rattle.store_spec.proofs.Common.{Election, OnErr, OnOk, tally_text}
 use Rattle.outside_io.specs.Stream.{TakesAll, TakesSome}
-use Rattle.store_spec.specs.Election.{Election}
-use Rattle.store_spec.specs.Report.{tally_text}
 use Rattle.tally_export.specs.Counted.{IsTallyOf}
 use Rattle.tally_export.proofs.text.write_tally.Goals as goal
 

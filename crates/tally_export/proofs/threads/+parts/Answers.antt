@@ -1,5 +1,5 @@
 use Rattle.std.proofs.Common.{List, arith, subst}
-use Rattle.store_spec.specs.Ballot.{Ballot}
+use Rattle.store_spec.proofs.Common.{Ballot}
 use Rattle.tally_export.proofs.Adding.{sums_of_few, tally_of_both}
 use Rattle.tally_export.proofs.Ranges.{both_in, few_in}
 use Rattle.tally_export.specs.Counted.{IsTallyOf}

@@ -1,5 +1,5 @@
 use Rattle.std.proofs.Common.{arith, subst, sym}
-use Rattle.store_spec.specs.Election.{Election}
+use Rattle.store_spec.proofs.Common.{Election}
 use Rattle.tally_export.proofs.Adding.{sums_of_few}
 use Rattle.tally_export.specs.Counted.{IsTallyOf}
 use Rattle.text_tests.proofs.parts.tally_of_both.Goals as goal

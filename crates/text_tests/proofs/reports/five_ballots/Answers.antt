@@ -1,10 +1,7 @@
 use Rattle.std.proofs.Common.{◌≡◌, ◌≢◌, ◌<◌, List, [], ◌∷◌, ◌∙◌, ap, arith, subst, sym}
-use Rattle.std.proofs.lemmas.List.Elements.{All-from_recursion}
-use Rattle.std.proofs.lemmas.List.Kept.{AllPairs-cons}
-use Rattle.std.specs.List.{AllPairs}
+use Rattle.store_spec.proofs.Common.{All-from_recursion, AllPairs, AllPairs-cons, Ballot, IsListing, IsValid}
 use Rattle.ballot_record.specs.Record.{ballot}
 use Rattle.ballot_record.specs.BallotList.{ListedBallots, with_more}
-use Rattle.store_spec.specs.Ballot.{Ballot, IsListing, IsValid}
 use Rattle.text_tests.proofs.reports.five_ballots.Goals as goal
 
 abbrev Apart : Ballot → Ballot → Type 0

@@ -1,5 +1,5 @@
 use Rattle.std.proofs.Common.{◌≡◌, ◌∙◌, ℕ, ◌<◌, List, Bool, false, true, get_or, length, arith, refl, sym}
-use Rattle.std.proofs.lemmas.List.{get_or_default}
+use Rattle.store_spec.proofs.Common.{get_or_default}
 use Rattle.ballot_record.specs.Record.{ballot}
 use Rattle.ticket_sample.proofs.Looking.{done_there, fresh_there, in_sample, other_there, same_there, taken_there}
 use Rattle.ticket_sample.proofs.compare.look.Goals as goal

@@ -1,12 +1,8 @@
 use Rattle.std.proofs.Common.{◌<◌, ◌≤◌, ⊎_elim, length, sym, ◌∙◌, arith, rules}
-use Rattle.std.proofs.lemmas.Bool.{cases_lt}
-use Rattle.std.proofs.lemmas.List.{get_or_default}
+use Rattle.store_spec.proofs.Common.{IsNonDecreasingBy, cases_lt, get_or_default, nat_cmp, numbers_of, ordering_index}
 use Rattle.std.proofs.lemmas.List.Sorted.{answers_always}
-use Rattle.std.specs.List.Sorted.{IsNonDecreasingBy}
-use Rattle.std.specs.Ordering.{nat_cmp, ordering_index}
 use Rattle.body_store.proofs.Lookups.{cmp_equal, cmp_less, cmp_greater, cmp_rises}
 use Rattle.body_store.specs.Contents.{ballots_of}
-use Rattle.store_spec.specs.Ballot.{numbers_of}
 use Rattle.ticket_sample.proofs.Searching.{as_many, no_record, number_there, rising}
 use Rattle.ticket_sample.proofs.compare.place_of.Goals as goal
 

@@ -1,5 +1,5 @@
 use Rattle.std.proofs.Common.{◌≡◌, ◌++◌, ◌∷◌, List, subst, ◌∙◌}
-use Rattle.std.specs.List.Sorted.{IsPermutation}
+use Rattle.store_spec.proofs.Common.{IsPermutation}
 use Rattle.ticket_sample.proofs.Bounding.{is_bound}
 use Rattle.ticket_sample.specs.Ticket.{Lot}
 use Rattle.ticket_sample.proofs.drawing.bound.Goals as goal

@@ -1,6 +1,6 @@
 use Rattle.std.proofs.Common.{◌∙◌, ap, arith, sym}
+use Rattle.store_spec.proofs.Common.{cells_of}
 use Rattle.body_store.specs.Contents.{ballots_of}
-use Rattle.store_spec.specs.Image.{cells_of}
 use Rattle.ticket_sample.proofs.Holding.{none_more, nowhere, one_more, some_more}
 use Rattle.ticket_sample.proofs.drawing.records_at.Goals as goal
 use Rattle.ticket_sample.proofs.drawing.records_at.Goals.{in-Some+in_ok-push, in_default}

@@ -1,10 +1,8 @@
 use Rattle.std.proofs.Common.{◌≡◌, ◌∙◌, ◌<◌, ap, arith, subst, sym, List}
-use Rattle.std.proofs.lemmas.List.Elements.{All-filter}
-use Rattle.std.specs.Prelude.{filter, slice_index}
+use Rattle.store_spec.proofs.Common.{All-filter, cell_count, cells_of, slice_index}
+use Rattle.std.specs.Prelude.{filter}
 use Rattle.body_store.specs.Held.{held_in}
 use Rattle.body_store.specs.declared.lookup.Place.{Place}
-use Rattle.store_spec.specs.Election.{cell_count}
-use Rattle.store_spec.specs.Image.{cells_of}
 use Rattle.ticket_sample.proofs.Holding.{places_apart, sample_held, sample_records, sample_whole, standing}
 use Rattle.ticket_sample.specs.Drawing.{AreApart, StandIn, numbers_at}
 use Rattle.ticket_sample.specs.Sample.{is_drawn}

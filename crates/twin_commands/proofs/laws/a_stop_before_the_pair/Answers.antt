@@ -1,5 +1,5 @@
 use Rattle.std.proofs.Common.{inl}
-use Rattle.store_spec.specs.Disk.{disk_model}
+use Rattle.store_spec.proofs.Common.{disk_model}
 use Rattle.twin_commands.proofs.Standing.{first_left, kept_lost, kept_own, second_left}
 use Rattle.twin_commands.proofs.laws.a_stop_before_the_pair.Goals as goal
 use Rattle.twin_commands.specs.Standing.{HoldsOwnOr, IsLostOr}

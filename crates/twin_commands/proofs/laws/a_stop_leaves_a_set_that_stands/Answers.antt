@@ -1,4 +1,4 @@
-use Rattle.store_spec.specs.Disk.{disk_model}
+use Rattle.store_spec.proofs.Common.{disk_model}
 use Rattle.twin_commands.proofs.Standing.{stands_at}
 use Rattle.twin_commands.proofs.laws.a_stop_leaves_a_set_that_stands.Goals as goal
 

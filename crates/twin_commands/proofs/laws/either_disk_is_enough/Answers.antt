@@ -1,4 +1,4 @@
-use Rattle.store_spec.specs.Disk.{disk_model}
+use Rattle.store_spec.proofs.Common.{disk_model}
 use Rattle.twin_commands.proofs.Again.{brought_back}
 use Rattle.twin_commands.proofs.laws.either_disk_is_enough.Goals as goal
 

@@ -1,5 +1,5 @@
 use Rattle.std.proofs.Common.{inl, inr, ⊎_elim}
-use Rattle.store_spec.specs.Disk.{disk_model}
+use Rattle.store_spec.proofs.Common.{disk_model}
 use Rattle.twin_commands.proofs.Again.{brought_back}
 use Rattle.twin_commands.proofs.Standing.{stands_at}
 use Rattle.twin_commands.proofs.laws.whichever_disk_is_lost.Goals as goal

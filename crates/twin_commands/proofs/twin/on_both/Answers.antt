@@ -1,16 +1,15 @@
 use Rattle.std.proofs.Common.{◌≡◌, ℕ, ◌+◌, ◌<◌, ◌∙◌, ◌⊎◌, Err, sym, ap, subst}
+use Rattle.store_spec.proofs.Common.{disk_model, last_count}
 use Rattle.outside_io.specs.Outside.{input, output}
 use Rattle.phase_gate.specs.Around.{with_rows}
 use Rattle.run_outcome.specs.Status.{ended}
 use Rattle.session_commands.specs.Session.{reported}
-use Rattle.store_spec.specs.Disk.{disk_model}
 use Rattle.twin_commands.proofs.twin.on_both.Goals as goal
 use Rattle.any_store.specs.Checkpointed.{IsMediumNow}
-use Rattle.store_spec.specs.Fault.{last_count}
 use Rattle.twin_commands.proofs.Continuing.{continues}
 use Rattle.session_run.specs.declared.fault.RunFault.TheVariants as run
 use Rattle.twin_commands.proofs.Both.{both, both_lead}
-use Rattle.twin_commands.specs.Twin.{Continues, FailsSync, SyncsAndGoesOn, beside}
+use Rattle.twin_commands.specs.Twin.{Continues, FailsSync, SyncsAndGoesOn, around_disk}
 use Rattle.twin_media.specs.Views.{state_of}
 
 pub returns : goal.returns
@@ -35,7 +34,7 @@ returns g c =
     let twin = both m g.A.Disk.leads_to n g.B.Disk.leads_to state_of in
     let answer = c.on_twin.ensures.ends.0 in
     let Either : ℕ × ℕ → Type 0 = λ begun. ((answer ≡ Err run.DiskFault) × FailsSync twin old new sink sunk (reported c.args.report.now) report start now)
-    ⊎ SyncsAndGoesOn twin (both_lead m g.A.Disk.leads_to n g.B.Disk.leads_to state_of) e set c.args.paired answer begun old new sink (with_rows (beside sunk now report.marks report.held) report.others) report start in
+    ⊎ SyncsAndGoesOn twin (both_lead m g.A.Disk.leads_to n g.B.Disk.leads_to state_of) e set c.args.paired answer begun old new sink (with_rows (around_disk sunk now report.marks report.held) report.others) report start in
     let one : c.calls.result ≡ g.A.Disk.calls start.first.now = c.calls.ensures ∙ sym (ap g.A.Disk.calls first_was) in
     let two : c.calls-2.result ≡ g.B.Disk.calls start.second.now = c.calls-2.ensures ∙ sym (ap g.B.Disk.calls second_was) in
     let either : Either (g.A.Disk.calls start.first.now, g.B.Disk.calls start.second.now) =

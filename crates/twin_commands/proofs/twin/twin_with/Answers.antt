@@ -1,9 +1,8 @@
 use Rattle.std.proofs.Common.{◌≡◌, refl, subst, inl, inr, arith, ⊎_elim}
+use Rattle.store_spec.proofs.Common.{IsBallotSet, IsWithinLimit, disk_model}
 use Rattle.outside_io.specs.Outside.{input, output}
 use Rattle.run_outcome.specs.Status.{ended}
 use Rattle.session_commands.specs.Session.{reported}
-use Rattle.store_spec.specs.Ballot.{IsBallotSet, IsWithinLimit}
-use Rattle.store_spec.specs.Disk.{disk_model}
 use Rattle.twin_commands.proofs.Pairing.{twin_ends}
 use Rattle.twin_commands.proofs.twin.twin_with.Goals as goal
 use Rattle.twin_commands.specs.Twin.{Continues}

@@ -1,12 +1,10 @@
 use Rattle.std.proofs.Common.{◌≡◌, ℕ, List, inr, ⊎_elim, refl, sym, subst}
+use Rattle.store_spec.proofs.Common.{Election, HoldsSet, IsMediumOf, LeavesOnly}
 use Rattle.std.specs.Prelude.{◌⊎◌}
 use Rattle.checkpoint.proofs.Pages.{on_ok, told_back}
 use Rattle.crash_disk.proofs.Moments.{joined, weaker}
 use Rattle.outside_io.specs.Told.{IfTold}
 use Rattle.recovery.proofs.Recovered.{medium_now, medium_then}
-use Rattle.store_spec.specs.Disk.{LeavesOnly}
-use Rattle.store_spec.specs.Election.{Election}
-use Rattle.store_spec.specs.Medium.{HoldsSet, IsMediumOf}
 use Rattle.twin_media.proofs.Kept.{mended_kept}
 use Rattle.twin_media.proofs.finding.renew.Goals as goal
 use Rattle.twin_media.specs.Pairing.{IsKeptOr}

@@ -1,5 +1,5 @@
 use Rattle.std.proofs.Common.{sym, ◌∙◌, ap}
-use Rattle.store_spec.specs.Image.{image_of}
+use Rattle.store_spec.proofs.Common.{image_of}
 use Rattle.twin_media.proofs.Kept.{same_ballots}
 use Rattle.twin_media.proofs.finding.same_set.Goals as goal
 

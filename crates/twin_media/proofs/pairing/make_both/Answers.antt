@@ -1,5 +1,5 @@
 use Rattle.std.proofs.Common.{◌≡◌}
-use Rattle.std.specs.Prelude.{option_map}
+use Rattle.store_spec.proofs.Common.{option_map}
 use Rattle.crash_disk.proofs.Moments.{settled-only, started}
 use Rattle.twin_media.proofs.Kept.{found_kept}
 use Rattle.twin_media.proofs.pairing.make_both.Goals as goal

@@ -1,7 +1,6 @@
 use Rattle.std.proofs.Common.{◌∙◌, inr, subst}
+use Rattle.store_spec.proofs.Common.{IsMediumOf, disk_model}
 use Rattle.outside_io.specs.Told.{IfTold}
-use Rattle.store_spec.specs.Disk.{disk_model}
-use Rattle.store_spec.specs.Medium.{IsMediumOf}
 use Rattle.twin_media.proofs.Pairs.{both_kept, first_lost, neither_lost, second_lost}
 use Rattle.twin_media.proofs.pairing.pair.Goals as goal
 use Rattle.twin_media.specs.declared.pairing.Paired.TheVariants.{FirstRestored, SecondRestored}

@@ -1,7 +1,5 @@
 use Rattle.std.proofs.Common.{List, refl, sym, subst}
-use Rattle.store_spec.specs.Election.{Election}
-use Rattle.store_spec.specs.Ballot.{Ballot}
-use Rattle.store_spec.specs.Medium.{IsMediumOf}
+use Rattle.store_spec.proofs.Common.{Ballot, Election, IsMediumOf}
 use Rattle.twin_tests.proofs.media.checkpointed.Goals as goal
 
 pub checkpoint-requires-clause-medium : goal.checkpoint-requires-clause-medium

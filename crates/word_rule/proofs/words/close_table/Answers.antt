@@ -1,6 +1,6 @@
 use Rattle.std.proofs.Common.{arith, ◌≡◌, ℕ, ap, ◌∙◌, sym, length, take}
+use Rattle.store_spec.proofs.Common.{length-take-le}
 use Rattle.std.specs.Mem.Slots.{slots_items}
-use Rattle.std.proofs.lemmas.List.{length-take-le}
 use Rattle.word_rule.proofs.Copying.{one_copied}
 use Rattle.word_rule.proofs.words.close_table.Goals as goal
 

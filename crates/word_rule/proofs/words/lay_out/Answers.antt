@@ -1,5 +1,5 @@
 use Rattle.std.proofs.Common.{◌≡◌, ◌++◌, ◌+◌, ◌-◌, List, ℕ, drop, length, sym, take, ap, ◌∙◌, arith, length-take}
-use Rattle.std.proofs.Math.Seq.{take-add}
+use Rattle.store_spec.proofs.Common.{take-add}
 use Rattle.word_rule.proofs.words.lay_out.Goals as goal
 
 pub loop-words-preserved : goal.loop-words-preserved

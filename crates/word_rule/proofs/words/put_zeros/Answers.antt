@@ -1,5 +1,5 @@
 use Rattle.std.proofs.Common.{◌≡◌, ◌++◌, ◌+◌, ◌-◌, List, ℕ, append_assoc, replicate, ap, ◌∙◌, arith}
-use Rattle.std.proofs.lemmas.List.{replicate-append-replicate, take-replicate}
+use Rattle.store_spec.proofs.Common.{replicate-append-replicate, take-replicate}
 use Rattle.word_rule.proofs.words.put_zeros.Goals as goal
 
 pub loop-left-preserved : goal.loop-left-preserved

@@ -1,12 +1,10 @@
 use Rattle.std.proofs.Common.{◌-◌, ◌<◌, ◌≤◌, length, ap, sym, subst, ◌∙◌, arith}
-use Rattle.std.specs.Prelude.{slice_get}
-use Rattle.std.proofs.lemmas.List.{get_or-take}
+use Rattle.store_spec.proofs.Common.{Election, IsContest, get_or-take, slice_get}
 use Rattle.ballot_record.proofs.Counts.{contest_count, contest_count_of, contest_at, All-unmap}
 use Rattle.ballot_record.specs.Contest.{contest_of, no_contest}
 use Rattle.ballot_record.specs.Kept.{election_of}
 use Rattle.ballot_record.specs.declared.contest.Contest.{Contest}
 use Rattle.std.proofs.Math.ListN.{take, get_or}
-use Rattle.store_spec.specs.Election.{Election, IsContest}
 use Rattle.ballot_record.proofs.election.Election.contest.Goals as goal
 
 pub bounds-contests-k : goal.bounds-contests-k

@@ -1,7 +1,7 @@
 use Rattle.std.proofs.Common.{◌≡◌, ◌-◌, ◌≤◌, get_or, length, length-take, get_or-take, sym, ap, subst, ◌∙◌, arith}
+use Rattle.store_spec.proofs.Common.{Election}
 use Rattle.ballot_record.proofs.OnStyle.{contest_of_bit, no_contest_of_0, told_by_word}
 use Rattle.ballot_record.proofs.election.Election.contests_on.Goals as goal
-use Rattle.store_spec.specs.Election.{Election}
 
 pub returns-then-style-eq0-clause-known : goal.returns-then-style-eq0-clause-known
 returns-then-style-eq0-clause-known c = no_contest_of_0 c.args.self.now

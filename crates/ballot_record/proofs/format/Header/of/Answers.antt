@@ -1,6 +1,6 @@
 use Rattle.std.proofs.Common.{◌≡◌, ◌%◌, length, refl, arith}
-use Rattle.std.proofs.Math.Nat.{mod-eq_of_lt}
 use Rattle.store_spec.specs.Image.{header_of}
+use Rattle.std.proofs.Math.Nat.{mod-eq_of_lt}
 use Rattle.ballot_record.proofs.Versions.{contests_fit}
 use Rattle.ballot_record.proofs.format.Header.of.Goals as goal
 

@@ -1,8 +1,8 @@
 use Rattle.std.proofs.Common.{◌+◌, ◌*◌, ◌<◌, ◌≤◌, length, sym, ap, subst, ◌∙◌}
+use Rattle.store_spec.proofs.Common.{IsElection}
 use Rattle.ballot_record.proofs.BallotListKept.{cell_there, long_enough}
 use Rattle.ballot_record.proofs.CellFormat.{length-ballot_bytes}
 use Rattle.ballot_record.specs.BallotList.{ListedBallots}
-use Rattle.store_spec.specs.Election.{IsElection}
 use Rattle.ballot_record.proofs.list.BallotList.cell.Goals as goal
 
 pub part-requires : goal.part-requires

@@ -1,6 +1,6 @@
 use Rattle.std.proofs.Common.{◌≡◌, take}
+use Rattle.store_spec.proofs.Common.{numbers_of}
 use Rattle.ballot_record.proofs.list.BallotList.numbers.Given as goal
-use Rattle.store_spec.specs.Ballot.{numbers_of}
 
 -- the numbers so far
 abbrev pub invariant-places : goal.invariant-places

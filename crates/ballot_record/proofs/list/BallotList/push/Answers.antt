@@ -1,13 +1,10 @@
 use Rattle.std.proofs.Common.{◌+◌, refl, sym, ap, subst, ◌∙◌, arith}
-use Rattle.std.proofs.lemmas.Bool.{false≢true}
+use Rattle.store_spec.proofs.Common.{Election, IsValid, ballot_bytes, cell_size, false≢true}
 use Rattle.ballot_record.proofs.BallotListKept.{few_kept, put_behind, room_for_one}
 use Rattle.ballot_record.proofs.list.BallotList.push.Goals as goal
 use Rattle.ballot_record.specs.BallotList.{ListedBallots, with_more}
 use Rattle.ballot_record.specs.Record.{ballot}
 use Rattle.ballot_record.specs.declared.list.BallotList.TheInside.{Inside}
-use Rattle.store_spec.specs.Ballot.{IsValid}
-use Rattle.store_spec.specs.Election.{Election, cell_size}
-use Rattle.store_spec.specs.Image.{ballot_bytes}
 
 pub prove-unreachable-requires : goal.prove-unreachable-requires
 prove-unreachable-requires c =

@@ -1,8 +1,8 @@
 use Rattle.std.proofs.Common.{Some, sym, ap, ap₂, ◌∙◌}
+use Rattle.store_spec.proofs.Common.{Election}
 use Rattle.ballot_record.proofs.CellFormat.{spells_itself}
 use Rattle.ballot_record.proofs.list.BallotList.record.Goals as goal
 use Rattle.ballot_record.specs.Format.{ballot_at}
-use Rattle.store_spec.specs.Election.{Election}
 
 pub returns : goal.returns
 returns c =

@@ -1,9 +1,10 @@
-use Rattle.std.proofs.Common.{ℕ, ◌-◌, ◌^◌, ◌<◌, ◌≤◌}
-use Rattle.std.specs.Prelude.{slice_index}
-use Rattle.store_spec.specs.Election.{choices_on}
+use Rattle.std.proofs.Common.{◌≡◌, ◌↔◌}
+use Rattle.ballot_record.proofs.Fitting.{FitUpTo}
 use Rattle.ballot_record.proofs.record.Record.has_marks.Given as goal
 
--- the mark sets so far fit
-abbrev pub invariant-loop-place : goal.invariant-loop-place
-invariant-loop-place l =
-    (k : ℕ) → 1 ≤ k → k ≤ l.place → slice_index l.self.marks (k - 1) < 2 ^ choices_on l.election l.self.style k
+-- the mark sets so far
+abbrev pub invariant-known : goal.invariant-known
+invariant-known l = l.marked ≡ 0 ↔ FitUpTo l.election l.self.style l.self.marks l.place
+
+abbrev pub invariant-others : goal.invariant-others
+invariant-others l = l.marked ≡ 0 ↔ FitUpTo l.election l.self.style l.self.marks l.place

@@ -1,10 +1,8 @@
 use Rattle.std.proofs.Common.{◌≡◌, ◌-◌, ◌%◌, ◌<◌, ◌≤◌, ◌∷◌, [], ◌++◌, length, take, drop, refl, ap, sym, ◌∙◌, arith, get_or, get_or-take, length-append, length-drop, length-take}
-use Rattle.std.proofs.Math.ListN.{set, length-set}
-use Rattle.std.proofs.Math.Nat.{mod-eq_of_lt}
-use Rattle.std.specs.List.{flat_map}
-use Rattle.std.specs.Int.{bytes_high_first, to_be_bytes, w64}
-use Rattle.store_spec.specs.Election.{cell_size, set_width}
+use Rattle.store_spec.proofs.Common.{bytes_high_first, flat_map, mod-eq_of_lt, set_width, to_be_bytes, w64}
+use Rattle.store_spec.specs.Election.{cell_size}
 use Rattle.store_spec.specs.Image.{ballot_bytes}
+use Rattle.std.proofs.Math.ListN.{set, length-set}
 use Rattle.ballot_record.specs.Record.{ballot}
 use Rattle.ballot_record.proofs.ValidMarks.{set_spellable}
 use Rattle.ballot_record.proofs.FormatWriting.{cell_written}

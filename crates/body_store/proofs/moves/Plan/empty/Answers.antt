@@ -1,6 +1,6 @@
-use Rattle.std.proofs.Common.{◌≡◌, ◌-◌, inr, length, refl, sym, subst, arith}
+use Rattle.std.proofs.Common.{◌≡◌, ◌-◌, ◌*◌, inr, length, refl, sym, subst, arith}
 use Rattle.body_store.proofs.Planning.{noted_moved, right_moved, same_right}
-use Rattle.body_store.specs.Moves.{Waits}
+use Rattle.body_store.specs.Moves.{Waits, WaitsIn}
 use Rattle.body_store.specs.declared.moves.Move.{Move}
 use Rattle.body_store.proofs.moves.Plan.empty.Goals as goal
 
@@ -9,10 +9,12 @@ returns-clause-right c f front long right =
     let was = c.args.self.now in
     let move : Move = record { from = c.args.front; cell = c.args.cell } in
     let bytes = was.bytes.items in
-    let first : 0 ≡ c.args.front - length front = omega (arith, long) in
+    let size = length (f 0) in
+    let first : 0 ≡ c.args.front * size - length front = omega (arith, long) in
     same_right f c.args.cells.now front bytes bytes _ _ was.far.items was.far.items
     (right_moved f c.args.cells.now front bytes was.moves.items was.far.items move right c.requires.within
-    (inr (omega (arith, long), subst (λ n. Waits f bytes (c.args.front - length front) n) (sym c.requires.none) (subst (λ from. Waits f bytes from 0) first right.empty))))
+    (subst (λ n. WaitsIn f front bytes c.args.front n) (sym c.requires.none)
+    (inr (omega (arith, long), subst (λ from. Waits f bytes from 0) first right.empty))))
     refl c.in_ok-push.ensures.items refl
 
 pub returns-clause-still : goal.returns-clause-still

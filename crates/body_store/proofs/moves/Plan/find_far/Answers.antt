@@ -1,9 +1,8 @@
 use Rattle.std.proofs.Common.{List, get_or, ⊎_elim, sym, subst, rules}
-use Rattle.std.proofs.lemmas.List.Sorted.{All-permutation, IsNonDecreasingBy-from_sort_by_key}
-use Rattle.std.specs.List.{All}
-use Rattle.std.specs.List.Sorted.{IsNonDecreasingBy}
+use Rattle.store_spec.proofs.Common.{All, All-permutation, IsNonDecreasingBy}
+use Rattle.std.proofs.lemmas.List.Sorted.{IsNonDecreasingBy-from_sort_by_key}
 use Rattle.body_store.proofs.Planning.{among_moved}
-use Rattle.body_store.specs.Moves.{AwaitsCell, Moves, WaitsIn}
+use Rattle.body_store.specs.Moves.{AwaitsCell, IsMoved, WaitsIn}
 use Rattle.body_store.specs.declared.moves.Waiting.{Waiting}
 use Rattle.body_store.proofs.moves.Plan.find_far.Goals as goal
 
@@ -33,7 +32,7 @@ returns-in_ok-move_far-clause-noted c cell lt changed =
     let was = c.args.self.now in
     let v = get_or c.args.cells.now cell 0 in
     ⊎_elim
-    (λ (there : Moves was.moves.items cell). c.in_ok-move_far.ensures.still cell there)
+    (λ (there : IsMoved was.moves.items cell). c.in_ok-move_far.ensures.still cell there)
     (λ (waits : AwaitsCell was.far.items v).
     c.in_ok-move_far.ensures.moved cell lt changed
     (subst (λ (ones : List Waiting). AwaitsCell ones v) (sym c.deref.ensures.value)

@@ -1,6 +1,5 @@
 use Rattle.std.proofs.Common.{◌≡◌, ℕ, List, Option, Some, sym, subst}
-use Rattle.std.proofs.lemmas.Result.{IfOk-weaker}
-use Rattle.std.specs.Prelude.{IfSome}
+use Rattle.store_spec.proofs.Common.{IfOk-weaker, IfSome}
 use Rattle.crash_disk.proofs.Stops.{left_now}
 use Rattle.crash_disk.proofs.recorded.MemoryDisk.after_stop.Goals as goal
 use Rattle.crash_disk.specs.Notes.{left_of}

@@ -1,5 +1,5 @@
 use Rattle.std.proofs.Common.{◌<◌, length, rules}
-use Rattle.std.specs.Prelude.{OnOk}
+use Rattle.store_spec.proofs.Common.{OnOk}
 use Rattle.crash_disk.proofs.Elapsed.{write-unchanged, write-any, write-images}
 use Rattle.crash_disk.proofs.recorded.RecordedDiskDisk.write_at.Given as given
 use Rattle.crash_disk.proofs.recorded.RecordedDiskDisk.write_at.Goals as goal

@@ -1,5 +1,5 @@
 use Rattle.std.proofs.Common.{◌≡◌, ◌*◌, List, ℕ, length, ap, arith}
-use Rattle.std.proofs.lemmas.Grind.{common_steps}
+use Rattle.store_spec.proofs.Common.{common_steps}
 use Rattle.crash_disk.proofs.Stops.{left_now, replays-none, seen_room}
 use Rattle.crash_disk.proofs.recording.Recording.left.Goals as goal
 

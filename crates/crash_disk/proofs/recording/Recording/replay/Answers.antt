@@ -1,7 +1,5 @@
 use Rattle.std.proofs.Common.{◌≡◌, ℕ, ◌+◌, List, ap, arith}
-use Rattle.std.proofs.lemmas.Grind.{common_steps}
-use Rattle.std.proofs.lemmas.Result.{on_ok_weaker}
-use Rattle.std.specs.Prelude.{slice_range}
+use Rattle.store_spec.proofs.Common.{common_steps, on_ok_weaker, slice_range}
 use Rattle.crash_disk.proofs.Stops.{replays-failed, replays-quiet, replays-synced, write-begins, write-replays, write-room, write-tears}
 use Rattle.crash_disk.proofs.recording.Recording.replay.Goals as goal
 

@@ -1,18 +1,14 @@
 use Rattle.std.proofs.Common.{◌≡◌, List, ℕ, length, Result, Ok, Err, IfOk, ap, subst, ◌∙◌, arith}
-use Rattle.std.proofs.lemmas.Result.{IfOk-weaker}
-use Rattle.std.specs.List.Sorted.{IsPermutation}
+use Rattle.store_spec.proofs.Common.{Ballot, Election, IfOk-weaker, IsBallotSet, IsElection, IsImageOf, IsPermutation, IsWithinLimit, bank_size}
 use Rattle.body_store.proofs.Listings.{image_of-IsPermutation}
 use Rattle.body_store.specs.Contents.{Contents, IsStored}
 use Rattle.body_store.specs.Held.{Shows}
 use Rattle.image_builder.proofs.Judged.{first_header, judged_whole}
 use Rattle.image_builder.proofs.cells.CellsRead.into_store.Goals as goal
-use Rattle.image_builder.specs.Cells.{AreJudged, ballots_at, numbers_read}
+use Rattle.image_builder.specs.Cells.{AreJudged, numbers_read, spelled_ballots}
 use Rattle.image_builder.specs.declared.cells.CellsRead.{CellsRead}
-use Rattle.store_spec.specs.Ballot.{Ballot, IsBallotSet, IsWithinLimit}
-use Rattle.store_spec.specs.Election.{Election, IsElection, bank_size}
-use Rattle.store_spec.specs.Image.{IsImageOf}
 
-shown : (e : Election) (cells : CellsRead) (bank : List ℕ) → IsElection e → AreJudged e cells bank → length bank ≡ bank_size e → Shows e (ballots_at e (numbers_read cells) bank) bank (numbers_read cells)
+shown : (e : Election) (cells : CellsRead) (bank : List ℕ) → IsElection e → AreJudged e cells bank → length bank ≡ bank_size e → Shows e (spelled_ballots e (numbers_read cells) bank) bank (numbers_read cells)
 shown e cells bank election judged whole =
     let first = judged.first (omega (arith, whole)) in
     judged_whole e (numbers_read cells) cells.reaches.items bank election first (judged.short (omega (arith, whole))) whole
@@ -39,7 +35,7 @@ returns-clause-image c =
     let bank = c.args.bank.items in
     let numbers = numbers_read c.args.self in
     let made = c.from_image.ensures in
-    image_told e (ballots_at e numbers bank) bank numbers c.from_image.result (shown e c.args.self bank c.contests.ensures.valid c.requires.judged c.requires.whole)
+    image_told e (spelled_ballots e numbers bank) bank numbers c.from_image.result (shown e c.args.self bank c.contests.ensures.valid c.requires.judged c.requires.whole)
     (IfOk-weaker c.from_image.result _ _ (λ store is. ap (λ (store : Contents). store.election) is) made.contents) made.same made.stored
 
 pub returns-clause-header : goal.returns-clause-header

@@ -1,15 +1,12 @@
 use Rattle.std.proofs.Common.{◌≡◌, ◌==◌, ℕ, ◌<◌, ◌≤◌, ⊎_elim, true, List, [], ◌++◌, Result, Ok, Err, OnOk, length, take, sym, ap, subst, subst₂, ◌∙◌, arith, length-append}
+use Rattle.store_spec.proofs.Common.{Election, IfErr-weaker, IsElection, cases_lt, eq-eqb, err_from_is_err_and, false≢true, header_of, header_size}
 use Rattle.std.specs.Vec.{vec_len}
-use Rattle.std.proofs.lemmas.Bool.{cases_lt, eq-eqb, false≢true}
-use Rattle.std.proofs.lemmas.Result.{IfErr-weaker, err_from_is_err_and}
 use Rattle.ballot_record.proofs.CellFormat.{header_width}
 use Rattle.image_builder.proofs.Judged.{first_more, first_none, judged_front, refused_header, refused_on}
 use Rattle.image_builder.proofs.cells.CellsRead.judge.Goals as goal
 use Rattle.image_builder.proofs.cells.CellsRead.judge.Goals.{then-is_empty+in_ok-check_header, else-is_empty}
 use Rattle.image_builder.specs.Cells.{AreFirst, AreJudged, IsRead, numbers_read}
 use Rattle.image_builder.specs.declared.cells.CellsRead.{CellsRead}
-use Rattle.store_spec.specs.Election.{Election, IsElection, header_size}
-use Rattle.store_spec.specs.Image.{header_of}
 
 pub returns-then-bank-lt-HEADER_BYTES-clause-judged : goal.returns-then-bank-lt-HEADER_BYTES-clause-judged
 returns-then-bank-lt-HEADER_BYTES-clause-judged c =

@@ -1,11 +1,10 @@
 use Rattle.std.proofs.Common.{◌≡◌, ◌++◌, ◌≤◌, Bool, true, List, ℕ, length, if◌then◌else◌, sym, ap, subst, ◌∙◌, arith}
-use Rattle.std.proofs.lemmas.Result.{err_from_is_err_and}
+use Rattle.store_spec.proofs.Common.{Election, IsElection, bank_size, err_from_is_err_and}
 use Rattle.image_builder.proofs.reader.ImageReader.feed.Goals as goal
 use Rattle.image_builder.specs.Cells.{AreJudged}
 use Rattle.image_builder.specs.Feeding.{Feeding, IsFront}
 use Rattle.image_builder.specs.Kept.{IsKept, feeding_of}
 use Rattle.image_builder.specs.declared.reader.ImageReader.TheInside.{Inside}
-use Rattle.store_spec.specs.Election.{Election, IsElection, bank_size}
 
 -- what was judged is that of the election given, and of the bytes that were fed
 record IsOwn (e : Election) (a : Inside) (fed : List ℕ) : Type 0 where

@@ -1,6 +1,5 @@
 use Rattle.std.proofs.Common.{ap₂, arith, eqb-true, sym, ◌∙◌}
-use Rattle.std.proofs.lemmas.Bool.{eqb-false}
-use Rattle.std.proofs.lemmas.List.{nil_from_length}
+use Rattle.store_spec.proofs.Common.{eqb-false, nil_from_length}
 use Rattle.ballot_record.specs.LineReading.{digits_at}
 use Rattle.large_options.proofs.Numbers.{limit_fits, more_behind, none_read, value_read}
 use Rattle.large_options.proofs.name.Name.value.Goals as goal

@@ -1,9 +1,8 @@
 use Rattle.std.proofs.Common.{◌≡◌, List, ap, subst, ◌∙◌}
-use Rattle.std.specs.Prelude.{IfOk}
+use Rattle.store_spec.proofs.Common.{Ballot, IfOk}
 use Rattle.merge_media.proofs.Unions.{closed_same, closed_union}
 use Rattle.merge_media.proofs.union.Union.closed.Goals as goal
 use Rattle.merge_media.specs.Union.{IsUnion, Joined, Joins}
-use Rattle.store_spec.specs.Ballot.{Ballot}
 
 pub returns-clause-same : goal.returns-clause-same
 returns-clause-same c =

@@ -1,8 +1,5 @@
 use Rattle.std.proofs.Common.{◌≡◌, ◌+◌, ◌-◌, ◌≤◌, ◌<◌, length, take, refl, ap, sym, ◌∙◌, subst, inl, inr, arith}
-use Rattle.std.proofs.lemmas.Bool.{cases_lt}
-use Rattle.std.proofs.lemmas.List.{length-take-le, take_all}
-use Rattle.std.specs.Prelude.{slice_range}
-use Rattle.store_spec.specs.Input.{line_limit, first_width, IsTooLong}
+use Rattle.store_spec.proofs.Common.{IsTooLong, cases_lt, first_width, length-take-le, line_limit, slice_range, take_all}
 use Rattle.outside_io.specs.Lines.{IsAnswerFor, CutsOff, StaysSame}
 use Rattle.outside_io.specs.Window.{Kept, kept_of, window_of}
 use Rattle.outside_io.specs.declared.lines.NextLine.{NextLine}

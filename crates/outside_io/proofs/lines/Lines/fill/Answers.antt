@@ -1,8 +1,5 @@
 use Rattle.std.proofs.Common.{◌≡◌, ◌+◌, ◌-◌, ◌≤◌, ◌<◌, [], ◌++◌, length, take, drop, replicate, refl, ap, sym, ◌∙◌, arith, append_assoc}
-use Rattle.std.proofs.lemmas.List.{with_items_is}
-use Rattle.std.specs.Prelude.{slice_range}
-use Rattle.std.specs.Vec.{with_items}
-use Rattle.store_spec.specs.Input.{first_width}
+use Rattle.store_spec.proofs.Common.{first_width, slice_range, with_items, with_items_is}
 use Rattle.outside_io.specs.Window.{Kept, window_of}
 use Rattle.outside_io.proofs.Answered.{filled, not_filled, still_ended}
 use Rattle.outside_io.proofs.Windows.{refilled, refilled_more, text_length, window_grown}

@@ -1,10 +1,9 @@
 use Rattle.std.proofs.Common.{◌≡◌, ◌≤◌, ◌-◌, ◌^◌, length, subst, sym, arith}
+use Rattle.store_spec.proofs.Common.{disk_model, share}
 use Rattle.parted_store.proofs.Slots.{medium_along}
 use Rattle.parted_store.proofs.disks.Parts.new.Goals as goal
 use Rattle.parted_store.specs.Slots.{models_of}
 use Rattle.parted_store.specs.Views.{both_of}
-use Rattle.store_spec.specs.Disk.{disk_model}
-use Rattle.store_spec.specs.Parts.{share}
 
 pub returns-clause-media : goal.returns-clause-media
 returns-clause-media g c e set are i within =

@@ -1,11 +1,10 @@
 use Rattle.std.proofs.Common.{◌≡◌, ◌≤◌, ◌-◌, ◌^◌, inl, inr, List, length, refl, subst, arith}
+use Rattle.store_spec.proofs.Common.{disk_model, share}
 use Rattle.parted_store.proofs.Lifting.{checkpointed_up, counts_within, failed_up, later_counts, steady_counts}
 use Rattle.parted_store.proofs.disks.PartsDisksPartsOf.acknowledge.Goals as goal
 use Rattle.parted_store.specs.Slots.{models_of}
 use Rattle.parted_store.specs.Views.{both_of}
 use Rattle.partition_store.specs.Parted.{joined}
-use Rattle.store_spec.specs.Disk.{disk_model}
-use Rattle.store_spec.specs.Parts.{share}
 
 pub returns-in-Ok-clause-done : goal.returns-in-Ok-clause-done
 returns-in-Ok-clause-done g c =

@@ -1,7 +1,7 @@
 use Rattle.std.proofs.Common.{◌≡◌, ◌-◌, ◌^◌, ◌∙◌, length, arith}
+use Rattle.store_spec.proofs.Common.{disk_model}
 use Rattle.parted_store.proofs.Lifting.{further_row}
 use Rattle.parted_store.proofs.disks.PartsDisksPartsOf.beside.Goals as goal
-use Rattle.store_spec.specs.Disk.{disk_model}
 
 pub returns : goal.returns
 returns g c =

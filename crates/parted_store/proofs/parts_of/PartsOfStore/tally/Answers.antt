@@ -1,10 +1,8 @@
 use Rattle.std.proofs.Common.{subst, sym}
-use Rattle.std.specs.Prelude.{OnErr, OnOk}
+use Rattle.store_spec.proofs.Common.{Election, OnErr, OnOk, tally_text}
 use Rattle.outside_io.specs.Stream.{TakesAll, TakesSome}
 use Rattle.parted_store.proofs.parts_of.PartsOfStore.tally.Goals as goal
 use Rattle.partition_store.specs.Parted.{joined}
-use Rattle.store_spec.specs.Election.{Election}
-use Rattle.store_spec.specs.Report.{tally_text}
 use Rattle.tally_export.specs.Counted.{IsTallyOf}
 
 pub returns-clause-all : goal.returns-clause-all

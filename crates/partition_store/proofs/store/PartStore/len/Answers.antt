@@ -1,5 +1,5 @@
 use Rattle.std.proofs.Common.{length, refl, ap, ◌∙◌, arith}
-use Rattle.std.proofs.lemmas.List.{take_all}
+use Rattle.store_spec.proofs.Common.{take_all}
 use Rattle.partition_store.proofs.Keeping.{counted_on, few_more, kept_few}
 use Rattle.partition_store.proofs.store.PartStore.len.Goals as goal
 use Rattle.partition_store.specs.Parted.{Parted, joined}

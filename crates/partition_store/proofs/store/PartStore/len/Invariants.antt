@@ -1,8 +1,8 @@
 use Rattle.std.proofs.Common.{◌≡◌, ◌*◌, ◌≤◌, length, take}
+use Rattle.store_spec.proofs.Common.{most_ballots}
 use Rattle.partition_store.proofs.store.PartStore.len.Given as goal
 use Rattle.partition_store.specs.Parted.{joined}
 use Rattle.partition_store.specs.PartedKept.{sets_of}
-use Rattle.store_spec.specs.Election.{most_ballots}
 
 -- the parts so far were counted
 abbrev pub invariant-loop-part : goal.invariant-loop-part

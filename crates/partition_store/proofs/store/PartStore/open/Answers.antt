@@ -1,6 +1,5 @@
 use Rattle.std.proofs.Common.{◌≡◌, ◌<◌, ◌≤◌, ap, arith}
-use Rattle.std.proofs.lemmas.Result.{IfErr-weaker, IfOk-weaker, on_ok_weaker}
-use Rattle.std.specs.List.{AllZip}
+use Rattle.store_spec.proofs.Common.{AllZip, IfErr-weaker, IfOk-weaker, disk_model, last_count, on_ok_weaker}
 use Rattle.std.specs.Option.{is_some}
 use Rattle.partition_store.proofs.Opened.{Runs, against_behind, all_run_behind, left_behind, left_looked, not_before, only_looked, opened_behind, runs_behind, runs_looked}
 use Rattle.partition_store.proofs.store.PartStore.open.Goals as goal
@@ -9,8 +8,6 @@ use Rattle.partition_store.specs.Recovering.{RefusesAll}
 use Rattle.partition_store.proofs.SideBySide.{zip_joined, zip_weaker}
 use Rattle.recovery.proofs.OneByOne.{handed_on}
 use Rattle.recovery.specs.ReadsOnly.{WritesNothing}
-use Rattle.store_spec.specs.Disk.{disk_model}
-use Rattle.store_spec.specs.Fault.{last_count}
 
 pub returns-in_err-look_all-clause-left : goal.returns-in_err-look_all-clause-left
 returns-in_err-look_all-clause-left g c =

@@ -1,8 +1,7 @@
 use Rattle.std.proofs.Common.{refl, subst, sym, ◌∙◌}
-use Rattle.std.proofs.lemmas.List.{map-id}
+use Rattle.store_spec.proofs.Common.{fresh_withdraw_view, map-id}
 use Rattle.phase_delete.proofs.Opened.{may_empty}
 use Rattle.phase_delete.proofs.kind.WithdrawingKind.begin.Goals as goal
-use Rattle.store_spec.specs.WithdrawStep.{fresh_withdraw_view}
 use Rattle.word_rule.specs.Places.{AreAll}
 
 pub new-requires-clause-may_open : goal.new-requires-clause-may_open

@@ -1,11 +1,11 @@
 use Rattle.std.proofs.Common.{Global, List, Vec, ℕ, refl, ap, map, ◌∙◌, subst, sym}
-use Rattle.std.proofs.lemmas.List.{map-id}
+use Rattle.store_spec.proofs.Common.{map-id}
 use Rattle.body_store.specs.Contents.{Contents}
 use Rattle.phase_delete.proofs.Whole.{closes_as, layout, replies_in, trays_of, whole}
 use Rattle.phase_delete.proofs.kind.WithdrawingKind.end.Goals as goal
 use Rattle.phase_delete.specs.Closing.{ClosesAs}
 use Rattle.phase_delete.specs.Ends.{all_withdrawn}
-use Rattle.phase_delete.specs.Tray.{Withdrawal}
+use Rattle.phase_delete.specs.Tray.{TrayWithdrawal}
 use Rattle.phase_kind.proofs.Trays.{replies_of_trays}
 use Rattle.phase_kind.specs.declared.tray.Tray.{Tray}
 use Rattle.step_core.specs.declared.withdrawer.WithdrawReply.{WithdrawReply}
@@ -43,7 +43,7 @@ returns-clause-closes c =
     let laid = layout base words left.workers left.all left.told base.election gone c.in_ok-cells.cells.items c.requires.own.of_store c.requires.stored refl refl (c.in_ok-cells.ensures.cells ∙ ap (cells_after words) seats) in
     let after = c.without.new.self.ballots in
     let replies = map (λ list. list.items) c.in_ok-replies.replies.items in
-    subst (λ (trays : List (List Withdrawal)). ClosesAs base trays replies after) (sym left.trays_are)
+    subst (λ (trays : List (List TrayWithdrawal)). ClosesAs base trays replies after) (sym left.trays_are)
     (closes_as base words left.workers left.all left.told (subst (AgreeOn words) seats c.in_ok-cells.ensures.lists) gone after replies refl (ap (λ (store : Contents). store.ballots) (c.in_ok-without.ensures.rest gone laid))
     (c.in_ok-replies.ensures
     ∙ replies_of_trays (λ (tray : WithdrawTray). tray.items.items) (λ (tray : WithdrawTray). tray.replies.items) c.args.trays.items c.requires.paired

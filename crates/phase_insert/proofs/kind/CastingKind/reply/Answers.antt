@@ -4,13 +4,13 @@ use Rattle.phase_insert.proofs.Compared.{IsHeldCell, holds_other, holds_same, nu
 use Rattle.phase_insert.proofs.HeldNumbers.{not_in_words}
 use Rattle.phase_insert.proofs.Replied.{as_asked, as_conflict, as_duplicate}
 use Rattle.phase_insert.proofs.kind.CastingKind.reply.Goals as goal
-use Rattle.phase_kind.specs.Phase.{Phase}
+use Rattle.phase_kind.specs.Phase.{OpenPhase}
 use Rattle.phase_insert.specs.Gains.{Gains, IsNewTo}
 use Rattle.word_rule.specs.Seats.{SharedWords}
 use Rattle.step_core.specs.declared.shape.Shape.{Shape}
 
 -- the phase of a store and its words
-abbrev phase_of : Contents → SharedWords → Phase
+abbrev phase_of : Contents → SharedWords → OpenPhase
 phase_of base words = record { base = base; words = words }
 
 pub claim-requires-clause-some : goal.claim-requires-clause-some

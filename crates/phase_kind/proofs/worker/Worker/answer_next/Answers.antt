@@ -1,8 +1,8 @@
 use Rattle.std.proofs.Common.{◌≡◌, ◌<◌, [], ◌∷◌, ◌++◌, List, Some, ap, arith, drop, length, length-append, slice_get, subst, sym, ◌∙◌}
-use Rattle.std.proofs.lemmas.Option.{slice_get_within}
+use Rattle.store_spec.proofs.Common.{slice_get_within}
 use Rattle.phase_kind.proofs.Trays.{first_there, first_told, first_waits, still_tells, told_of}
 use Rattle.phase_kind.proofs.worker.Worker.answer_next.Goals as goal
-use Rattle.phase_kind.specs.Told.{told_in}
+use Rattle.phase_kind.specs.AnsweredItem.{answered_items}
 use Rattle.phase_kind.specs.Worker.{WorkerView}
 use Rattle.word_rule.specs.Seats.{SharedWords}
 
@@ -26,7 +26,7 @@ invariant_of-self g c =
     record {
       told = still_tells k.tells phase (record { base = a.base.value; words = (k.standing a.seat).words }) (record { base = a.base.value; words = (k.standing c.reply-reply.new.seat).words }) old now items replies c.push_reserved.new.self.items next.0 reply
           was is next.1 c.push_reserved.ensures.items
-          (λ told. c.trays_tell.ensures.more phase old now (told_in items replies) next.0 reply told (c.reply-reply.ensures.answers next.0 at)) kept.told;
+          (λ told. c.trays_tell.ensures.more phase old now (answered_items items replies) next.0 reply told (c.reply-reply.ensures.answers next.0 at)) kept.told;
       is_of = kept.is_of;
       paired = omega (arith, more, slice_get_within items (length replies) next.0 next.1);
       within = kept.within;
@@ -46,7 +46,7 @@ returns-clause-answers g c =
     let at : slice_get items c.len-next.result ≡ Some next.0 = ap (slice_get items) (omega (arith, c.len-next.ensures, a.tray.replies.ok.0)) ∙ next.1 in (
       next.0,
       sym (ap (λ (w : W). w.waiting) c.self.view_is) ∙ first_waits items replies next.0 reply next.1 ∙ ap (λ (l : List g.row.K-Reply.Denot). next.0 ∷ drop (length l) items) (sym c.push_reserved.ensures.items),
-      ap (told_in items) c.push_reserved.ensures.items ∙ first_told items replies next.0 reply next.1 ∙ ap (λ (w : W). w.tray ++ told_of next.0 reply ∷ []) c.self.view_is,
+      ap (answered_items items) c.push_reserved.ensures.items ∙ first_told items replies next.0 reply next.1 ∙ ap (λ (w : W). w.tray ++ told_of next.0 reply ∷ []) c.self.view_is,
       subst (λ (w : W). k.answers c.args.phase.now w.seat next.0 reply (k.standing c.reply-reply.new.seat).view) c.self.view_is (c.reply-reply.ensures.answers next.0 at),
     )
 

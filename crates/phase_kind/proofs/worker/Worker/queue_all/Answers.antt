@@ -1,8 +1,8 @@
 use Rattle.std.proofs.Common.{arith, subst, sym}
-use Rattle.std.proofs.lemmas.List.{length-take-le, take_all}
+use Rattle.store_spec.proofs.Common.{length-take-le, take_all}
 use Rattle.phase_kind.proofs.Queued.{none_queued, one_queued}
 use Rattle.phase_kind.proofs.worker.Worker.queue_all.Goals as goal
-use Rattle.phase_kind.specs.Phase.{Phase}
+use Rattle.phase_kind.specs.Phase.{OpenPhase}
 use Rattle.phase_kind.specs.Worker.{HasQueued}
 
 pub loop-place-init : goal.loop-place-init
@@ -14,7 +14,7 @@ queue-requires-clause-room g c κs within =
     omega (arith, c.loop-place.invariant.room, c.requires.room, length-take-le c.loop-place.place list (omega arith))
 
 pub queue-requires-clause-is_of : goal.queue-requires-clause-is_of
-queue-requires-clause-is_of g c κs within = subst (λ (phase : Phase). g.K.Kind.is_of phase.base c.args.list.now) (sym c.loop-place.invariant.phase) c.requires.is_of
+queue-requires-clause-is_of g c κs within = subst (λ (phase : OpenPhase). g.K.Kind.is_of phase.base c.args.list.now) (sym c.loop-place.invariant.phase) c.requires.is_of
 
 pub loop-place-preserved : goal.loop-place-preserved
 loop-place-preserved g c =

@@ -1,5 +1,5 @@
 use Rattle.std.proofs.Common.{List, ℕ, arith, subst}
-use Rattle.std.proofs.lemmas.Grind.{common_steps}
+use Rattle.store_spec.proofs.Common.{common_steps}
 use Rattle.std.specs.Fmt.{HasWritten}
 use Rattle.run_outcome.proofs.status.StatusDisplay.fmt.Goals as goal
 

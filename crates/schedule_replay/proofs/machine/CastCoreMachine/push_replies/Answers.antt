@@ -1,5 +1,5 @@
 use Rattle.std.proofs.Common.{◌≡◌, ◌-◌, Some, map}
-use Rattle.std.specs.Prelude.{slice_get, string_bytes}
+use Rattle.store_spec.proofs.Common.{slice_get, string_bytes}
 use Rattle.schedule_replay.proofs.Replies.{cast_words_are, lines_are}
 use Rattle.reply_lines.specs.Words.{met_text}
 use Rattle.schedule_replay.specs.Replayed.{cast_words}

@@ -1,8 +1,7 @@
 use Rattle.std.proofs.Common.{◌≡◌, ◌-◌, Some, map}
-use Rattle.std.specs.Prelude.{slice_get, string_bytes}
+use Rattle.store_spec.proofs.Common.{slice_get, string_bytes, withdraw_text}
 use Rattle.schedule_replay.proofs.Replies.{withdraw_words_are, lines_are}
 use Rattle.schedule_replay.specs.Replayed.{withdraw_words}
-use Rattle.store_spec.specs.Session.{withdraw_text}
 use Rattle.step_core.specs.WithdrawCore.{reply_of}
 use Rattle.schedule_replay.proofs.machine.WithdrawCoreMachine.push_replies.Goals as goal
 

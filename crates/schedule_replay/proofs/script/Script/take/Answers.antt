@@ -1,21 +1,20 @@
 use Rattle.std.proofs.Common.{◌≡◌, List, ℕ, Option, Some, Result, Ok, refl, subst}
-use Rattle.std.proofs.lemmas.Bool.{both_ways}
+use Rattle.store_spec.proofs.Common.{Election, both_ways}
 use Rattle.schedule_replay.proofs.Takings.{refused_word}
-use Rattle.schedule_replay.specs.ReplayLine.{ReadsAs}
-use Rattle.schedule_replay.specs.Script.{Reads, TakesLine, TakesRead, line_at}
+use Rattle.schedule_replay.specs.ReplayLine.{ReadsAsReplay}
+use Rattle.schedule_replay.specs.Script.{ReadsLine, TakesLine, TakesRead, line_at}
 use Rattle.schedule_replay.specs.Script.TakesLine.{reads}
 use Rattle.schedule_replay.specs.declared.fault.Refusal.{Refusal}
 use Rattle.schedule_replay.specs.declared.line.Word.{Word}
 use Rattle.schedule_replay.specs.declared.script.Script.{Script}
-use Rattle.store_spec.specs.Election.{Election}
 use Rattle.schedule_replay.proofs.script.Script.take.Goals as goal
 
 -- a line was read as one of a word, and what becomes of that
-taken_as : (result : Result (Unit {0}) Refusal) (e : Election) (line numbers given : List ℕ) (read : Option Word) (found word : Word) (old new : Script) → Reads (Ok read) line numbers → read ≡ Some found → found ≡ word → given ≡ numbers
+taken_as : (result : Result (Unit {0}) Refusal) (e : Election) (line numbers given : List ℕ) (read : Option Word) (found word : Word) (old new : Script) → ReadsLine (Ok read) line numbers → read ≡ Some found → found ≡ word → given ≡ numbers
     → TakesRead result e (line_at word given) old new → TakesLine result e line old new
 taken_as result e line numbers given read found word old new was some is same takes =
-    let found_so = subst (λ (o : Option Word). Reads (Ok o) line numbers) some was in
-    reads (line_at word numbers) (subst (λ w. ReadsAs line (line_at w numbers)) is found_so) (subst (λ (ns : List ℕ). TakesRead result e (line_at word ns) old new) same takes)
+    let found_so = subst (λ (o : Option Word). ReadsLine (Ok o) line numbers) some was in
+    reads (line_at word numbers) (subst (λ w. ReadsAsReplay line (line_at w numbers)) is found_so) (subst (λ (ns : List ℕ). TakesRead result e (line_at word ns) old new) same takes)
 
 pub returns-then-not-allows : goal.returns-then-not-allows
 returns-then-not-allows c =

@@ -1,5 +1,5 @@
 use Rattle.std.proofs.Common.{arith, refl}
-use Rattle.std.proofs.lemmas.Bool.{both_ways}
+use Rattle.store_spec.proofs.Common.{both_ways}
 use Rattle.schedule_replay.proofs.Takings.{refused_base, took_base}
 use Rattle.schedule_replay.proofs.script.Script.take_base.Goals as goal
 use Rattle.schedule_replay.proofs.script.Script.take_base.Goals.{then-numbers-limit-via-then-numbers-limit, then-numbers-limit-via-else-numbers-limit+in_ok-are_distinct+then-not-branch}

@@ -1,5 +1,5 @@
 use Rattle.std.proofs.Common.{◌≡◌, ◌≤◌, ℕ, All, arith, length, subst, sym, refl}
-use Rattle.std.proofs.lemmas.Bool.{both_ways}
+use Rattle.store_spec.proofs.Common.{both_ways}
 use Rattle.schedule_replay.proofs.Takings.{refused_turns, took_turns}
 use Rattle.schedule_replay.proofs.script.Script.take_turns.Goals as goal
 

@@ -1,11 +1,10 @@
 use Rattle.std.proofs.Common.{◌*◌, ◌≤◌, replicate, take, ap, sym, ◌∙◌, arith}
+use Rattle.store_spec.proofs.Common.{cell_bytes, take-replicate}
 use Rattle.std.proofs.Math.Nat.{mul-le-mul}
-use Rattle.std.proofs.lemmas.List.{take-replicate}
 use Rattle.body_store.proofs.Images.{cell_of_zero}
 use Rattle.script_commands.proofs.Gathered.{empty_cells}
 use Rattle.script_commands.specs.Ballots.{ballots_so_far, election_of}
 use Rattle.script_commands.specs.declared.build.image.TheConstants.{PIECE}
-use Rattle.store_spec.specs.Image.{cell_bytes}
 use Rattle.script_commands.proofs.build.image.next_cells.Goals as goal
 
 pub cell_with-requires-clause-empty : goal.cell_with-requires-clause-empty

@@ -1,14 +1,11 @@
 use Rattle.std.proofs.Common.{◌≡◌, ℕ, ◌+◌, List, ◌++◌, drop, take, ap, subst, ◌∙◌, arith}
+use Rattle.store_spec.proofs.Common.{Ballot, Election, cell_bytes, flat_map}
 use Rattle.std.proofs.lemmas.Result.{on_err_weaker}
-use Rattle.std.specs.List.{flat_map}
 use Rattle.ballot_record.proofs.CellFormat.{largest_cell_width}
 use Rattle.outside_io.proofs.Written.{gathered_written, on_failure, some_written}
 use Rattle.outside_io.specs.Stream.{TakesAll, TakesSome}
 use Rattle.script_commands.proofs.Gathered.{cells_gathered}
 use Rattle.script_commands.specs.Ballots.{ballots_so_far, election_of}
-use Rattle.store_spec.specs.Ballot.{Ballot}
-use Rattle.store_spec.specs.Election.{Election}
-use Rattle.store_spec.specs.Image.{cell_bytes}
 use Rattle.script_commands.proofs.build.image.put_cells.Goals as goal
 
 -- the bytes of the next cells were put, as the election of the ballots has them
@@ -20,8 +17,8 @@ cells_put own e ballots next gathered bytes more same put is =
 pub next_cells-count-requires-clause-narrow : goal.next_cells-count-requires-clause-narrow
 next_cells-count-requires-clause-narrow g c = omega (arith, c.cell_bytes-size.ensures.at_most, largest_cell_width)
 
-pub returns-in_err-tell-clause-some : goal.returns-in_err-tell-clause-some
-returns-in_err-tell-clause-some g c =
+pub returns-in_err-write_out-clause-some : goal.returns-in_err-write_out-clause-some
+returns-in_err-write_out-clause-some g c =
     let e = c.args.election.now in
     let ballots = ballots_so_far c.args.ballots.now in
     let cells = c.args.cells.now in
@@ -29,7 +26,7 @@ returns-in_err-tell-clause-some g c =
     let l = c.cells in
     let taken = g.K.Sink.taken in
     let before = taken c.args.out.now in
-    let after = taken c.tell.new.out in
+    let after = taken c.write_out.new.out in
     let page = c.put.new.page.items in
     let whole = c.args.page.items ++ flat_map (cell_bytes e ballots) cells in
     let gathered = cells_gathered (cell_bytes e ballots) cells l.at count before (taken l.out) l.page.items page whole l.invariant.written
@@ -37,7 +34,7 @@ returns-in_err-tell-clause-some g c =
     c.requires.sound.election c.put.ensures.put c.next_cells-count.ensures.bytes) in
     on_failure c.from_residual.result (TakesSome before whole after)
     (some_written before (taken l.out) after page (flat_map (cell_bytes e ballots) (drop (l.at + count) cells)) whole gathered
-    (subst (λ (bytes : List ℕ). TakesSome (taken l.out) bytes after) c.deref.ensures.value c.in_err-tell.ensures.some))
+    (subst (λ (bytes : List ℕ). TakesSome (taken l.out) bytes after) c.deref.ensures.value c.in_err-write_out.ensures.some))
 
 pub cells-preserved-then-len-gt-FULL : goal.cells-preserved-then-len-gt-FULL
 cells-preserved-then-len-gt-FULL g c =
@@ -48,7 +45,7 @@ cells-preserved-then-len-gt-FULL g c =
     let l = c.cells in
     let taken = g.K.Sink.taken in
     let before = taken c.args.out.now in
-    let after = taken c.tell.new.out in
+    let after = taken c.write_out.new.out in
     let page = c.put.new.page.items in
     let whole = c.args.page.items ++ flat_map (cell_bytes e ballots) cells in
     let gathered = cells_gathered (cell_bytes e ballots) cells l.at count before (taken l.out) l.page.items page whole l.invariant.written
@@ -57,9 +54,9 @@ cells-preserved-then-len-gt-FULL g c =
     record {
       within = c.next_cells-count.ensures.within;
       written = gathered_written before (taken l.out) after page c.clear.new.self.items (flat_map (cell_bytes e ballots) (drop (l.at + count) cells)) whole gathered
-          (subst (λ (bytes : List ℕ). TakesAll (taken l.out) bytes after) c.deref.ensures.value c.in_ok-tell.ensures.all)
+          (subst (λ (bytes : List ℕ). TakesAll (taken l.out) bytes after) c.deref.ensures.value c.in_ok-write_out.ensures.all)
           c.clear.ensures.items;
-      steady = c.in_ok-tell.ensures.fault.steady ∙ l.invariant.steady;
+      steady = c.in_ok-write_out.ensures.fault.steady ∙ l.invariant.steady;
       short = omega (arith, c.clear.ensures.len);
       room = omega (arith, c.clear.ensures.capacity, c.put.ensures.capacity, l.invariant.room);
     }
@@ -90,10 +87,10 @@ returns-clause-some g c =
     let ballots = ballots_so_far c.args.ballots.now in
     let l = c.cells in
     let taken = g.K.Sink.taken in
-    let after = taken c.tell-2.new.out in
+    let after = taken c.write_out-2.new.out in
     let f = cell_bytes e ballots in
-    on_err_weaker c.tell-2.result
+    on_err_weaker c.write_out-2.result
     (λ some. some_written (taken c.args.out.now) (taken l.out) after l.page.items (flat_map f (drop l.at c.args.cells.now))
     (c.args.page.items ++ flat_map f c.args.cells.now) l.invariant.written
     (subst (λ (bytes : List ℕ). TakesSome (taken l.out) bytes after) c.deref-2.ensures.value some))
-    c.tell-2.ensures.some
+    c.write_out-2.ensures.some

@@ -1,9 +1,8 @@
 use Rattle.std.proofs.Common.{◌≡◌, ◌+◌, ◌-◌, ◌≤◌, ◌++◌, drop, length, vec_capacity, vec_len}
-use Rattle.std.specs.List.{flat_map}
+use Rattle.store_spec.proofs.Common.{cell_bytes, flat_map}
 use Rattle.outside_io.proofs.Written.{IsWritten}
 use Rattle.script_commands.specs.Ballots.{ballots_so_far}
 use Rattle.script_commands.specs.declared.build.image.TheConstants.{FULL, PIECE}
-use Rattle.store_spec.specs.Image.{cell_bytes}
 use Rattle.script_commands.proofs.build.image.put_cells.Given as goal
 
 -- the page and the first cells are written or gathered

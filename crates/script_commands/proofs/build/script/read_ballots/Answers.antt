@@ -1,4 +1,5 @@
 use Rattle.std.proofs.Common.{◌+◌, Err, List, [], ◌∷◌, ◌++◌, length, Some, None, ap, subst, sym, refl, ◌∙◌, arith, length-append}
+use Rattle.store_spec.proofs.Common.{Ballot, IsRefused, Malformed, Spells}
 use Rattle.ballot_record.specs.LineWhy.{reason}
 use Rattle.script_commands.specs.Ballots.{ballots_so_far, Judges}
 use Rattle.script_commands.specs.Build.{HasBadLine}
@@ -6,10 +7,6 @@ use Rattle.script_commands.specs.declared.build.ballots.Refusal.{Refusal}
 use Rattle.script_commands.proofs.Reading.{AreSpelled, AreSpelledBut, spelled_more, told_all, told_bad, told_fault, told_too_much, refused_whole, refused_wide}
 use Rattle.outside_io.proofs.Reading.{few_given, read_nothing, read_whole, read_wide, read_first, read_out, read_too_much, read_fault}
 use Rattle.outside_io.specs.Told.{AsTold}
-use Rattle.store_spec.specs.Ballot.{Ballot}
-use Rattle.store_spec.specs.BallotLine.{Spells}
-use Rattle.store_spec.specs.Build.{IsRefused}
-use Rattle.store_spec.specs.Build.Reason.{Malformed}
 use Rattle.script_commands.proofs.build.script.read_ballots.Goals as goal
 
 pub lines-init : goal.lines-init

@@ -1,9 +1,8 @@
 use Rattle.std.proofs.Common.{◌+◌, ◌-◌, drop, take, ap, ◌∙◌, arith}
-use Rattle.std.proofs.lemmas.List.{length-take-le}
+use Rattle.store_spec.proofs.Common.{length-take-le, lines_text}
 use Rattle.script_lines.proofs.Left.{copied_on}
 use Rattle.script_lines.proofs.generated_script.GeneratedScript.give.Goals as goal
 use Rattle.script_lines.specs.Generated.{generated}
-use Rattle.store_spec.specs.Report.{lines_text}
 
 pub returns-clause-gives : goal.returns-clause-gives
 returns-clause-gives c =

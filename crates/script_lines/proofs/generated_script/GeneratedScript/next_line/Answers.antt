@@ -1,10 +1,8 @@
 use Rattle.std.proofs.Common.{◌≡◌, ◌+◌, ◌-◌, ◌++◌, length, drop, ap, ◌∙◌, arith}
-use Rattle.std.proofs.lemmas.List.{take_at}
-use Rattle.std.specs.Vec.{with_items}
+use Rattle.store_spec.proofs.Common.{lines_text, take_at, with_items}
 use Rattle.script_lines.proofs.Left.{few_lines, line_ready, nothing_left}
 use Rattle.script_lines.proofs.generated_script.GeneratedScript.next_line.Goals as goal
 use Rattle.script_lines.specs.Generated.{generated}
-use Rattle.store_spec.specs.Report.{lines_text}
 
 pub invariant_of-self-clause-few : goal.invariant_of-self-clause-few
 invariant_of-self-clause-few c = let s = c.args.self.now in omega (arith, few_lines s.election s.seed s.count s.tabs (s.index + 1 - 1) c.in-Some.ensures.some)

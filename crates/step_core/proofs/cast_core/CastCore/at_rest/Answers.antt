@@ -1,5 +1,5 @@
 use Rattle.std.proofs.Common.{◌≡◌, ◌↔◌, List, true, subst}
-use Rattle.std.specs.List.{All}
+use Rattle.store_spec.proofs.Common.{All}
 use Rattle.step_core.proofs.CastingEnds.{ends}
 use Rattle.step_core.proofs.CastingLists.{all_answered}
 use Rattle.step_core.proofs.CoreKept.{done_seen}

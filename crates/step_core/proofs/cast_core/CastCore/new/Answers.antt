@@ -1,8 +1,5 @@
 use Rattle.std.proofs.Common.{◌≡◌, ◌≢◌, ◌-◌, ◌^◌, ℕ, List, length, map, sym, ap, ◌∙◌, subst, arith}
-use Rattle.std.proofs.lemmas.List.Elements.{All-map}
-use Rattle.std.proofs.lemmas.List.Sorted.{IsNonDecreasingBy-from_sort}
-use Rattle.std.specs.List.{All}
-use Rattle.std.specs.List.Sorted.{IsNonDecreasing, IsPermutation}
+use Rattle.store_spec.proofs.Common.{All, All-map, IsNonDecreasing, IsNonDecreasingBy-from_sort, IsPermutation, ascending}
 use Rattle.step_core.proofs.CastingEnds.{opened_is}
 use Rattle.step_core.proofs.CastingLists.{opened_lists}
 use Rattle.step_core.proofs.CoreOpened.{few_words, opened_by, resized_is, sorted_is}
@@ -11,7 +8,6 @@ use Rattle.step_core.proofs.cast_core.CastCore.new.Goals.{After-deref, In_ok-tab
 use Rattle.step_core.specs.Casting.{MayOpen, lists_in, opened_tabs}
 use Rattle.step_core.specs.CastingInvariant.{IsCasting}
 use Rattle.layout_def.proofs.Ascending.{length-ascending}
-use Rattle.store_spec.specs.Layout.{ascending}
 
 in_order : (c : After-deref) → IsNonDecreasing c.sort_unstable.new.self.items
 in_order c = IsNonDecreasingBy-from_sort (λ x. x) _ c.sort_unstable.ensures.sorted

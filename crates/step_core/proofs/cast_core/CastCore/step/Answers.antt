@@ -1,7 +1,6 @@
 use Rattle.std.proofs.Common.{◌≡◌, ℕ, List, length, refl, sym, ap, subst, arith}
-use Rattle.std.proofs.lemmas.List.{length-map, with_items_is}
+use Rattle.store_spec.proofs.Common.{length-map, with_items, with_items_is}
 use Rattle.step_core.proofs.CoreKept.{IsStepped, alone_seen, asks, falls_seen, invariant_seen, kept_seen, lists_seen, row_seen}
-use Rattle.std.specs.Vec.{with_items}
 use Rattle.step_core.proofs.cast_core.CastCore.step.Goals as goal
 use Rattle.step_core.proofs.cast_core.CastCore.step.Goals.{After-make_step}
 use Rattle.step_core.specs.CastCore.{MayStep, tab_of}

@@ -1,6 +1,6 @@
 use Rattle.step_core.proofs.CastAtRest.{accepted_once, cells_and_hands, same-back, same-contains, stands_once}
-use Rattle.store_spec.specs.CastInvariant.{accepted_of, hands_of}
 use Rattle.std.proofs.Common.{◌++◌, take}
+use Rattle.store_spec.proofs.Common.{accepted_of, hands_of}
 use Rattle.step_core.proofs.laws.cast.each_number_stands_once.Goals as goal
 
 pub returns : goal.returns

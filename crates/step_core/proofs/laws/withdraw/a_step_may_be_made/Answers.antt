@@ -1,8 +1,6 @@
 use Rattle.std.proofs.Common.{refl, get_or}
+use Rattle.store_spec.proofs.Common.{cell_words, withdraw_act, word_of}
 use Rattle.step_core.proofs.WithdrawReady.{may_find, row_falls, sound_of, within_cells}
-use Rattle.store_spec.specs.Act.{word_of}
-use Rattle.store_spec.specs.WithdrawInvariant.{cell_words}
-use Rattle.store_spec.specs.WithdrawStep.{withdraw_act}
 use Rattle.step_core.proofs.laws.withdraw.a_step_may_be_made.Goals as goal
 
 pub returns-clause-fits : goal.returns-clause-fits

@@ -1,8 +1,6 @@
 use Rattle.step_core.proofs.WithdrawRows.{keeps_row}
 use Rattle.step_core.proofs.laws.withdraw.began.Goals as goal
-use Rattle.store_spec.specs.WithdrawStep.WithdrawNote.{Begun}
-use Rattle.store_spec.specs.WithdrawStep.WithdrawState.{Chosen, Owing}
-use Rattle.store_spec.specs.WithdrawStep.WithdrawRow.{began}
+use Rattle.store_spec.proofs.Common.{Begun, Chosen, Owing, began}
 
 pub returns : goal.returns
 returns c = λ home base x place word stops. keeps_row home base (Chosen x place) place word word (Owing x place) Begun (began stops)

@@ -1,9 +1,7 @@
 use Rattle.std.proofs.Common.{◌+◌}
+use Rattle.store_spec.proofs.Common.{Down, Quiet, found_lower_candidate}
 use Rattle.step_core.proofs.WithdrawRows.{keeps_row}
 use Rattle.step_core.proofs.laws.withdraw.found_lower_candidate.Goals as goal
-use Rattle.store_spec.specs.WithdrawStep.WithdrawNote.{Quiet}
-use Rattle.store_spec.specs.WithdrawStep.WithdrawState.{Down}
-use Rattle.store_spec.specs.WithdrawStep.WithdrawRow.{found_lower_candidate}
 
 pub returns : goal.returns
 returns c = λ home base x bound place c source word above fits. keeps_row home base (Down x bound (place + 1) c source) (place + 1) word word (Down x bound place word (place + 1)) Quiet (found_lower_candidate above fits)

@@ -1,5 +1,5 @@
 use Rattle.std.proofs.Common.{◌↔◌, IsTrue, List, subst}
-use Rattle.std.specs.List.{All}
+use Rattle.store_spec.proofs.Common.{All}
 use Rattle.step_core.proofs.WithdrawCoreEnds.{all_done, has_ended}
 use Rattle.step_core.proofs.WithdrawingLists.{all_answered}
 use Rattle.step_core.proofs.withdraw_core.WithdrawCore.at_rest.Goals as goal

@@ -1,7 +1,5 @@
 use Rattle.std.proofs.Common.{◌<◌, List, ℕ, length, sym, subst, ◌∙◌}
-use Rattle.std.proofs.lemmas.Bool.{iff_false}
-use Rattle.std.proofs.lemmas.List.{with_items_is}
-use Rattle.std.proofs.lemmas.List.Elements.{All-set}
+use Rattle.store_spec.proofs.Common.{All-set, iff_false, with_items_is}
 use Rattle.step_core.proofs.WithdrawCoreEnds.{core_alone}
 use Rattle.step_core.proofs.WithdrawingLists.{steps_list}
 use Rattle.step_core.proofs.WithdrawCoreSteps.{core_done_from, core_step_to, may_step, tab_within}
@@ -12,7 +10,7 @@ use Rattle.step_core.specs.WithdrawingInvariant.{IsWithdrawing}
 pub make_step-requires-clause-may_step : goal.make_step-requires-clause-may_step
 make_step-requires-clause-may_step c =
     let a = c.self.inside in
-    let numbers = a.seats.numbers.items in
+    let numbers = a.index.numbers.items in
     let lt : c.args.tab < length a.tabs.items = tab_within a c.args.self.now c.args.tab c.self.view_is c.requires in
     subst (λ (l : List ℕ). MayStep (base_of a.shape numbers) numbers l (tab_of c.index_mut.result.now)) (sym c.deref_mut.ensures.value)
     (may_step a.shape a.limit numbers a.words.items a.tabs.items c.args.tab c.index_mut.result.now c.self.invariant.cells lt (sym c.index_mut.ensures.value) c.self.invariant.phase)
@@ -27,7 +25,7 @@ invariant_of-self c =
       phase = s.keeps;
       cells = kept.cells;
       shape = kept.shape;
-      seats = kept.seats;
+      index = kept.index;
       room = All-set HasReplyRoom a.tabs.items c.args.tab c.make_step.new.tab c.make_step.ensures.kept kept.room;
     }
 

@@ -1,6 +1,5 @@
 use Rattle.std.proofs.Common.{◌≡◌, ◌^◌, false, ltb, refl, arith}
-use Rattle.std.proofs.lemmas.Grind.{common_steps}
-use Rattle.std.specs.Prelude.{count_ones}
+use Rattle.store_spec.proofs.Common.{common_steps, count_ones}
 use Rattle.tally_export.proofs.OneMark.{no_overvote, ones_of_one}
 use Rattle.tally_export.proofs.counts.Tally.count_mark.Goals as goal
 

@@ -1,5 +1,5 @@
 use Rattle.std.proofs.Common.{◌≡◌, ◌∙◌, false, ap, length, replicate, rules, sym, vec_len}
-use Rattle.std.proofs.lemmas.List.{length-map}
+use Rattle.store_spec.proofs.Common.{length-map}
 use Rattle.ballot_record.specs.Record.{ballot}
 use Rattle.body_store.specs.Contents.{ballots_of}
 use Rattle.ticket_sample.proofs.Flags.{none_set}

@@ -1,9 +1,8 @@
 use Rattle.std.proofs.Common.{◌∙◌, pos_of_ne-zero, subst}
+use Rattle.store_spec.proofs.Common.{Act, Probing, Rest}
 use Rattle.step_core.specs.CastTables.{LeadsTo, note_of, state_of}
 use Rattle.step_core.specs.Shape.{table_of}
 use Rattle.step_core.specs.declared.shape.Shape.{Shape}
-use Rattle.store_spec.specs.Act.{Act}
-use Rattle.store_spec.specs.CastStep.CastState.{Probing, Rest}
 use Rattle.word_rule.proofs.CastAnswers.{HasStepped, allows_first, has_stepped, may_begin, same_shape}
 use Rattle.word_rule.proofs.cast.CastWords.begin.Goals as goal
 use Rattle.word_rule.specs.CastSeats.{begins}

@@ -1,9 +1,8 @@
 use Rattle.std.proofs.Common.{◌≢◌, ℕ, sym, ap, ◌∙◌, subst}
+use Rattle.store_spec.proofs.Common.{Carrying, CastState, CastView, Probing, Rest, cast_view_after}
 use Rattle.crossbeam_utils.specs.Padded.{padded_value}
 use Rattle.step_core.specs.CastTables.{note_of, state_of}
 use Rattle.step_core.specs.Shape.{table_of}
-use Rattle.store_spec.specs.CastStep.{CastState, CastView, cast_view_after}
-use Rattle.store_spec.specs.CastStep.CastState.{Carrying, Probing, Rest}
 use Rattle.word_rule.proofs.CastAnswers.{rest_again}
 use Rattle.word_rule.proofs.CastProbes.{placed_so, refused_so, rests_after}
 use Rattle.word_rule.proofs.CastStates.{not_carrying}

@@ -1,10 +1,9 @@
 use Rattle.std.proofs.Common.{◌≡◌, ℕ, sym, ap, ◌∙◌, subst}
+use Rattle.store_spec.proofs.Common.{CastNote, CastState, CastView, Probing, Table, cast_number}
 use Rattle.atomic_table.specs.declared.shared.Seat.{Seat}
 use Rattle.step_core.specs.CastTables.{note_of, state_of}
 use Rattle.step_core.specs.Shape.{table_of}
-use Rattle.store_spec.specs.CastStep.{CastNote, CastState, CastView, Table, cast_number}
 use Rattle.store_spec.specs.CastStep.CastNote.{Quiet}
-use Rattle.store_spec.specs.CastStep.CastState.{Probing}
 use Rattle.word_rule.proofs.CastHands.{next_row}
 use Rattle.word_rule.proofs.CastProbes.{one_probe_more, own_number, told_again, was_quiet, was_told}
 use Rattle.word_rule.proofs.CastStates.{not_probing}

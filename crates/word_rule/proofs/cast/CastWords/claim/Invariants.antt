@@ -1,6 +1,6 @@
 use Rattle.step_core.specs.Shape.{table_of}
 use Rattle.store_spec.specs.CastStep.CastNote.{Quiet}
-use Rattle.store_spec.specs.CastStep.CastState.{Probing}
+use Rattle.store_spec.proofs.Common.{Probing}
 use Rattle.word_rule.proofs.CastProbes.{tries_left}
 use Rattle.word_rule.proofs.cast.CastWords.claim.Given as goal
 use Rattle.word_rule.specs.CastSeats.{CastsByRows, Probes}

@@ -1,10 +1,9 @@
 use Rattle.std.proofs.Common.{◌≡◌, ◌≢◌, ℕ, sym, ap, ◌∙◌, arith}
+use Rattle.store_spec.proofs.Common.{Carrying, Ready, Rest, cast_number}
 use Rattle.step_core.specs.CastTables.{note_of, state_of}
 use Rattle.step_core.specs.Shape.{table_of}
 use Rattle.step_core.specs.declared.cast.CastState.{CastState}
-use Rattle.store_spec.specs.CastStep.{cast_number}
 use Rattle.store_spec.specs.CastStep as definition
-use Rattle.store_spec.specs.CastStep.CastState.{Carrying, Ready, Rest}
 use Rattle.word_rule.proofs.CastHands.{HasMoved, has_moved, held_first}
 use Rattle.word_rule.proofs.cast.CastWords.place.Goals as goal
 use Rattle.word_rule.specs.Chain.Rows.{no_row}

@@ -1,8 +1,7 @@
 use Rattle.std.proofs.Common.{◌≡◌, ◌≢◌, ℕ, ◌≤◌}
+use Rattle.store_spec.proofs.Common.{Ready, cast_number}
 use Rattle.step_core.specs.CastTables.{state_of}
 use Rattle.step_core.specs.Shape.{table_of}
-use Rattle.store_spec.specs.CastStep.{cast_number}
-use Rattle.store_spec.specs.CastStep.CastState.{Ready}
 use Rattle.word_rule.proofs.CastHands.{IsHeld, work_left}
 use Rattle.word_rule.proofs.cast.CastWords.place.Given as goal
 use Rattle.word_rule.specs.CastSeats.{MakesNextRow}

@@ -1,10 +1,8 @@
 use Rattle.std.proofs.Common.{◌≢◌, ap, sym, ◌∙◌, subst}
+use Rattle.store_spec.proofs.Common.{CastState, Rest, cast_act, numbers_in}
 use Rattle.step_core.specs.CastTables.{LeadsTo, note_of, state_of}
 use Rattle.step_core.specs.Shape.{table_of}
 use Rattle.step_core.specs.declared.shape.Shape.{Shape}
-use Rattle.store_spec.specs.CastStep.{CastState, cast_act}
-use Rattle.store_spec.specs.CastStep.CastState.{Rest}
-use Rattle.store_spec.specs.Layout.{numbers_in}
 use Rattle.word_rule.proofs.CastAnswers.{HasStepped, allows_act, has_stepped, same_shape}
 use Rattle.word_rule.proofs.CastKept.{goes_on_from}
 use Rattle.word_rule.proofs.cast.CastWords.step.Goals as goal

@@ -1,8 +1,8 @@
 use Rattle.std.proofs.Common.{◌≡◌, ◌+◌, refl, ap, subst}
+use Rattle.store_spec.proofs.Common.{FirstRow}
 use Rattle.step_core.specs.Shape.{homes_of}
 use Rattle.step_core.specs.WithdrawTables.{note_of, state_of}
 use Rattle.step_core.specs.declared.shape.Shape.{Shape}
-use Rattle.store_spec.specs.WithdrawStep.{FirstRow}
 use Rattle.store_spec.specs.WithdrawStep.WithdrawState.{Rest}
 use Rattle.word_rule.proofs.WithdrawAnswers.{HasBegun, allows_first, has_begun, stored_shape}
 use Rattle.word_rule.proofs.withdraw.WithdrawWords.begin.Goals as goal

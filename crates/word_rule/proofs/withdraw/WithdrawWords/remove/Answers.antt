@@ -1,7 +1,7 @@
 use Rattle.std.proofs.Common.{ap, subst, arith}
+use Rattle.store_spec.proofs.Common.{WithdrawState, withdraw_number}
 use Rattle.step_core.specs.Shape.{homes_of}
 use Rattle.step_core.specs.WithdrawTables.{note_of, state_of}
-use Rattle.store_spec.specs.WithdrawStep.{WithdrawState, withdraw_number}
 use Rattle.word_rule.proofs.WithdrawWay.{Follows, HasMoved, has_chosen, has_moved}
 use Rattle.word_rule.proofs.withdraw.WithdrawWords.remove.Goals as goal
 use Rattle.word_rule.specs.Chain.Rows.{no_row}

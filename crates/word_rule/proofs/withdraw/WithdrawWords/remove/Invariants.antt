@@ -1,7 +1,7 @@
 use Rattle.std.proofs.Common.{◌≤◌}
+use Rattle.store_spec.proofs.Common.{withdraw_number}
 use Rattle.step_core.specs.Shape.{homes_of}
 use Rattle.step_core.specs.WithdrawTables.{state_of}
-use Rattle.store_spec.specs.WithdrawStep.{withdraw_number}
 use Rattle.word_rule.proofs.WithdrawWay.{IsUnderWay, Owes, Rises, Sinks, Walks}
 use Rattle.word_rule.proofs.WithdrawWork.{work_left}
 use Rattle.word_rule.proofs.withdraw.WithdrawWords.remove.Given as goal

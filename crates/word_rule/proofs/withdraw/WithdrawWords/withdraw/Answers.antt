@@ -1,12 +1,10 @@
 use Rattle.std.proofs.Common.{◌≢◌, ℕ, refl, subst, sym, ◌∙◌}
+use Rattle.store_spec.proofs.Common.{Chosen, FirstRow, WithdrawNote, WithdrawView, chose, found_gone, withdraw_view_after}
 use Rattle.step_core.specs.Shape.{homes_of}
 use Rattle.step_core.specs.WithdrawTables.{note_of, state_of}
 use Rattle.step_core.specs.declared.withdraw.WithdrawState.{WithdrawState}
 use Rattle.step_core.specs.declared.withdraw.WithdrawState.TheVariants as states
 use Rattle.store_spec.specs.WithdrawStep as definition
-use Rattle.store_spec.specs.WithdrawStep.{FirstRow, WithdrawNote, WithdrawView, withdraw_view_after}
-use Rattle.store_spec.specs.WithdrawStep.FirstRow.{chose, found_gone}
-use Rattle.store_spec.specs.WithdrawStep.WithdrawState.{Chosen}
 use Rattle.word_rule.proofs.Chains.{begun, led_on}
 use Rattle.word_rule.proofs.withdraw.WithdrawWords.withdraw.Goals as goal
 use Rattle.word_rule.specs.Places.{Place}

@@ -7,11 +7,11 @@ use Rattle.word_rule.specs.Places.{AreWhole, words_seen}
 use Rattle.word_rule.specs.Seats.{SharedWords}
 
 pub join_seats-whole-requires-clause-whole : goal.join_seats-whole-requires-clause-whole
-join_seats-whole-requires-clause-whole g c = subst (λ w. AreWhole g.Q.Phase.rests w c.args.seats.items) (sym c.self.view_is) c.requires
+join_seats-whole-requires-clause-whole g c = subst (λ w. AreWhole g.Q.PhaseRule.rests w c.args.seats.items) (sym c.self.view_is) c.requires
 
-closed : (g : given.Over) (c : After-close_table g) → (c.close_table.new.cells.items ≡ g.Q.Phase.cells_after c.args.self c.args.seats.items) × g.Q.Phase.agree_on c.args.self c.args.seats.items
+closed : (g : given.Over) (c : After-close_table g) → (c.close_table.new.cells.items ≡ g.Q.PhaseRule.cells_after c.args.self c.args.seats.items) × g.Q.PhaseRule.agree_on c.args.self c.args.seats.items
 closed g c =
-    let q = g.Q.Phase in
+    let q = g.Q.PhaseRule in
     let seats = c.args.seats.items in
     let cells = c.close_table.new.cells.items in
     let shared = c.self.inside.table.shared in

@@ -1,53 +1,32 @@
-use Rattle.std.proofs.Common.{arith, ◌≡◌, ◌++◌, ℕ, List, [], ◌∷◌, replicate, take, sym, ap, ◌∙◌, subst}
-use Rattle.word_rule.proofs.Opened.{base_is, first_seated, kept_laid, laid_size}
+use Rattle.std.proofs.Common.{◌++◌, replicate, sym, ap, ◌∙◌, subst}
+use Rattle.std.specs.Result.{IfOk}
+use Rattle.word_rule.proofs.Opened.{base_is}
 use Rattle.word_rule.proofs.words.WordsOf.new.Goals as goal
-use Rattle.word_rule.specs.Seats.{base_of}
-use Rattle.word_rule.specs.declared.seats.Opening.{Opening}
+use Rattle.word_rule.specs.Places.{AreMadeOf}
 
-pub of_words-requires : goal.of_words-requires
-of_words-requires g c =
-    let q = g.Q.Phase in
+pub of_words-requires-clause-may_open : goal.of_words-requires-clause-may_open
+of_words-requires-clause-may_open g c =
+    let q = g.Q.PhaseRule in
     let shape = c.args.shape in
     let cells = c.args.cells.now in
-    let words = c.deref.result.now in
-    let laid = c.deref.ensures.value ∙ c.in_ok-words.ensures ∙ ap (λ n. cells ++ replicate n 0) c.words_behind.ensures in
-    let kept = kept_laid q.holds q.fresh (q.behind shape) shape cells words (c.laws.ensures.opens shape cells c.requires.may_open) laid in
-    let stored : words ≡ c.of.result.value.items = c.deref.ensures.value ∙ ap (λ v. v.items) (sym c.of.ensures) in
-    first_seated q.fresh (record { shape = shape; seats = c.args.seats; words = c.of.result }) q.holds words
-    (subst (λ (l : List ℕ). q.holds shape (take shape.cells l) words (q.fresh ∷ [])) stored kept)
+    let laid = c.in_ok-words.ensures ∙ ap (λ n. cells ++ replicate n 0) c.words_behind.ensures in
+    let base = base_is q.holds q.fresh (q.behind shape) shape cells c.in_ok-words.words.items (c.laws.ensures.opens shape cells c.requires.may_open) laid in
+    subst (q.may_open shape) (sym base) c.requires.may_open
 
-pub invariant_of-result : goal.invariant_of-result
-invariant_of-result g c =
-    let q = g.Q.Phase in
+pub of_words-requires-clause-zeros : goal.of_words-requires-clause-zeros
+of_words-requires-clause-zeros g c =
+    let q = g.Q.PhaseRule in
     let shape = c.args.shape in
     let cells = c.args.cells.now in
-    let words = c.deref.result.now in
-    let opens = c.laws.ensures.opens shape cells c.requires.may_open in
-    let laid = c.deref.ensures.value ∙ c.in_ok-words.ensures ∙ ap (λ n. cells ++ replicate n 0) c.words_behind.ensures in
-    let base = ap (λ v. take shape.cells v.items) c.of.ensures ∙ ap (take shape.cells) (sym c.deref.ensures.value) ∙ base_is q.holds q.fresh (q.behind shape) shape cells words opens laid in
-    let made = c.in_ok-table.ensures in
-    record {
-      shape_is = ap (λ k. k.shape) (sym made.5);
-      opened = subst (λ (k : Opening). q.may_open k.shape (base_of k)) (sym made.5) (subst (q.may_open shape) (sym base) c.requires.may_open);
-      count = made.0 ∙ laid_size q.holds q.fresh (q.behind shape) shape cells words opens laid;
-      no_slots = made.1;
-      some = opens.some;
-      small = opens.small;
-      some_seat = omega (arith, ap (λ k. k.seats) made.5, c.requires.some_seat);
-    }
+    let laid = c.in_ok-words.ensures ∙ ap (λ n. cells ++ replicate n 0) c.words_behind.ensures in
+    let base = base_is q.holds q.fresh (q.behind shape) shape cells c.in_ok-words.words.items (c.laws.ensures.opens shape cells c.requires.may_open) laid in
+    laid ∙ ap (λ cells. cells ++ replicate (q.behind shape) 0) (sym base)
 
 pub returns-clause-words : goal.returns-clause-words
 returns-clause-words g c =
-    let q = g.Q.Phase in
+    let q = g.Q.PhaseRule in
     let shape = c.args.shape in
     let cells = c.args.cells.now in
-    let words = c.deref.result.now in
-    let opens = c.laws.ensures.opens shape cells c.requires.may_open in
-    let laid = c.deref.ensures.value ∙ c.in_ok-words.ensures ∙ ap (λ n. cells ++ replicate n 0) c.words_behind.ensures in
-    let base = ap (λ v. take shape.cells v.items) c.of.ensures ∙ ap (take shape.cells) (sym c.deref.ensures.value) ∙ base_is q.holds q.fresh (q.behind shape) shape cells words opens laid in
-    let key = c.in_ok-table.ensures.5 in
-    record {
-      shape_is = ap (λ k. k.shape) key;
-      base_is = ap base_of key ∙ base;
-      seats_are = ap (λ k. k.seats) key;
-    }
+    let laid = c.in_ok-words.ensures ∙ ap (λ n. cells ++ replicate n 0) c.words_behind.ensures in
+    let base = base_is q.holds q.fresh (q.behind shape) shape cells c.in_ok-words.words.items (c.laws.ensures.opens shape cells c.requires.may_open) laid in
+    subst (λ cells. IfOk c.of_words.result (λ made. AreMadeOf shape cells c.args.seats made.0)) base c.of_words.ensures.words

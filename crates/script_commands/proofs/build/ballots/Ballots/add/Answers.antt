@@ -1,11 +1,9 @@
 use Rattle.std.proofs.Common.{◌≡◌, ◌≢◌, ◌<◌, ◌++◌, [], ◌∷◌, length, Some, ap, sym, subst, ◌∙◌, arith, rules, length-append}
-use Rattle.std.proofs.lemmas.List.{map_push, length-map}
-use Rattle.std.proofs.lemmas.Option.{get_or_from_slice_get, slice_get_within}
+use Rattle.store_spec.proofs.Common.{Ballot, IsListing, get_or_from_slice_get, length-map, map_push, numbers_of, slice_get_within}
 use Rattle.ballot_record.proofs.BallotLists.{number_at_place}
 use Rattle.ballot_record.specs.BallotList.{ListedBallots, with_more}
 use Rattle.ballot_record.specs.declared.record.Record.{Record}
 use Rattle.ballot_record.specs.Record.{ballot}
-use Rattle.store_spec.specs.Ballot.{Ballot, IsListing, numbers_of}
 use Rattle.script_commands.specs.Index.{IsIndexOf}
 use Rattle.script_commands.proofs.Index.{ballot_missing, listing_grown, stands}
 use Rattle.script_commands.proofs.build.ballots.Ballots.add.Goals as goal

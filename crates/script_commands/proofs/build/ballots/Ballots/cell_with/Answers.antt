@@ -1,15 +1,10 @@
 use Rattle.std.proofs.Common.{◌≡◌, ℕ, List, Some, sym, ◌∙◌, arith}
-use Rattle.std.proofs.lemmas.List.{length-map}
-use Rattle.std.proofs.lemmas.Option.{get_or_from_slice_get, slice_get_within}
-use Rattle.std.specs.Prelude.{slice_get}
+use Rattle.store_spec.proofs.Common.{Ballot, Election, IsCellOf, IsListing, cell_bytes, get_or_from_slice_get, length-map, numbers_of, slice_get, slice_get_within}
 use Rattle.ballot_record.proofs.BallotLists.{number_at_place}
 use Rattle.ballot_record.proofs.Lookups.{found_once}
 use Rattle.body_store.proofs.Images.{cell_of_found, cell_of_none}
 use Rattle.body_store.proofs.Lookups.{none_found}
 use Rattle.script_commands.proofs.Index.{stands}
-use Rattle.store_spec.specs.Ballot.{Ballot, IsListing, numbers_of}
-use Rattle.store_spec.specs.Election.{Election}
-use Rattle.store_spec.specs.Image.{IsCellOf, cell_bytes}
 use Rattle.script_commands.proofs.build.ballots.Ballots.cell_with.Goals as goal
 
 -- what was found has the bytes of its number's cell

@@ -1,13 +1,10 @@
 use Rattle.std.proofs.Common.{◌≡◌, ◌≢◌, ◌+◌, ◌-◌, ◌<◌, ◌≤◌, Some, length, ap, sym, ◌∙◌, arith}
-use Rattle.std.proofs.lemmas.List.{get_or_read, length-map}
-use Rattle.std.proofs.lemmas.Option.{get_or_from_slice_get, slice_get-get_or}
+use Rattle.store_spec.proofs.Common.{Ballot, get_or_from_slice_get, length-map, nat_cmp, numbers_of, slice_get, slice_get-get_or, slice_index}
+use Rattle.std.proofs.lemmas.List.{get_or_read}
 use Rattle.std.specs.BTreeMap.{get}
-use Rattle.std.specs.Ordering.{nat_cmp}
-use Rattle.std.specs.Prelude.{slice_get, slice_index}
 use Rattle.script_commands.specs.Index.{slot_of}
 use Rattle.script_commands.proofs.Slots.{HasPassed, absent_among, absent_at, passed_more, passed_taken}
 use Rattle.script_commands.proofs.build.index.Index.look.Goals as goal
-use Rattle.store_spec.specs.Ballot.{Ballot, numbers_of}
 
 pub loop-at-init : goal.loop-at-init
 loop-at-init c = λ at from below. absurd (omega (arith, from, below, c.slot_of-home.ensures.slot))

@@ -1,5 +1,5 @@
 use Rattle.script_commands.proofs.Slots.{HasPassed}
-use Rattle.store_spec.specs.Ballot.{numbers_of}
+use Rattle.store_spec.proofs.Common.{numbers_of}
 use Rattle.script_commands.proofs.build.index.Index.look.Given as goal
 
 -- each slot that was passed has another number

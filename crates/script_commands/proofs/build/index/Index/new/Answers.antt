@@ -1,7 +1,7 @@
 use Rattle.std.proofs.Common.{◌∙◌, ap, sym, arith}
+use Rattle.store_spec.proofs.Common.{nat_cmp}
 use Rattle.std.specs.BTreeMap.{is_at}
 use Rattle.std.specs.Map.{lookup}
-use Rattle.std.specs.Ordering.{nat_cmp}
 use Rattle.script_commands.proofs.Slots.{all_free}
 use Rattle.script_commands.proofs.build.index.Index.new.Goals as goal
 

@@ -1,15 +1,12 @@
 use Rattle.std.proofs.Common.{[], ◌∷◌, ◌++◌, ◌≡◌, ℕ, ◌+◌, ◌<◌, cond, Some, subst, sym, ◌∙◌, arith, length-append}
+use Rattle.store_spec.proofs.Common.{Ballot, is_eq, length, length-map, nat_cmp, numbers_of}
 use Rattle.std.proofs.Math.ListN.{length-set}
-use Rattle.std.proofs.lemmas.List.{length-map}
 use Rattle.std.specs.BTreeMap.{get}
-use Rattle.std.specs.Ordering.{is_eq, nat_cmp}
-use Rattle.std.specs.Prelude.{length}
 use Rattle.std.specs.Vec.{with_item}
 use Rattle.script_commands.specs.Index.{IsIndexOf, IsPlaceOf}
 use Rattle.script_commands.specs.declared.build.index.Place.{Place}
 use Rattle.script_commands.proofs.Slots.{noted_among, noted_in, others_grown, others_stay, places_grown, slot_below}
 use Rattle.script_commands.proofs.build.index.Index.note.Goals as goal
-use Rattle.store_spec.specs.Ballot.{Ballot, numbers_of}
 
 pub index_mut-requires : goal.index_mut-requires
 index_mut-requires c =

@@ -1,6 +1,0 @@
-use Rattle.step_core.proofs.SeatPlaces.{all_found}
-use Rattle.step_core.proofs.seats.find_places.Goals as goal
-
-pub returns : goal.returns
-returns c =
-    all_found c.args.cells.now c.args.numbers.now c.loop-place.places c.loop-place.place c.loop-place-test.false c.requires.in_order c.requires.each c.loop-place.invariant
