@@ -1,8 +1,9 @@
 -- What the fields of a list of ballots say of the ballots that it shows.
-use Rattle.std.proofs.Common.{◌≡◌, ℕ, ◌+◌, ◌-◌, ◌*◌, ◌/◌, ◌<◌, ◌≤◌, List, [], ◌∷◌, ◌++◌, Some, length, get_or, take, drop, sym, ap, ap₂, subst, ◌∙◌, arith, length-append, mul-le-mul_left, vec_capacity}
-use Rattle.store_spec.proofs.Common.{All, All-nil, Ballot, Election, IsCellOf, IsElection, IsValid, ballot_bytes, cell_size, flat_map, number_at, numbers_of, slice_get-get_or}
+use Rattle.std.proofs.Common.{◌≡◌, ℕ, ◌+◌, ◌-◌, ◌*◌, ◌/◌, ◌<◌, ◌≤◌, List, [], ◌∷◌, ◌++◌, Some, length, get_or, take, drop, sym, ap, ap₂, subst, ◌∙◌, arith, length-append, mul-le-mul_left, mul-le-mul_right, vec_capacity}
+use Rattle.store_spec.proofs.Common.{All, All-nil, All-push, Ballot, Election, IsCellOf, IsElection, IsValid, append-nil, ballot_bytes, cell_size, flat_map, flat_map-cons, length-drop, length-take-le, number_at, numbers_of, slice_get-get_or, slice_range}
+use Rattle.std.proofs.lemmas.List.Elements.{All-drop, All-take}
 use Rattle.std.specs.List.{slice_get}
-use Rattle.ballot_record.proofs.BallotLists.{AreCellsOf, cell_at_place, cell_within, length-ballots_at, length-cells, number_at_place, one_more, spelled_again}
+use Rattle.ballot_record.proofs.BallotLists.{AreCellsOf, cell_at_place, cell_within, length-ballots_at, length-cells, number_at_place, some_more, spelled_again}
 use Rattle.ballot_record.proofs.CellFormat.{number_fits, number_of_bytes}
 use Rattle.ballot_record.specs.BallotList.{ListedBallots, ballots_at, empty_list, with_more}
 use Rattle.ballot_record.specs.BallotListKept.{IsBallotList, list_seen}
@@ -27,12 +28,18 @@ kept_with a ballots are count width reserved =
 pub cells_kept : (a : Inside) → IsBallotList a → AreCellsOf a.of.value a.bytes.items (list_seen a).ballots
 cells_kept a kept = record { election = kept.election; valid = kept.valid; cells = kept.bytes }
 
-pub long_enough : (a : Inside) (place : ℕ) → IsBallotList a → place < length (list_seen a).ballots → place * a.size + a.size ≤ length a.bytes.items
-long_enough a place kept within =
+-- the cells up to a place end within the bytes
+pub ends_within : (a : Inside) (end : ℕ) → IsBallotList a → end ≤ length (list_seen a).ballots → end * a.size ≤ length a.bytes.items
+ends_within a end kept within =
     let ballots = (list_seen a).ballots in
     let long : length a.bytes.items ≡ length ballots * a.size =
     ap length kept.bytes ∙ length-cells a.of.value ballots kept.election kept.valid ∙ ap (λ size. length ballots * size) (sym kept.width) in
-    omega (arith, cell_within place (length ballots) a.size within, long)
+    omega (arith, mul-le-mul_right a.size within, long)
+
+pub long_enough : (a : Inside) (place : ℕ) → IsBallotList a → place < length (list_seen a).ballots → place * a.size + a.size ≤ length a.bytes.items
+long_enough a place kept within =
+    let next : (place + 1) * a.size ≡ place * a.size + a.size = omega arith in
+    omega (arith, next, ends_within a (place + 1) kept (omega arith))
 
 -- a cell has room for a number
 pub few_kept : (a : Inside) (long : ℕ) → IsBallotList a → long ≡ length a.bytes.items → a.count ≤ long / 8
@@ -92,10 +99,25 @@ made_empty a e own election width none count reserved =
           ∙ ap (λ room. record { election = e; ballots = []; room = room }) (let left : a.places - a.count ≡ a.places = omega (arith, count) in left),
     )
 
-length-push : (a : Inside) (b : Ballot) → IsBallotList a → length ((list_seen a).ballots ++ b ∷ []) ≡ a.count + 1
-length-push a b kept =
-    let ballots = (list_seen a).ballots in
-    omega (arith, length-append ballots (b ∷ []), length-ballots_at a.of.value a.count a.bytes.items)
+-- a list to which the cells of more ballots were appended
+pub put_more : (a now : Inside) (cells : List ℕ) (more : List Ballot) → IsBallotList a → All (IsValid a.of.value) more → cells ≡ flat_map (ballot_bytes a.of.value) more
+    → now.of ≡ a.of → now.size ≡ a.size → now.places ≡ a.places → now.count ≡ a.count + length more
+    → now.bytes.items ≡ a.bytes.items ++ cells → vec_capacity a.bytes ≤ vec_capacity now.bytes
+    → IsBallotList now × (list_seen now ≡ record { election = a.of.value; ballots = (list_seen a).ballots ++ more; room = now.places - now.count })
+put_more a now cells more kept valid is of size places count bytes capacity =
+    let e = a.of.value in
+    let own : now.of.value ≡ e = ap (λ of. of.value) of in
+    let all = (list_seen a).ballots ++ more in
+    let are : AreCellsOf now.of.value now.bytes.items all =
+    subst (λ (e : Election). AreCellsOf e now.bytes.items all) (sym own)
+    (subst (λ bytes. AreCellsOf e bytes all) (sym bytes) (some_more e a.bytes.items cells (list_seen a).ballots more (cells_kept a kept) valid is)) in
+    let spells = kept_with now all are
+    (omega (arith, count, length-append (list_seen a).ballots more, length-ballots_at e a.count a.bytes.items))
+    (size ∙ kept.width ∙ ap cell_size (sym own))
+    (let same : now.places * now.size ≡ a.places * a.size = ap₂ (λ x y. x * y) places size in omega (arith, same, kept.reserved, capacity)) in (
+      spells.0,
+      ap₂ (λ (e : Election) (ballots : List Ballot). record { election = e; ballots = ballots; room = now.places - now.count }) own spells.1,
+    )
 
 -- a list to which a cell was appended
 pub put_behind : (a now : Inside) (cell : List ℕ) (b : Ballot) → IsBallotList a → IsCellOf a.of.value cell b → now.of ≡ a.of → now.size ≡ a.size → now.places ≡ a.places → now.count ≡ a.count + 1
@@ -103,16 +125,28 @@ pub put_behind : (a now : Inside) (cell : List ℕ) (b : Ballot) → IsBallotLis
     → IsBallotList now × (list_seen now ≡ with_more (list_seen a) b)
 put_behind a now cell b kept is of size places count bytes capacity =
     let e = a.of.value in
-    let own : now.of.value ≡ e = ap (λ of. of.value) of in
-    let more = one_more e a.count a.bytes.items cell b (cells_kept a kept) is.0 is.1 in
-    let all = (list_seen a).ballots ++ b ∷ [] in
-    let are : AreCellsOf now.of.value now.bytes.items all =
-    subst (λ (e : Election). AreCellsOf e now.bytes.items all) (sym own) (subst (λ bytes. AreCellsOf e bytes all) (sym bytes) more.1) in
-    let spells = kept_with now all are
-    (count ∙ sym (length-push a b kept))
-    (size ∙ kept.width ∙ ap cell_size (sym own))
-    (let same : now.places * now.size ≡ a.places * a.size = ap₂ (λ x y. x * y) places size in omega (arith, same, kept.reserved, capacity)) in (
-      spells.0,
-      ap₂ (λ (e : Election) (ballots : List Ballot). record { election = e; ballots = ballots; room = now.places - now.count }) own spells.1
-          ∙ ap (λ room. record { election = e; ballots = all; room = room }) (let left : now.places - now.count ≡ a.places - a.count - 1 = omega (arith, places, count) in left),
+    let f = ballot_bytes e in
+    let put = put_more a now cell (b ∷ []) kept (All-push (IsValid e) [] b (All-nil (IsValid e)) is.0)
+    (is.1 ∙ sym (flat_map-cons f b [] ∙ append-nil (f b))) of size places count bytes capacity in (
+      put.0,
+      put.1 ∙ ap (λ room. record { election = e; ballots = (list_seen a).ballots ++ b ∷ []; room = room }) (let left : now.places - now.count ≡ a.places - a.count - 1 = omega (arith, places, count) in left),
+    )
+
+-- a list to which the cells of another were appended, from one place up to another
+pub put_range : (a now o : Inside) (list other : ListedBallots) (cells : List ℕ) (from end : ℕ) → IsBallotList a → list_seen a ≡ list → IsBallotList o → list_seen o ≡ other
+    → other.election ≡ list.election → (from ≤ end) × (end ≤ length other.ballots) → cells ≡ flat_map (ballot_bytes other.election) (slice_range other.ballots from end)
+    → now.of ≡ a.of → now.size ≡ a.size → now.places ≡ a.places → now.count ≡ a.count + (end - from)
+    → now.bytes.items ≡ a.bytes.items ++ cells → vec_capacity a.bytes ≤ vec_capacity now.bytes
+    → IsBallotList now × ((list_seen now).ballots ≡ list.ballots ++ slice_range other.ballots from end)
+put_range a now o list other cells from end kept seen others_kept others_seen own within is of size places count bytes capacity =
+    let e = a.of.value in
+    let some = slice_range other.ballots from end in
+    let same : other.election ≡ e = own ∙ sym (ap (λ (list : ListedBallots). list.election) seen) in
+    let all : All (IsValid other.election) other.ballots = subst (λ (list : ListedBallots). All (IsValid list.election) list.ballots) others_seen others_kept.valid in
+    let valid = subst (λ (e : Election). All (IsValid e) some) same (All-take (IsValid other.election) (end - from) (drop from other.ballots) (All-drop (IsValid other.election) from other.ballots all)) in
+    let many : length some ≡ end - from = length-take-le (end - from) (drop from other.ballots) (omega (arith, length-drop from other.ballots)) in
+    let put = put_more a now cells some kept valid (is ∙ ap (λ (e : Election). flat_map (ballot_bytes e) some) same) of size places
+    (count ∙ ap (λ n. a.count + n) (sym many)) bytes capacity in (
+      put.0,
+      ap (λ (list : ListedBallots). list.ballots) put.1 ∙ ap (λ (list : ListedBallots). list.ballots ++ some) seen,
     )

@@ -1,7 +1,7 @@
 -- The bytes of the cells of ballots, one behind another, and the ballots that they spell.
-use Rattle.std.proofs.Common.{◌≡◌, ℕ, zero, suc, ◌+◌, ◌*◌, ◌<◌, ◌≤◌, List, [], ◌∷◌, ◌++◌, Some, length, get_or, take, drop, refl, sym, ap, ap₂, subst, ◌∙◌, arith, length-append, mul-le-mul_right}
-use Rattle.store_spec.proofs.Common.{All, All-head, All-push, All-tail, Ballot, Election, IsElection, IsValid, ballot_bytes, cell_size, drop-drop, drop_at, flat_map, flat_map-cons, get_or_from_slice_get, numbers_of, slice_get-map, slice_get_within, take_at}
-use Rattle.std.proofs.lemmas.List.{flat_map_more}
+use Rattle.std.proofs.Common.{◌≡◌, ℕ, zero, suc, ◌+◌, ◌-◌, ◌*◌, ◌<◌, ◌≤◌, List, [], ◌∷◌, ◌++◌, Some, length, get_or, take, drop, refl, sym, ap, ap₂, subst, ◌∙◌, arith, length-append, mul-le-mul_right}
+use Rattle.store_spec.proofs.Common.{All, All-append, All-head, All-tail, Ballot, Election, IsElection, IsValid, ballot_bytes, cell_size, drop-drop, drop_at, flat_map, flat_map-append, flat_map-cons, get_or_from_slice_get, length-drop, length-take-le, numbers_of, slice_get-map, slice_get_within, slice_range, take-append-drop, take_at}
+use Rattle.std.proofs.lemmas.List.Elements.{All-drop, All-take}
 use Rattle.std.specs.List.{slice_get}
 use Rattle.std.specs.Option.{option_map}
 use Rattle.ballot_record.proofs.CellFormat.{length-ballot_bytes, spells_itself}
@@ -82,16 +82,36 @@ cell_within place count size within =
     let fits : (place + 1) * size ≤ count * size = mul-le-mul_right size (let le : place + 1 ≤ count = omega arith in le) in
     omega (arith, next, fits)
 
--- one ballot more
-pub one_more : (e : Election) (n : ℕ) (bytes cell : List ℕ) (b : Ballot) → AreCellsOf e bytes (ballots_at e n bytes) → IsValid e b → cell ≡ ballot_bytes e b
-    → (ballots_at e (n + 1) (bytes ++ cell) ≡ ballots_at e n bytes ++ b ∷ []) × AreCellsOf e (bytes ++ cell) (ballots_at e n bytes ++ b ∷ [])
-one_more e n bytes cell b are own is =
+-- the cells from one place up to another are those of the ballots there
+pub cells_between_places : (e : Election) (ballots : List Ballot) (from end : ℕ) → IsElection e → All (IsValid e) ballots → from ≤ end → end ≤ length ballots
+    → take (end * cell_size e - from * cell_size e) (drop (from * cell_size e) (flat_map (ballot_bytes e) ballots)) ≡ flat_map (ballot_bytes e) (slice_range ballots from end)
+cells_between_places e ballots from end election valid onward within =
     let f = ballot_bytes e in
-    let ballots = ballots_at e n bytes in
-    let all = ballots ++ b ∷ [] in
-    let valid = All-push (IsValid e) ballots b are.valid own in
-    let parted : bytes ++ cell ≡ flat_map f all = ap₂ (λ xs ys. xs ++ ys) are.cells is ∙ flat_map_more f [] ballots b in
-    let count : n + 1 ≡ length all = omega (arith, length-ballots_at e n bytes, length-append ballots (b ∷ [])) in (
-      ap₂ (ballots_at e) count parted ∙ spelled_again e all are.election valid,
-      record { election = are.election; valid = valid; cells = parted },
-    )
+    let size = cell_size e in
+    let front = take from ballots in
+    let behind = drop from ballots in
+    let some = slice_range ballots from end in
+    let rest = drop (end - from) behind in
+    let parted : flat_map f ballots ≡ flat_map f front ++ (flat_map f some ++ flat_map f rest) =
+    ap (flat_map f) (sym (take-append-drop from ballots)) ∙ flat_map-append f front behind
+    ∙ ap (λ bytes. flat_map f front ++ bytes) (ap (flat_map f) (sym (take-append-drop (end - from) behind)) ∙ flat_map-append f some rest) in
+    let before : length (flat_map f front) ≡ from * size =
+    length-cells e front election (All-take (IsValid e) from ballots valid) ∙ ap (λ n. n * size) (length-take-le from ballots (omega arith)) in
+    let count : length some ≡ end - from = length-take-le (end - from) behind (omega (arith, length-drop from ballots)) in
+    let some_long : length (flat_map f some) ≡ (end - from) * size =
+    length-cells e some election (All-take (IsValid e) (end - from) behind (All-drop (IsValid e) from ballots valid)) ∙ ap (λ n. n * size) count in
+    let both : end * size ≡ from * size + (end - from) * size =
+    ap (λ n. n * size) (let e : end ≡ from + (end - from) = omega arith in e) ∙ (let apart : (from + (end - from)) * size ≡ from * size + (end - from) * size = omega arith in apart) in
+    let long : length (flat_map f some) ≡ end * size - from * size = omega (arith, some_long, both) in
+    ap (λ bytes. take (end * size - from * size) (drop (from * size) bytes)) parted
+    ∙ ap (take (end * size - from * size)) (drop_at (flat_map f front) (flat_map f some ++ flat_map f rest) (from * size) before)
+    ∙ take_at (flat_map f some) (flat_map f rest) (end * size - from * size) long
+
+-- more ballots
+pub some_more : (e : Election) (bytes cells : List ℕ) (ballots more : List Ballot) → AreCellsOf e bytes ballots → All (IsValid e) more → cells ≡ flat_map (ballot_bytes e) more
+    → AreCellsOf e (bytes ++ cells) (ballots ++ more)
+some_more e bytes cells ballots more are valid is = record {
+  election = are.election;
+  valid = All-append (IsValid e) ballots more are.valid valid;
+  cells = ap₂ (λ xs ys. xs ++ ys) are.cells is ∙ sym (flat_map-append (ballot_bytes e) ballots more);
+}

@@ -2,7 +2,7 @@
 
 ghost use Rattle.ballot_record.specs.BallotList.{empty_list, with_more};
 ghost use Rattle.ballot_record.specs.Record.{ballot};
-ghost use Rattle.std.specs.Prelude.{◌≡◌, ◌+◌, ◌*◌, ◌^◌, ◌<◌, ◌≤◌, ◌++◌, All, IfOk, IsOk, OnErr, OnOk, Some, drop, flat_map, length, slice_get, slice_index, take, vec_capacity, vec_len};
+ghost use Rattle.std.specs.Prelude.{◌≡◌, ◌+◌, ◌*◌, ◌^◌, ◌<◌, ◌≤◌, ◌++◌, All, IfOk, IsOk, OnErr, OnOk, Some, drop, flat_map, length, slice_get, slice_index, slice_range, take, vec_capacity, vec_len};
 ghost use Rattle.store_spec.specs.Ballot.{Ballot, IsValid, numbers_of};
 ghost use Rattle.store_spec.specs.Election.{IsElection, cell_size};
 ghost use Rattle.store_spec.specs.Image.{IsCellOf, ballot_bytes};
@@ -166,6 +166,21 @@ impl BallotList {
         Ok(())
     }
 
+    /// Puts a ballot behind the others, of which these are the bytes of its cell. Where there is room it takes no memory.
+    pub fn push_cell(&mut self, cell: &[u8]) -> Result<(), Memory>
+        requires { (b : Ballot) × IsCellOf self.old.election cell.now b }
+        ensures pushed { OnOk result ((b : Ballot) → IsCellOf self.old.election cell.now b
+            → self.new ≡ with_more self.old b) }
+        ensures unchanged { OnErr result (self.new ≡ self.old) }
+        ensures room { 0 < self.old.room → IsOk result }
+    {
+        let long = self.bytes.len();
+        prove!(self.count <= long / 8);
+        self.bytes.extend_from_slice(cell)?;
+        self.count += 1;
+        Ok(())
+    }
+
     /// Puts the ballot at a place of another list behind the others. Where there is room it takes no memory.
     pub fn push_from(&mut self, other: &BallotList, place: usize) -> Result<(), Memory>
         requires election { other.now.election ≡ self.old.election }
@@ -175,10 +190,33 @@ impl BallotList {
         ensures unchanged { OnErr result (self.new ≡ self.old) }
         ensures room { 0 < self.old.room → IsOk result }
     {
+        self.push_cell(other.cell(place))
+    }
+
+    /// The bytes of the cells of the ballots from one place up to another.
+    fn cells_between(&self, from: usize, end: usize) -> &[u8]
+        requires within { (from ≤ end) × (end ≤ length self.now.ballots) }
+        ensures cells { result.now ≡ flat_map (ballot_bytes self.now.election) (slice_range self.now.ballots from end) }
+    {
+        &self.bytes[from * self.size..end * self.size]
+    }
+
+    /// Puts the ballots of another list from one place up to another behind the others.
+    pub fn push_range(&mut self, other: &BallotList, from: usize, end: usize) -> Result<(), Memory>
+        requires election { other.now.election ≡ self.old.election }
+        requires within { (from ≤ end) × (end ≤ length other.now.ballots) }
+        ensures put { OnOk result
+            (self.new.ballots ≡ self.old.ballots ++ slice_range other.now.ballots from end) }
+        ensures election { self.new.election ≡ self.old.election }
+        ensures unchanged { OnErr result (self.new ≡ self.old) }
+    {
         let long = self.bytes.len();
         prove!(self.count <= long / 8);
-        self.bytes.extend_from_slice(other.cell(place))?;
-        self.count += 1;
+        let others = other.bytes.len();
+        prove!(other.count <= others / 8);
+        self.bytes
+            .extend_from_slice(other.cells_between(from, end))?;
+        self.count += end - from;
         Ok(())
     }
 }

@@ -1,6 +1,6 @@
 -- Sets of ballots: their layout, and what a store may hold.
 use Rattle.std.proofs.Common.{◌≡◌, ◌≢◌, ◌==◌, ◌^◌, ℕ, ◌<◌, not, List, sym, ap, arith}
-use Rattle.store_spec.proofs.Common.{All-filter, All-map, All-weaker, AllPairs-filter, Ballot, Election, HasRoom, IsBallotSet, IsElection, IsLayout, IsListing, IsPermutation, IsPermutation-map, IsValid, IsWithinLimit, cell_count, cells_of, count_by-le-length, filter, home_in, laid_out, length-filter, length_permutation, list_any, numbers_of}
+use Rattle.store_spec.proofs.Common.{All-filter, All-map, All-weaker, AllPairs-filter, Ballot, Election, HasRoom, IsBallotSet, IsElection, IsLayout, IsListing, IsPermutation, IsPermutation-map, IsValid, IsWithinLimit, cell_count, cells_of, count_by-le-length, home_in, laid_out, length-filter, length_permutation, list_any, numbers_of}
 use Rattle.ballot_record.proofs.BallotNumbers.{length-numbers_of, pairs_of_numbers}
 use Rattle.ballot_record.proofs.BallotSets.{listing-IsPermutation, listing_from_set}
 use Rattle.body_store.proofs.ByNumber.{by_number-IsPermutation, by_number-ascends}

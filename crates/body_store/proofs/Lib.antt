@@ -1,5 +1,5 @@
-mod Blocks
 mod CellPlaces
+mod Filled
 pub mod Keeping
 mod Listed
 mod Planning

@@ -1,6 +1,6 @@
 -- Ballots in lists, one list behind another.
-use Rattle.std.proofs.Common.{◌≡◌, ℕ, zero, suc, ◌+◌, ◌-◌, ◌*◌, ◌<◌, ◌≤◌, inl, inr, List, [], ◌∷◌, ◌++◌, Some, length, get_or, take, drop, sym, ap, ◌∙◌, subst, arith, add-one, drop-cons, length-append, length-drop}
-use Rattle.store_spec.proofs.Common.{All, Ballot, Election, IsElection, IsValid, ballot_bytes, cell_size, drop-append-le, flat_map, flat_map-append, flat_map-cons, get_or-append-add, get_or_append_left, slice_get-get_or, slice_get_within, take-append-le, take_more}
+use Rattle.std.proofs.Common.{◌≡◌, ℕ, zero, suc, ◌+◌, ◌-◌, ◌*◌, ◌<◌, ◌≤◌, inl, inr, List, [], ◌∷◌, ◌++◌, Some, length, get_or, take, drop, sym, ap, ◌∙◌, subst, arith, length-append}
+use Rattle.store_spec.proofs.Common.{All, Ballot, Election, IsElection, IsValid, ballot_bytes, cell_size, flat_map, flat_map-append, flat_map-cons, get_or-append-add, get_or_append_left, slice_get-get_or, slice_get_within, take_more}
 use Rattle.std.proofs.Math.Nat.{add-mul}
 use Rattle.std.specs.List.{slice_get}
 use Rattle.ballot_record.proofs.BallotLists.{cell_at_place, cell_within, length-cells}

@@ -2,6 +2,8 @@
 use Rattle.std.proofs.Common.{◌≡◌, ◌≢◌, ℕ, zero, suc, ◌+◌, ◌*◌, ◌<◌, ◌≤◌, ⊎_elim, List, [], ◌∷◌, ◌++◌, length, get_or, take, drop, sym, ap, ◌∙◌, arith, length-append, mul-le-mul_right}
 use Rattle.store_spec.proofs.Common.{cases_order, drop-drop, drop-take, drop_at, flat_map, flat_map-cons, header_size, length-take-le, take_at}
 use Rattle.std.proofs.lemmas.Slice.{take-put_mid, take-put_mid_below, drop-put_mid}
+use Rattle.ballot_record.proofs.CellFormat.{header_width}
+use Rattle.ballot_record.specs.declared.format.TheConstants.{HEADER_BYTES}
 use Rattle.body_store.specs.Moves.{cell_in}
 use borrow.Rule.Slice.PartMut.{put_mid}
 
@@ -11,6 +13,10 @@ ends_before cell later size before =
     let next : (cell + 1) * size ≡ cell * size + size = omega arith in
     let fits : (cell + 1) * size ≤ later * size = mul-le-mul_right size (let le : cell + 1 ≤ later = omega arith in le) in
     omega (arith, next, fits)
+
+-- where a cell begins
+pub cell_start : (cell size : ℕ) → HEADER_BYTES + cell * size ≡ header_size + cell * size
+cell_start cell size = ap (λ header. header + cell * size) (sym header_width)
 
 -- where one cell is written, it has what was written
 pub this_put : (size cell at k : ℕ) (image bytes : List ℕ) → at ≡ header_size + cell * size → length bytes ≡ size

@@ -5,6 +5,7 @@ use Rattle.body_store.specs.declared.moves.Near.{Near}
 use Rattle.body_store.specs.declared.moves.Near.TheVariants.{At, Nowhere, Far}
 use Rattle.body_store.specs.declared.moves.Plan.{Plan}
 use Rattle.body_store.specs.declared.moves.Waiting.{Waiting}
+use Rattle.layout_def.specs.declared.changes.CellChange.{CellChange}
 use Rattle.store_spec.specs.Ballot.{Ballot, IsValid, numbers_of}
 use Rattle.store_spec.specs.Damage.{cell_at}
 use Rattle.store_spec.specs.Election.{Election, IsElection, cell_size, header_size, most_ballots, most_cells}
@@ -37,14 +38,24 @@ pub record IsRightMove (f : ℕ → List ℕ) (cells front bytes : List ℕ) (mo
   pub within : move.cell < length cells
   pub waits : WaitsIn f front bytes move.from (slice_index cells move.cell)
 
--- what waits for cells, for numbers that are far from their homes, and for cells that are to be empty
+-- what waits for cells, and for numbers that are far from their homes
 pub record AreRight (f : ℕ → List ℕ) (cells front bytes : List ℕ) (moves : List Move) (far : List Waiting) : Type 0 where
-  pub empty : Waits f bytes 0 0
   pub each_move : All (IsRightMove f cells front bytes) moves
   pub each_far : All (λ one. WaitsIn f front bytes one.from one.number) far
 
 abbrev pub IsRight : (ℕ → List ℕ) → List ℕ → List ℕ → Plan → Type 0
 IsRight f cells front plan = AreRight f cells front plan.bytes.items plan.moves.items plan.far.items
+
+-- a cell has a number that it did not have
+pub record HasNew (old cells : List ℕ) (cell : ℕ) : Type 0 where
+  pub within : cell < length cells
+  pub some : slice_index cells cell ≢ 0
+  pub other : slice_index old cell ≢ slice_index cells cell
+
+-- a cell is empty that had a number
+pub record IsLeft (old cells : List ℕ) (cell : ℕ) : Type 0 where
+  pub empty : slice_index cells cell ≡ 0
+  pub some : slice_index old cell ≢ 0
 
 -- something is to be written in a cell
 abbrev pub IsMoved : List Move → ℕ → Type 0
@@ -66,13 +77,9 @@ StayNoted cells old new = (cell : ℕ) → IsNoted cells old cell → IsNoted ce
 abbrev pub IsSought : List ℕ → Plan → ℕ → Type 0
 IsSought cells plan number = (cell : ℕ) → slice_index cells cell ≡ number → IsNoted cells plan cell
 
--- Of so many first cells, those that changed: the cells where their numbers stand now are noted, and they are too if they
--- are empty now.
-pub record IsLeftUpTo (old_cells cells : List ℕ) (plan : Plan) (count : ℕ) : Type 0 where
-  pub sought : (cell : ℕ) → cell < count → slice_index old_cells cell ≢ 0
-      → slice_index old_cells cell ≢ slice_index cells cell → IsSought cells plan (slice_index old_cells cell)
-  pub emptied : (cell : ℕ) → cell < count → slice_index old_cells cell ≢ slice_index cells cell
-      → slice_index cells cell ≡ 0 → IsNoted cells plan cell
+-- of cells that changed, with the numbers that they had: the cells where these stand now are noted
+abbrev pub AreSought : List ℕ → Plan → List CellChange → Type 0
+AreSought cells plan changes = All (λ change. change.number ≢ 0 → IsSought cells plan change.number) changes
 
 -- the bytes of one cell, where each has so many
 abbrev pub cell_in : ℕ → ℕ → List ℕ → List ℕ
@@ -83,11 +90,18 @@ pub record AreImageCells (e : Election) (f : ℕ → List ℕ) (cells image : Li
   pub long : length image ≡ header_size + length cells * cell_size e
   pub each : (cell : ℕ) → cell < length cells → cell_at e cell image ≡ f (slice_index cells cell)
 
--- The new ballots of a close: their election, the bytes of the cell of each number, and all of them in their order.
+-- What an image was: the number in each of its cells, and the bytes of the cell of each number.
+pub record Earlier : Type 0 where
+  pub numbers : List ℕ
+  pub bytes_of : ℕ → List ℕ
+
+-- The new ballots of a close: their election, the bytes of the cell of each number, all of them in their order, and the
+-- number that each cell had before they came.
 pub record Arrivals : Type 0 where
   pub election : Election
   pub bytes_of : ℕ → List ℕ
   pub ballots : List Ballot
+  pub before : List ℕ
 
 -- the bytes of their cells, one behind another
 abbrev pub arriving_bytes : Arrivals → List ℕ

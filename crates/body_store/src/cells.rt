@@ -1,7 +1,10 @@
 //! The cells of a store, with words behind them that are 0.
 
-ghost use Rattle.std.specs.Prelude.{◌≡◌, ◌+◌, ◌-◌, ◌≤◌, ◌++◌, length, replicate, vec_capacity, vec_len};
+ghost use Rattle.layout_def.specs.Changes.{AreChanges};
+ghost use Rattle.std.specs.Prelude.{◌≡◌, ◌+◌, ◌-◌, ◌≤◌, ◌++◌, List, ℕ, drop, length, replicate, take, vec_capacity, vec_len};
 
+use layout_def::{CellChange, exchange, put_zeros};
+use outside_io::Memory;
 use std::marker::Model;
 
 /// The numbers in the cells of a store, and behind these the words of a next casting phase, all 0, if there is room for
@@ -25,16 +28,15 @@ impl Model for Cells {
 }
 
 impl Cells {
-    /// These cells, and behind them so many words, if there is room for them.
-    pub fn new(cells: Vec<u64>, more: usize) -> Cells
+    /// These cells, with no word behind them.
+    pub fn new(cells: Vec<u64>) -> Cells
         ensures { result ≡ cells.items }
     {
         let count = cells.len();
-        let mut words = cells;
-        if more <= words.capacity() - count {
-            put_zeros(&mut words, more);
+        Cells {
+            words: cells,
+            count,
         }
-        Cells { words, count }
     }
 
     /// The cells.
@@ -50,14 +52,45 @@ impl Cells {
     {
         &self.words
     }
+
+    /// Puts the number of each change into its cell, and keeps in its place the one that stood there.
+    pub fn exchange(&mut self, changes: &mut [CellChange])
+        requires { (after : List ℕ) × AreChanges self.old after changes.old }
+        ensures { (after : List ℕ) → AreChanges self.old after changes.old
+            → (self.new ≡ after) × AreChanges after self.old changes.new }
+    {
+        let count = self.count;
+        exchange_first(&mut self.words, count, changes);
+    }
+
+    /// Puts so many words behind the cells.
+    pub fn put_behind(&mut self, behind: usize) -> Result<(), Memory>
+        ensures { self.new ≡ self.old }
+    {
+        let more = self
+            .count
+            .saturating_add(behind)
+            .saturating_sub(self.words.len());
+        self.words.reserve_exact(more)?;
+        put_zeros(&mut self.words, more)
+    }
+
+    /// Leaves no more than so many words behind the cells.
+    pub fn leave_behind(&mut self, behind: usize)
+        ensures { self.new ≡ self.old }
+    {
+        self.words.truncate(self.count.saturating_add(behind));
+    }
 }
 
-/// Puts so many words behind others, for which there is room.
-fn put_zeros(words: &mut Vec<u64>, more: usize)
-    requires { vec_len words.old + more ≤ vec_capacity words.old }
-    ensures { words.new.items ≡ words.old.items ++ replicate more 0 }
+/// The same of so many first words.
+fn exchange_first(words: &mut [u64], count: usize, changes: &mut [CellChange])
+    requires within { count ≤ length words.old }
+    requires changes { (after : List ℕ) × AreChanges (take count words.old) after changes.old }
+    ensures first { (after : List ℕ) → AreChanges (take count words.old) after changes.old
+        → (take count words.new ≡ after) × AreChanges after (take count words.old) changes.new }
+    ensures rest { drop count words.new ≡ drop count words.old }
+    ensures long { length words.new ≡ length words.old }
 {
-    for place in 0..more {
-        words.push_reserved(0);
-    }
+    exchange(&mut words[..count], changes);
 }

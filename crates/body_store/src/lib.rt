@@ -2,7 +2,6 @@
 #![tactic(auto)]
 
 mod cells;
-mod changed;
 mod closing;
 pub mod laws;
 mod lookup;
@@ -15,6 +14,7 @@ ghost use Rattle.body_store.specs.ByNumber.{by_number};
 ghost use Rattle.body_store.specs.Contents.{Contents, IsStored, all_listed, ballots_of, ballots_without};
 ghost use Rattle.body_store.specs.Held.{Shows, held_in};
 ghost use Rattle.body_store.specs.Places.{AreAt};
+ghost use Rattle.layout_def.specs.Changes.{AreChanges};
 ghost use Rattle.std.specs.Prelude.{◌≡◌, ◌++◌, ◌+◌, ◌-◌, ◌<◌, ◌≤◌, ℕ, List, [], All, IfOk, IsPermutation, MatchOption, None, OnErr, OnOk, Some, drop, length, map, option_map, replicate, slice_index, take};
 ghost use Rattle.ballot_record.specs.Record.{ballot};
 ghost use Rattle.store_spec.specs.Ballot.{Ballot, IsListing, IsWithinLimit, ballot_of, numbers_of};
@@ -25,6 +25,7 @@ ghost use Rattle.store_spec.specs.Layout.{IsLayout};
 
 use crate::cells::Cells;
 use ballot_record::{BallotList, Election, Record};
+use layout_def::{CellChange, changes_between};
 pub use lookup::{Place, layout};
 use outside_io::Memory;
 use std::alloc::Global;
@@ -61,7 +62,7 @@ impl Closed {
         ensures { IfOk result (λ store. store ≡ record { election = election.now; ballots = [] }) }
     {
         let image = nothing::image(alloc, election)?;
-        let cells = zeros::empty_cells(alloc, election.cells())?;
+        let cells = zeros::empty_cells(alloc, election.cells(), election.limit() as usize)?;
         Closed::from_image(alloc, election, image, cells)
     }
 
@@ -79,9 +80,18 @@ impl Closed {
         ensures stored { IfOk result IsStored }
     {
         let cells = lookup::layout(alloc, election, ballots)?;
-        let mut store = Closed::empty(alloc, election)?;
-        store.merge(alloc, from_ref(ballots), cells)?;
-        Ok(store)
+        let mut image = nothing::image(alloc, election)?;
+        let none = zeros::empty_cells(alloc, election.cells(), 0)?;
+        let changes = changes_between(alloc, &cells, &none, ballots.len())?;
+        closing::fill(
+            alloc,
+            election,
+            from_ref(ballots),
+            &cells,
+            &changes,
+            &mut image,
+        )?;
+        Closed::from_image(alloc, election, image, cells)
     }
 
     /// The store with this image. `cells` are the numbers in its cells.
@@ -103,7 +113,7 @@ impl Closed {
         Ok(Closed {
             election: own,
             image,
-            cells: Cells::new(cells, 0),
+            cells: Cells::new(cells),
             held,
         })
     }
@@ -143,14 +153,21 @@ impl Closed {
         self.cells.numbers()
     }
 
-    /// Its cells, and behind them words that are 0: in general as many as it has room for ballots, if a casting phase gave
-    /// the cells, and else none.
+    /// Its cells, and behind them words that are 0: as many as `make_words` put there and later phases left.
     pub fn words(&self) -> &Vec<u64>
         ensures words { result.now.items ≡ cells_of self.now.election self.now.ballots
             ++ replicate (length result.now.items - cell_count self.now.election) 0 }
         ensures stored { IsStored self.now }
     {
         self.cells.words()
+    }
+
+    /// Puts words that are 0 behind its cells, as many as it has room for ballots: a casting phase begins with both.
+    pub fn make_words(&mut self) -> Result<(), Memory>
+        ensures { self.new ≡ self.old }
+    {
+        let room = (self.election.limit() as usize).saturating_sub(self.held);
+        self.cells.put_behind(room)
     }
 
     /// The numbers of its ballots in ascending order, each with its cell.
@@ -203,48 +220,52 @@ impl Closed {
         Some(self.cell(cell))
     }
 
-    /// Adds the ballots of lists, whose numbers are new to the store. `cells` is the layout of all. After `Memory` it is as
-    /// it was.
+    /// Adds the ballots of lists, whose numbers are new to the store. `changes` make its cells those of all. After `Memory`
+    /// it is as it was.
     pub fn merge(
         &mut self,
         alloc: Global,
         lists: &[BallotList],
-        cells: Vec<u64>,
+        changes: Vec<CellChange>,
     ) -> Result<(), Memory>
         requires election { All (λ list. list.election ≡ self.old.election) lists.now }
         requires listing { IsListing self.old.election (self.old.ballots ++ all_listed lists.now) }
         requires within_limit { IsWithinLimit self.old.election
             (self.old.ballots ++ all_listed lists.now) }
-        requires layout { cells.items
-            ≡ cells_of self.old.election (self.old.ballots ++ all_listed lists.now) }
+        requires changes { AreChanges (cells_of self.old.election self.old.ballots)
+            (cells_of self.old.election (self.old.ballots ++ all_listed lists.now)) changes.items }
         ensures election { self.new.election ≡ self.old.election }
         ensures union { OnOk result
             (IsPermutation (self.old.ballots ++ all_listed lists.now) self.new.ballots) }
         ensures unchanged { OnErr result (self.new ≡ self.old) }
         ensures stored { IsStored self.new }
     {
+        let before = self.held;
+        let held = before + relay::count(lists);
         closing::close(
             alloc,
             &self.election,
             lists,
-            self.cells.numbers(),
-            &cells,
+            &mut self.cells,
+            changes,
             &mut self.image,
         )?;
-        self.held += relay::count(lists);
-        let room = (self.election.limit() as usize).saturating_sub(self.held);
-        self.cells = Cells::new(cells, room);
+        self.held = held;
+        self.cells
+            .leave_behind((self.election.limit() as usize).saturating_sub(held));
         Ok(())
     }
 
-    /// Takes out the ballots of some numbers, those that do not stand in `cells`, the layout of the rest. After `Memory` it
-    /// is as it was.
-    pub fn without(&mut self, alloc: Global, cells: Vec<u64>) -> Result<(), Memory>
+    /// Takes out the ballots of some numbers: those that stand no more in its cells after these changes. After `Memory` it is
+    /// as it was.
+    pub fn without(&mut self, alloc: Global, changes: Vec<CellChange>) -> Result<(), Memory>
         requires { (numbers : List ℕ)
-            × (cells.items ≡ cells_of self.old.election (ballots_without self.old.ballots numbers)) }
+            × AreChanges (cells_of self.old.election self.old.ballots)
+            (cells_of self.old.election (ballots_without self.old.ballots numbers)) changes.items }
         ensures election { self.new.election ≡ self.old.election }
         ensures rest { (numbers : List ℕ)
-            → cells.items ≡ cells_of self.old.election (ballots_without self.old.ballots numbers)
+            → AreChanges (cells_of self.old.election self.old.ballots)
+            (cells_of self.old.election (ballots_without self.old.ballots numbers)) changes.items
             → OnOk result (self.new ≡ record {
               election = self.old.election;
               ballots = ballots_without self.old.ballots numbers;
@@ -256,13 +277,11 @@ impl Closed {
             alloc,
             &self.election,
             &[],
-            self.cells.numbers(),
-            &cells,
+            &mut self.cells,
+            changes,
             &mut self.image,
         )?;
-        let held = lookup::count(&cells);
-        self.cells = Cells::new(cells, 0);
-        self.held = held;
+        self.held = lookup::count(self.cells.numbers());
         Ok(())
     }
 }

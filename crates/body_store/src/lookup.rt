@@ -6,7 +6,9 @@ ghost use Rattle.body_store.specs.Contents.{ballots_of};
 ghost use Rattle.body_store.specs.Held.{Shows, held_in};
 ghost use Rattle.body_store.specs.Moves.{cell_in};
 ghost use Rattle.body_store.specs.Places.{AreAt};
-ghost use Rattle.std.specs.Prelude.{◌≡◌, ◌≢◌, ℕ, ◌+◌, ◌-◌, ◌*◌, ◌<◌, ◌≤◌, List, All, Contains, IfOk, MatchOption, drop, length, map, option_map, slice_index, take};
+ghost use Rattle.layout_def.specs.Changes.{StandFrom};
+ghost use Rattle.std.specs.Int.{bit_at, from_bool};
+ghost use Rattle.std.specs.Prelude.{◌≡◌, ◌≢◌, ℕ, ◌+◌, ◌-◌, ◌*◌, ◌^◌, ◌<◌, ◌≤◌, ◌++◌, List, All, Contains, IfOk, MatchOption, OnOk, drop, length, map, nat_eq, not, option_map, slice_index, take};
 ghost use Rattle.store_spec.specs.Ballot.{Ballot, IsListing, IsWithinLimit, ballot_of, numbers_of};
 ghost use Rattle.store_spec.specs.Election.{IsElection, cell_count, header_size, most_cells};
 ghost use Rattle.store_spec.specs.Home.{home_in};
@@ -14,9 +16,12 @@ ghost use Rattle.store_spec.specs.Image.{cells_of};
 ghost use Rattle.store_spec.specs.Layout.{IsOrdered, ascending, numbers_in};
 
 use ballot_record::{BallotList, Election, HEADER_BYTES, Record};
-use layout_def::{build, place_of};
+use layout_def::{BLOCK, build, other_cells, place_of};
 use outside_io::Memory;
 use std::alloc::Global;
+
+/// A block of cells that have no number.
+const EMPTY: [u64; BLOCK] = [0; BLOCK];
 
 /// A number, and the cell in which it stands.
 #[derive(Clone, Copy)]
@@ -105,14 +110,41 @@ pub fn in_order(alloc: Global, cells: &[u64]) -> Result<Vec<Place>, Memory>
     ensures cells { IfOk result (λ places. AreAt cells.now places.items) }
 {
     let mut places = Vec::with_capacity(alloc, count(cells))?;
-    for (cell, number) in cells.iter().enumerate() {
-        if *number != 0 {
-            places.push(Place {
-                number: *number,
-                cell: cell as u32,
-            })?;
-        }
+    let mut at = 0;
+    while at < cells.len() {
+        let end = cells.len().min(at + BLOCK);
+        push_filled(&mut places, at, &cells[at..end])?;
+        at = end;
     }
     places.sort_unstable_by_key(|place| place.number);
     Ok(places)
+}
+
+/// Appends the numbers of a block of cells, which stand from one on.
+fn push_filled(places: &mut Vec<Place>, first: usize, block: &[u64]) -> Result<(), Memory>
+    requires block { length block.now ≤ 64 }
+    requires few { first + length block.now ≤ most_cells }
+    ensures numbers { OnOk result (map (λ place. place.number) places.new.items
+        ≡ map (λ place. place.number) places.old.items ++ numbers_in block.now) }
+    ensures cells { OnOk result ((cells : List ℕ) → StandFrom first block.now cells
+        → AreAt cells places.old.items → AreAt cells places.new.items) }
+{
+    let mut filled = filled_cells(block);
+    while filled != 0 {
+        let place = filled.trailing_zeros() as usize;
+        places.push(Place {
+            number: block[place],
+            cell: (first + place) as u32,
+        })?;
+        filled ^= 1 << place;
+    }
+    Ok(())
+}
+
+/// Which cells of a block have a number, a bit each.
+fn filled_cells(block: &[u64]) -> u64
+    requires { length block.now ≤ 64 }
+    ensures { (k : ℕ) → bit_at result k ≡ from_bool (not (nat_eq (slice_index block.now k) 0)) }
+{
+    other_cells(block, &EMPTY[..block.len()])
 }

@@ -1,13 +1,14 @@
 //! In which cells the ballots of an image belong, and the bytes of those that are to be written.
 
-ghost use Rattle.body_store.specs.Moves.{AwaitsCell, IsMoved, IsNear, IsNextPlace, IsNoted, IsRight, IsRightMove, IsSought, StayNoted, WaitsIn};
+ghost use Rattle.layout_def.specs.Changes.{AreChanges};
+ghost use Rattle.body_store.specs.Moves.{AwaitsCell, HasNew, IsMoved, IsNear, IsNextPlace, IsNoted, IsRight, IsRightMove, IsSought, StayNoted, WaitsIn};
 ghost use Rattle.std.specs.List.Sorted.{IsNonDecreasingBy};
 ghost use Rattle.std.specs.Prelude.{◌≡◌, ◌≢◌, ℕ, ◌+◌, ◌*◌, ◌^◌, ◌<◌, ◌≤◌, [], List, All, Contains, IfOk, MatchOption, OnOk, length, replicate, slice_index};
 ghost use Rattle.store_spec.specs.Election.{most_cells};
 ghost use Rattle.store_spec.specs.Home.{home_of};
 ghost use Rattle.store_spec.specs.Layout.{IsOrdered};
 
-use crate::changed::next_changed;
+use layout_def::CellChange;
 use outside_io::Memory;
 use probe_order::{Order, Salted};
 use std::alloc::Global;
@@ -17,7 +18,7 @@ use std::alloc::Global;
 const NEAR: usize = 32;
 
 /// The bytes that wait at a place belong in this cell. Places are counted in cells: those of new ballots, in their order,
-/// and behind them an empty one and those that were copied.
+/// and behind them those that were copied.
 #[derive(Clone, Copy)]
 pub struct Move {
     pub from: u32,
@@ -42,10 +43,11 @@ enum Near {
     Far,
 }
 
-/// What is to be written in an image, and where. The bytes that wait are those of new ballots, and behind them its own.
+/// The ballots that are to be written in an image, and where. The bytes that wait are those of new ballots, and behind them
+/// its own.
 #[derive(Drop)]
 pub struct Plan {
-    /// The bytes of cells, one behind another: an empty one, and those of ballots that move.
+    /// The bytes of the cells of ballots that move, one behind another.
     pub bytes: Vec<u8>,
     pub moves: Vec<Move>,
     /// The numbers that are far from their homes, whose cells are not known yet.
@@ -54,13 +56,12 @@ pub struct Plan {
 
 impl Plan {
     /// Nothing is to be written. There is room for so many moves.
-    pub fn new(alloc: Global, size: usize, room: usize) -> Result<Plan, Memory>
-        ensures right { IfOk result (λ plan. (f : ℕ → List ℕ) (cells front : List ℕ)
-            → f 0 ≡ replicate size 0 → IsRight f cells front plan) }
-        ensures long { IfOk result (λ plan. length plan.bytes.items ≡ size) }
+    pub fn new(alloc: Global, room: usize) -> Result<Plan, Memory>
+        ensures right { IfOk result (λ plan. (f : ℕ → List ℕ) (cells front : List ℕ) → IsRight f cells front plan) }
+        ensures none { IfOk result (λ plan. plan.bytes.items ≡ []) }
     {
         Ok(Plan {
-            bytes: vec![in alloc; 0; size]?,
+            bytes: Vec::new(alloc),
             moves: Vec::with_capacity(alloc, room)?,
             far: Vec::new(alloc),
         })
@@ -156,41 +157,20 @@ impl Plan {
         Ok(place + 1)
     }
 
-    /// Notes that a cell is to be empty. New ballots are so many.
-    pub fn empty(&mut self, cells: &[u64], front: usize, cell: usize) -> Result<(), Memory>
-        requires within { cell < length cells.now }
-        requires none { slice_index cells.now cell ≡ 0 }
-        requires few_cells { length cells.now ≤ most_cells }
-        requires short { front < 2 ^ 32 }
-        ensures right { OnOk result ((f : ℕ → List ℕ) (new : List ℕ) → length new ≡ front * length (f 0)
-            → IsRight f cells.now new self.old → IsRight f cells.now new self.new) }
-        ensures noted { OnOk result (IsNoted cells.now self.new cell) }
-        ensures still { OnOk result (StayNoted cells.now self.old self.new) }
-        ensures bytes { OnOk result (self.new.bytes.items ≡ self.old.bytes.items) }
-    {
-        self.moves.push(Move {
-            from: front as u32,
-            cell: cell as u32,
-        })?;
-        Ok(())
-    }
-
     /// Finds the cells of the numbers that are far from their homes, among those that changed.
-    pub fn find_far(&mut self, old_cells: &[u64], cells: &[u64]) -> Result<(), Memory>
-        requires as_many { length old_cells.now ≡ length cells.now }
+    pub fn find_far(&mut self, cells: &[u64], changes: &[CellChange]) -> Result<(), Memory>
+        ghost before: { List ℕ }
+        requires changes { AreChanges cells.now before changes.now }
         requires few_cells { length cells.now ≤ most_cells }
-        requires noted { (cell : ℕ) → cell < length cells.now
-            → slice_index old_cells.now cell ≢ slice_index cells.now cell
-            → IsNoted cells.now self.old cell }
+        requires noted { (cell : ℕ) → HasNew before cells.now cell → IsNoted cells.now self.old cell }
         ensures right { OnOk result ((f : ℕ → List ℕ) (front : List ℕ)
             → IsRight f cells.now front self.old → IsRight f cells.now front self.new) }
-        ensures noted { OnOk result ((cell : ℕ) → cell < length cells.now
-            → slice_index old_cells.now cell ≢ slice_index cells.now cell
+        ensures noted { OnOk result ((cell : ℕ) → HasNew before cells.now cell
             → IsMoved self.new.moves.items cell) }
     {
         if !self.far.is_empty() {
             self.far.sort_unstable_by_key(|one| one.number);
-            move_far(old_cells, cells, &self.far, &mut self.moves)?;
+            move_far(cells, changes, &self.far, &mut self.moves)?;
         }
         Ok(())
     }
@@ -219,12 +199,12 @@ fn find_near(order: &Salted, cells: &[u64], number: u64) -> Near
 
 /// Appends the moves to those changed cells whose numbers are among these, which are in order.
 fn move_far(
-    old_cells: &[u64],
     cells: &[u64],
+    changes: &[CellChange],
     far: &[Waiting],
     moves: &mut Vec<Move>,
 ) -> Result<(), Memory>
-    requires as_many { length old_cells.now ≡ length cells.now }
+    requires within { All (λ change. change.cell < length cells.now) changes.now }
     requires few_cells { length cells.now ≤ most_cells }
     requires rising { IsNonDecreasingBy (λ one. one.number) far.now }
     ensures right { OnOk result ((f : ℕ → List ℕ) (front bytes : List ℕ)
@@ -232,19 +212,16 @@ fn move_far(
         → All (IsRightMove f cells.now front bytes) moves.old.items
         → All (IsRightMove f cells.now front bytes) moves.new.items) }
     ensures still { OnOk result ((cell : ℕ) → IsMoved moves.old.items cell → IsMoved moves.new.items cell) }
-    ensures moved { OnOk result ((cell : ℕ) → cell < length cells.now
-        → slice_index old_cells.now cell ≢ slice_index cells.now cell
-        → AwaitsCell far.now (slice_index cells.now cell) → IsMoved moves.new.items cell) }
+    ensures moved { OnOk result (All (λ change. AwaitsCell far.now (slice_index cells.now change.cell)
+        → IsMoved moves.new.items change.cell) changes.now) }
 {
-    let mut cell = next_changed(old_cells, cells, 0);
-    while cell < cells.len() {
-        if let Some(from) = waits_from(far, cells[cell]) {
+    for change in changes {
+        if let Some(from) = waits_from(far, cells[change.cell]) {
             moves.push(Move {
                 from,
-                cell: cell as u32,
+                cell: change.cell as u32,
             })?;
         }
-        cell = next_changed(old_cells, cells, cell + 1);
     }
     Ok(())
 }

@@ -3,73 +3,76 @@
 ghost use Rattle.ballot_record.specs.BallotList.{ListedBallots};
 ghost use Rattle.body_store.specs.Contents.{all_listed};
 ghost use Rattle.body_store.specs.Fronts.{IsListStart};
-ghost use Rattle.body_store.specs.Moves.{AreArrivals, AreImageCells, Arrivals, IsLeftUpTo, IsMoved, IsRelay, IsRight, IsSought, StandsFrom, StayNoted, WaitsIn, cell_in, arriving_bytes};
-ghost use Rattle.std.specs.Prelude.{◌≡◌, ◌≢◌, ℕ, ◌+◌, ◌*◌, ◌^◌, ◌<◌, ◌≤◌, List, All, IfOk, OnErr, OnOk, flat_map, length, slice_index, slice_index_or, take};
+ghost use Rattle.body_store.specs.Moves.{AreArrivals, AreImageCells, AreSought, Arrivals, Earlier, HasNew, IsLeft, IsMoved, IsRelay, IsRight, IsSought, StandsFrom, StayNoted, WaitsIn, cell_in, arriving_bytes};
+ghost use Rattle.layout_def.specs.Changes.{AreChanges};
+ghost use Rattle.std.specs.Prelude.{◌≡◌, ◌≢◌, ℕ, ◌+◌, ◌*◌, ◌^◌, ◌<◌, ◌≤◌, [], List, All, IfOk, OnErr, OnOk, flat_map, length, replicate, slice_index, slice_index_or, take};
 ghost use Rattle.store_spec.specs.Ballot.{IsValid, numbers_of};
 ghost use Rattle.store_spec.specs.Election.{cell_size, header_size, most_cells};
 ghost use Rattle.store_spec.specs.Home.{home_of};
 ghost use Rattle.store_spec.specs.Image.{ballot_bytes};
 ghost use Rattle.store_spec.specs.Layout.{IsOrdered};
 
-use crate::changed::next_left;
 use crate::moves::Plan;
 use ballot_record::{BallotList, Election, HEADER_BYTES};
+use layout_def::CellChange;
 use outside_io::Memory;
 use probe_order::Salted;
 use std::alloc::Global;
 
-/// Changes the bytes of an image from those of the old cells to those of the new ones, in which each ballot of the image
-/// stands that is not withdrawn, and the new ballots of these lists. Cells whose number is the same stay. It takes all
-/// memory before the first byte changes, and time near n log n of the ballots that move, whatever their homes.
+/// Changes the bytes of an image to those of its cells, in which each ballot of the image stands that is not withdrawn, and
+/// the new ballots of these lists. `changes` say of each cell whose number is new which one it had. It takes all memory
+/// before the first byte changes, and time near n log n of the ballots that move, whatever their homes.
 pub fn relay(
     alloc: Global,
     order: &Salted,
     election: &Election,
     lists: &[BallotList],
-    old_cells: &[u64],
     cells: &[u64],
+    changes: &[CellChange],
     image: &mut [u8],
 ) -> Result<(), Memory>
-    ghost f: { ℕ → List ℕ }
+    ghost was: { Earlier }
     requires election { All (λ list. list.election ≡ election.now) lists.now }
-    requires cells { IsRelay election.now f (home_of order.now.bits order.now.salt) (all_listed lists.now)
-        old_cells.now cells.now image.old }
-    ensures after { OnOk result (AreImageCells election.now f cells.now image.new) }
+    requires cells { IsRelay election.now was.bytes_of (home_of order.now.bits order.now.salt) (all_listed lists.now)
+        was.numbers cells.now image.old }
+    requires changes { AreChanges cells.now was.numbers changes.now }
+    ensures after { OnOk result (AreImageCells election.now was.bytes_of cells.now image.new) }
     ensures header { take header_size image.new ≡ take header_size image.old }
     ensures unchanged { OnErr result (image.new ≡ image.old) }
 {
-    let plan = make_plan(alloc, order, election, lists, old_cells, cells, image)?;
+    let plan = make_plan(alloc, order, election, lists, cells, changes, image)?;
     let size = election.cell_bytes();
-    carry_out(&plan, election, lists, old_cells, cells, size, image);
+    carry_out(&plan, election, lists, cells, size, image);
+    clear_left(cells, changes, size, image);
     Ok(())
 }
 
-/// What is to be written in each cell that changes.
+/// What is to be written in each cell that gets another number.
 fn make_plan(
     alloc: Global,
     order: &Salted,
     election: &Election,
     lists: &[BallotList],
-    old_cells: &[u64],
     cells: &[u64],
+    changes: &[CellChange],
     image: &[u8],
 ) -> Result<Plan, Memory>
     ghost new: { Arrivals }
     requires election { new.election ≡ election.now }
     requires lists { new.ballots ≡ all_listed lists.now }
     requires cells { IsRelay new.election new.bytes_of (home_of order.now.bits order.now.salt) new.ballots
-        old_cells.now cells.now image.now }
+        new.before cells.now image.now }
+    requires changes { AreChanges cells.now new.before changes.now }
     ensures right { IfOk result (IsRight new.bytes_of cells.now (arriving_bytes new)) }
-    ensures noted { IfOk result (λ plan. (cell : ℕ) → cell < length cells.now
-        → slice_index old_cells.now cell ≢ slice_index cells.now cell
+    ensures noted { IfOk result (λ plan. (cell : ℕ) → HasNew new.before cells.now cell
         → IsMoved plan.moves.items cell) }
 {
     let size = election.cell_bytes();
     let front = count(lists);
-    let mut plan = Plan::new(alloc, size, front)?;
+    let mut plan = Plan::new(alloc, changes.len())?;
     take_in(&mut plan, order, lists, cells)?;
-    take_out(&mut plan, order, size, front, old_cells, cells, image)?;
-    plan.find_far(old_cells, cells)?;
+    take_out(&mut plan, order, size, front, cells, changes, image)?;
+    plan.find_far(cells, changes)?;
     Ok(plan)
 }
 
@@ -138,15 +141,15 @@ fn take_list(
     Ok(())
 }
 
-/// Copies the ballots of cells that they left, and notes which of these cells are to be empty.
+/// Copies the ballots of cells that they left.
 #[tactic(auto, using(ballot_record::proofs::CellFormat::header_width))]
 fn take_out(
     plan: &mut Plan,
     order: &Salted,
     size: usize,
     front: usize,
-    old_cells: &[u64],
     cells: &[u64],
+    changes: &[CellChange],
     image: &[u8],
 ) -> Result<(), Memory>
     ghost new: { Arrivals }
@@ -155,25 +158,22 @@ fn take_out(
     requires size { size ≡ cell_size new.election }
     requires ordered { IsOrdered (home_of order.now.bits order.now.salt) cells.now }
     requires few_cells { length cells.now ≤ most_cells }
-    requires as_many { length old_cells.now ≡ length cells.now }
-    requires long { length image.now ≡ header_size + length old_cells.now * size }
+    requires changes { AreChanges cells.now new.before changes.now }
+    requires long { length image.now ≡ header_size + length cells.now * size }
     requires before { (cell : ℕ) → cell < length cells.now
-        → cell_in size cell image.now ≡ new.bytes_of (slice_index old_cells.now cell) }
+        → cell_in size cell image.now ≡ new.bytes_of (slice_index new.before cell) }
     requires right { IsRight new.bytes_of cells.now (arriving_bytes new) plan.old }
-    requires one { length plan.old.bytes.items ≡ size }
+    requires none { plan.old.bytes.items ≡ [] }
     ensures right { OnOk result (IsRight new.bytes_of cells.now (arriving_bytes new) plan.new) }
-    ensures left { OnOk result (IsLeftUpTo old_cells.now cells.now plan.new (length cells.now)) }
+    ensures sought { OnOk result (AreSought cells.now plan.new changes.now) }
     ensures still { OnOk result (StayNoted cells.now plan.old plan.new) }
 {
-    let mut place = front + 1;
-    let mut cell = next_left(old_cells, cells, 0);
-    while cell < cells.len() {
-        let at = HEADER_BYTES + cell * size;
-        place = plan.add(order, cells, place, old_cells[cell], &image[at..at + size])?;
-        if cells[cell] == 0 {
-            plan.empty(cells, front, cell)?;
+    let mut place = front;
+    for change in changes {
+        if change.number != 0 {
+            let at = HEADER_BYTES + change.cell * size;
+            place = plan.add(order, cells, place, change.number, &image[at..at + size])?;
         }
-        cell = next_left(old_cells, cells, cell + 1);
     }
     Ok(())
 }
@@ -190,26 +190,23 @@ fn carry_out(
     plan: &Plan,
     election: &Election,
     lists: &[BallotList],
-    old_cells: &[u64],
     cells: &[u64],
     size: usize,
     image: &mut [u8],
 )
-    ghost f: { ℕ → List ℕ }
-    requires wide { (number : ℕ) → length (f number) ≡ size }
+    ghost was: { Earlier }
+    requires wide { (number : ℕ) → length (was.bytes_of number) ≡ size }
     requires size { size ≡ cell_size election.now }
     requires election { All (λ list. list.election ≡ election.now) lists.now }
     requires valid { All (IsValid election.now) (all_listed lists.now) }
     requires long { length image.old ≡ header_size + length cells.now * size }
     requires before { (cell : ℕ) → cell < length cells.now
-        → cell_in size cell image.old ≡ f (slice_index old_cells.now cell) }
-    requires right { IsRight f cells.now
+        → cell_in size cell image.old ≡ was.bytes_of (slice_index was.numbers cell) }
+    requires right { IsRight was.bytes_of cells.now
         (flat_map (ballot_bytes election.now) (all_listed lists.now)) plan.now }
-    requires noted { (cell : ℕ) → cell < length cells.now
-        → slice_index old_cells.now cell ≢ slice_index cells.now cell
-        → IsMoved plan.now.moves.items cell }
-    ensures after { (cell : ℕ) → cell < length cells.now
-        → cell_in size cell image.new ≡ f (slice_index cells.now cell) }
+    requires noted { (cell : ℕ) → HasNew was.numbers cells.now cell → IsMoved plan.now.moves.items cell }
+    ensures after { (cell : ℕ) → cell < length cells.now → ¬ IsLeft was.numbers cells.now cell
+        → cell_in size cell image.new ≡ was.bytes_of (slice_index cells.now cell) }
     ensures header { take header_size image.new ≡ take header_size image.old }
 {
     let mut front = Front { list: 0, first: 0 };
@@ -275,6 +272,37 @@ fn waiting<'a>(
     }
     let at = place * size;
     &behind[at..at + size]
+}
+
+/// Writes zeros in the cells that were left, and are to be empty.
+fn clear_left(cells: &[u64], changes: &[CellChange], size: usize, image: &mut [u8])
+    ghost was: { Earlier }
+    requires blank { was.bytes_of 0 ≡ replicate size 0 }
+    requires changes { AreChanges cells.now was.numbers changes.now }
+    requires long { length image.old ≡ header_size + length cells.now * size }
+    requires others { (cell : ℕ) → cell < length cells.now → ¬ IsLeft was.numbers cells.now cell
+        → cell_in size cell image.old ≡ was.bytes_of (slice_index cells.now cell) }
+    ensures after { (cell : ℕ) → cell < length cells.now
+        → cell_in size cell image.new ≡ was.bytes_of (slice_index cells.now cell) }
+    ensures header { take header_size image.new ≡ take header_size image.old }
+{
+    for change in changes {
+        if cells[change.cell] == 0 {
+            clear_cell_at(image, size, change.cell);
+        }
+    }
+}
+
+/// Writes zeros in one cell.
+#[tactic(auto, using(ballot_record::proofs::CellFormat::header_width))]
+fn clear_cell_at(image: &mut [u8], size: usize, cell: usize)
+    requires within { header_size + cell * size + size ≤ length image.old }
+    ensures here { cell_in size cell image.new ≡ replicate size 0 }
+    ensures others { (other : ℕ) → other ≢ cell → cell_in size other image.new ≡ cell_in size other image.old }
+    ensures header { take header_size image.new ≡ take header_size image.old }
+{
+    let at = HEADER_BYTES + cell * size;
+    image[at..at + size].fill(0);
 }
 
 /// Writes the bytes of one cell.

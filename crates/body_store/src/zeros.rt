@@ -2,6 +2,7 @@
 
 ghost use Rattle.std.specs.Prelude.{◌≡◌, ◌-◌, ◌≤◌, ◌++◌, IfOk, OnOk, length, replicate};
 
+use layout_def::put_zeros;
 use outside_io::Memory;
 use std::alloc::Global;
 
@@ -9,11 +10,6 @@ use std::alloc::Global;
 const BLOCK_BYTES: usize = 2000;
 
 const BLOCK: [u8; BLOCK_BYTES] = [0; BLOCK_BYTES];
-
-/// How many empty cells are put at once.
-const BLOCK_CELLS: usize = 250;
-
-const CELLS: [u64; BLOCK_CELLS] = [0; BLOCK_CELLS];
 
 /// Puts zeros behind bytes until they are so many. Where there is room for them no memory is taken.
 pub fn lengthen(bytes: &mut Vec<u8>, end: usize) -> Result<(), Memory>
@@ -28,14 +24,11 @@ pub fn lengthen(bytes: &mut Vec<u8>, end: usize) -> Result<(), Memory>
     Ok(())
 }
 
-/// So many empty cells.
-pub fn empty_cells(alloc: Global, count: usize) -> Result<Vec<u64>, Memory>
+/// So many empty cells, and memory for so many words behind them.
+pub fn empty_cells(alloc: Global, count: usize, behind: usize) -> Result<Vec<u64>, Memory>
     ensures { IfOk result (λ cells. cells.items ≡ replicate count 0) }
 {
-    let mut cells = Vec::with_capacity(alloc, count)?;
-    while cells.len() < count {
-        let more = BLOCK_CELLS.min(count - cells.len());
-        cells.extend_from_slice(&CELLS[..more])?;
-    }
+    let mut cells = Vec::with_capacity(alloc, count.saturating_add(behind))?;
+    put_zeros(&mut cells, count)?;
     Ok(cells)
 }

@@ -31,7 +31,7 @@ pub struct CellsRead {
 }
 
 impl CellsRead {
-    /// No cells, with room for those of a bank.
+    /// No cells, with room for those of a bank, and for the words of a casting phase behind them.
     #[tactic(auto, using(ballot_record::proofs::CellFormat::header_width))]
     pub fn new(alloc: Global, election: &Election) -> Result<CellsRead, Memory>
         ensures judged { IfOk result (λ cells. AreJudged election.now cells []) }
@@ -39,7 +39,7 @@ impl CellsRead {
     {
         prove!(election.contests() <= MAX_CONTESTS);
         Ok(CellsRead {
-            numbers: Vec::with_capacity(alloc, election.cells())?,
+            numbers: Vec::with_capacity(alloc, election.cells() + election.limit() as usize)?,
             reaches: Vec::with_capacity(alloc, election.limit() as usize)?,
             barred: Barred::new(alloc, election)?,
         })

@@ -9,3 +9,6 @@ pub mod Taken
 pub mod OwnLayout
 pub mod StandsStill
 pub mod Carried
+pub mod Keyed
+pub mod Changing
+pub mod Marks

@@ -1,22 +1,26 @@
 //! Where the numbers of a set stand in the cells of a store.
 #![tactic(auto)]
 
+mod changes;
 pub mod laws;
 mod probe;
 mod search;
 mod walk;
+mod zeros;
 
 ghost use Rattle.layout_def.specs.Pointers.{AreSound};
 ghost use Rattle.std.specs.List.Sorted.{IsNonDecreasing};
 ghost use Rattle.std.specs.Prelude.{◌≡◌, ◌≢◌, ◌+◌, ◌≤◌, All, AllPairs, IfOk, length, replicate};
 ghost use Rattle.store_spec.specs.Layout.{HasRoom, layout_of};
 
+pub use changes::{BLOCK, CellChange, changes_between, exchange, note_changes, other_cells};
 use outside_io::Memory;
 use probe::{first_empty, fresh_pointers};
 use probe_order::Order;
 pub use search::{is_ordered, place_of};
 use std::alloc::Global;
 use walk::put_all;
+pub use zeros::put_zeros;
 
 /// The cells that hold these numbers, where each stands in the first cell at or after its home that no greater number takes.
 /// It takes time near n where homes are spread out, and near n log n in any case.

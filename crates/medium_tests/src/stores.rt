@@ -7,6 +7,7 @@ ghost use Rattle.store_spec.specs.Election.{cell_count, example};
 
 use ballot_record::{BallotList, Election, MAX_MARK_SETS, Record};
 use body_store::Closed;
+use layout_def::changes_between;
 use outside_io::Memory;
 use std::alloc::Global;
 use std::process::Abort;
@@ -70,8 +71,8 @@ fn add(alloc: Global, store: &mut Closed, numbers: &[u64], all: &Closed) -> Resu
         ++ map (λ n. record { number = n; style = 1; marks = replicate MARK_SETS 0 }) numbers.now }
 {
     let new = blanks(alloc, numbers)?;
-    let cells = all.cells().to_vec(alloc)?;
-    store.merge(alloc, from_ref(&new), cells)
+    let changes = changes_between(alloc, store.cells(), all.cells(), numbers.len())?;
+    store.merge(alloc, from_ref(&new), changes)
 }
 
 /// Takes ballots out of a store, which then has those of another.
@@ -81,7 +82,8 @@ fn remove(alloc: Global, store: &mut Closed, rest: &Closed) -> Result<(), Memory
     requires rest { (numbers : List ℕ)
         × (rest.now.ballots ≡ ballots_without store.old.ballots numbers) }
 {
-    store.without(alloc, rest.cells().to_vec(alloc)?)
+    let changes = changes_between(alloc, store.cells(), rest.cells(), store.len())?;
+    store.without(alloc, changes)
 }
 
 /// The cells of the example from cell 4 on, before which and behind which all are empty.

@@ -4,6 +4,5 @@ pub mod Media
 pub mod Merged
 pub mod Ranges
 pub mod Running
-pub mod Same
 pub mod Standing
 pub mod Unions

@@ -1,13 +1,16 @@
 -- The ballots of a set are joined one after another with those that are kept, both in ascending order.
 use Rattle.std.proofs.Common.{◌≡◌, ◌≢◌, ℕ, ◌+◌, ◌-◌, ◌<◌, ◌≤◌, ⊎_elim, List, [], ◌∷◌, ◌++◌, length, get_or, map, take, drop, Option, Some, sym, ap, subst, ◌∙◌, append_assoc, length-append, arith}
-use Rattle.store_spec.proofs.Common.{All, All-append, All-push, All-weaker, Ballot, Contains, Contains-append_right, Contains-get_or, append-nil, ballot_of, cases_lt, get_or-drop, get_or-map, get_or_default, get_or_from_slice_get, length-drop, length-map, numbers_of, slice_get, slice_get_within, slice_range, take_all, take_more}
+use Rattle.store_spec.proofs.Common.{All, All-append, All-push, All-weaker, Ballot, Contains, Contains-append_right, Contains-get_or, append-nil, ballot_of, cases_lt, cell_count, cells_of, get_or-drop, get_or-map, get_or_default, get_or_from_slice_get, length-drop, length-map, numbers_of, slice_get, slice_get_within, slice_range, take_all, take_more}
 use Rattle.ballot_record.proofs.BallotNumbers.{length-numbers_of, no_ballot, number_at}
 use Rattle.ballot_record.proofs.BallotSets.{Ascend}
 use Rattle.ballot_record.proofs.Lookups.{found_once}
+use Rattle.body_store.proofs.BallotSets.{held_layout, may_hold_set}
+use Rattle.body_store.specs.Contents.{Contents, IsStored}
+use Rattle.body_store.specs.Places.{AreAt}
 use Rattle.body_store.specs.declared.lookup.Place.{Place}
 use Rattle.merge_media.proofs.Ascending.{AreAbove, AreBelow}
 use Rattle.merge_media.proofs.Joining.{joined_begins}
-use Rattle.merge_media.proofs.Ranges.{range_end, range_more, range_none, range_rest}
+use Rattle.merge_media.proofs.Ranges.{range_end, range_rest}
 use Rattle.merge_media.specs.Union.{IsJoinedOf}
 
 -- ---- one ballot
@@ -112,25 +115,6 @@ found_at set i n up lt is =
     found_once set n (get_or set i no_ballot) (λ i j d less within same. let above = up i j d less within in omega arith)
     (Contains-get_or set i no_ballot lt) (sym (number_at set i 0 lt) ∙ is)
 
-pub found_is : (set : List Ballot) (i n : ℕ) (s : Ballot) → Ascend set → i < length set → get_or (numbers_of set) i 0 ≡ n → ballot_of set n ≡ Some s
-    → (get_or set i s ≡ s) × (s.number ≡ n)
-found_is set i n s up lt is found =
-    let both : Some (get_or set i no_ballot) ≡ Some s = sym (found_at set i n up lt is) ∙ found in
-    let same : get_or set i no_ballot ≡ s = cc in
-    (get_or_default set i s no_ballot lt ∙ same, ap (λ (b : Ballot). b.number) (sym same) ∙ sym (number_at set i 0 lt) ∙ is)
-
--- ---- a part of a list is put behind another
-
-pub put_none : (kept out : List Ballot) (from : ℕ) → out ≡ out ++ slice_range kept from from
-put_none kept out from = sym (ap (λ xs. out ++ xs) (range_none kept from) ∙ append-nil out)
-
-pub put_more : (kept start out after : List Ballot) (from at : ℕ) (b : Ballot) → from ≤ at → slice_get kept at ≡ Some b → out ≡ start ++ slice_range kept from at
-    → after ≡ out ++ b ∷ [] → after ≡ start ++ slice_range kept from (at + 1)
-put_more kept start out after from at b le there before pushed =
-    pushed ∙ ap (λ xs. xs ++ b ∷ []) before ∙ append_assoc start (slice_range kept from at) (b ∷ [])
-    ∙ ap (λ c. start ++ (slice_range kept from at ++ c ∷ [])) (sym (get_or_from_slice_get kept at b b there))
-    ∙ ap (λ xs. start ++ xs) (sym (range_more kept from at b le (slice_get_within kept at b there)))
-
 -- ---- the ballot that stands next
 
 pub next_kept : (out kept : List Ballot) (next : ℕ) (b : Ballot) → slice_get kept next ≡ Some b → Contains (out ++ drop next kept) b
@@ -157,3 +141,29 @@ numbered set listed held i d same numbers lt =
 pub listed_all : (set : List Ballot) (listed held : List Place) → listed ≡ held → map (λ place. place.number) held ≡ numbers_of set → length listed ≡ length set
 listed_all set listed held same numbers =
     sym (length-map listed (λ place. place.number)) ∙ ap length (ap (map (λ (place : Place). place.number)) same ∙ numbers) ∙ length-numbers_of set
+
+abbrev pub nowhere : Place
+nowhere = record { number = 0; cell = 0 }
+
+-- the ballot of a store whose number stands at a place, and its cell
+pub record StandsNext (store : Contents) (i n cell : ℕ) : Type 0 where
+  pub within : i < length store.ballots
+  pub number : (get_or store.ballots i no_ballot).number ≡ n
+  pub cell_within : cell < cell_count store.election
+  pub found : ballot_of store.ballots (get_or (cells_of store.election store.ballots) cell 0) ≡ Some (get_or store.ballots i no_ballot)
+
+pub stands_next : (store : Contents) (listed held : List Place) (i : ℕ) → IsStored store → listed ≡ held
+    → map (λ place. place.number) held ≡ numbers_of store.ballots → AreAt (cells_of store.election store.ballots) held → i < length listed
+    → StandsNext store i (get_or listed i nowhere).number (get_or listed i nowhere).cell
+stands_next store listed held i stored same numbers are lt =
+    let set = store.ballots in
+    let place = get_or listed i nowhere in
+    let at = numbered set listed held i nowhere same numbers lt in
+    let there = subst (AreAt (cells_of store.election set)) (sym same) are i nowhere lt in
+    let size = (held_layout store.election set stored.election (may_hold_set store.election set stored.set stored.within_limit)).size in
+    record {
+      within = at.0;
+      number = sym (number_at set i 0 at.0) ∙ at.1;
+      cell_within = omega (arith, there.0, size);
+      found = ap (ballot_of set) there.1 ∙ found_at set i place.number stored.set.ascending at.0 at.1;
+    }

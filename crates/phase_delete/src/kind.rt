@@ -90,6 +90,10 @@ impl Kind for Withdrawing {
         0
     }
 
+    fn prepare(_closed: &mut Closed) -> Result<(), Memory> {
+        Ok(())
+    }
+
     fn begin(
         alloc: Global,
         closed: &Closed,
@@ -136,13 +140,27 @@ impl Kind for Withdrawing {
             (map (λ list. list.items) finals.items) closed.new.ballots) }
         ensures unchanged { OnErr result (closed.new ≡ closed.old) }
     {
-        let cells = words.close(alloc, seats)?;
+        let changes = words.close(
+            alloc,
+            seats,
+            closed.cells(),
+            lines_in(&trays).min(closed.len()),
+        )?;
         let replies = all_replies(alloc, trays)?;
-        closed.without(alloc, cells)?;
+        closed.without(alloc, changes)?;
         Ok(replies)
     }
 
     fn trays_tell() {}
+}
+
+/// How many lines trays have.
+fn lines_in(trays: &[Tray<Vec<u64>, WithdrawReply>]) -> usize {
+    let mut count: usize = 0;
+    for tray in trays {
+        count = count.saturating_add(tray.replies.len());
+    }
+    count
 }
 
 /// The replies of trays.

@@ -1,6 +1,7 @@
 //! What becomes of the trays of a phase: the ballots that were accepted, and the final replies.
 
 ghost use Rattle.body_store.specs.Contents.{IsStored};
+ghost use Rattle.layout_def.specs.Changes.{AreChanges};
 ghost use Rattle.phase_insert.specs.Ends.{AreAllFinals, AreFinals, Decides, IsAnswer, all_accepted};
 ghost use Rattle.phase_insert.specs.Tray.{Cast, IsAllAccepted, IsTrayPaired, ballots_that, casts_of, is_accepted};
 ghost use Rattle.std.specs.Prelude.{◌≡◌, ◌^◌, ◌<◌, ◌≤◌, ◌++◌, [], ◌∷◌, false, true, All, IfOk, IsPermutation, OnErr, OnOk, Some, flat_map, length, map, slice_get, vec_capacity};
@@ -11,18 +12,19 @@ use crate::kind::CastTray;
 use crate::{CastReply, Final};
 use ballot_record::{BallotList, Election, MAX_LIMIT};
 use body_store::Closed;
+use layout_def::CellChange;
 use outside_io::Memory;
 use std::alloc::Global;
 use std::slice::from_ref;
 
 /// Adds to a store the ballots of trays that were accepted, and tells the final replies, for which there is room. Where all
-/// were accepted, the store takes them from the lists of the trays; else what was accepted is copied. `cells` is the layout
-/// of all. After `Memory` the store is as it was.
+/// were accepted, the store takes them from the lists of the trays; else what was accepted is copied. `changes` make the
+/// store's cells those of all. After `Memory` the store is as it was.
 pub fn add_accepted(
     alloc: Global,
     closed: &mut Closed,
     trays: Vec<CastTray>,
-    cells: Vec<u64>,
+    changes: Vec<CellChange>,
     finals: &mut [Vec<Final>],
 ) -> Result<(), Memory>
     requires stored { IsStored closed.old }
@@ -32,8 +34,8 @@ pub fn add_accepted(
         (closed.old.ballots ++ all_accepted (map casts_of trays.items)) }
     requires within_limit { IsWithinLimit closed.old.election
         (closed.old.ballots ++ all_accepted (map casts_of trays.items)) }
-    requires layout { cells.items ≡ cells_of closed.old.election
-        (closed.old.ballots ++ all_accepted (map casts_of trays.items)) }
+    requires changes { AreChanges (cells_of closed.old.election closed.old.ballots) (cells_of closed.old.election
+        (closed.old.ballots ++ all_accepted (map casts_of trays.items))) changes.items }
     requires empty { All (λ list. list.items ≡ []) finals.old }
     requires room { map (λ list. vec_capacity list) finals.old
         ≡ map (λ tray. length tray.replies.items) trays.items }
@@ -48,10 +50,10 @@ pub fn add_accepted(
     if are_all_accepted(&trays) {
         all_finals(closed, &trays, finals);
         let lists = lists_of(alloc, trays)?;
-        return closed.merge(alloc, &lists, cells);
+        return closed.merge(alloc, &lists, changes);
     }
     let accepted = accepted(alloc, closed.election(), &trays)?;
-    closed.merge(alloc, from_ref(&accepted), cells)?;
+    closed.merge(alloc, from_ref(&accepted), changes)?;
     all_finals(closed, &trays, finals);
     Ok(())
 }
@@ -127,6 +129,15 @@ fn accepted_in(trays: &[CastTray]) -> usize
                 count = count.saturating_add(1);
             }
         }
+    }
+    count.min(MAX_LIMIT as usize)
+}
+
+/// How many ballots of trays were cast, or as many as a store may hold.
+pub fn casts_in(trays: &[CastTray]) -> usize {
+    let mut count: usize = 0;
+    for tray in trays {
+        count = count.saturating_add(tray.replies.len());
     }
     count.min(MAX_LIMIT as usize)
 }

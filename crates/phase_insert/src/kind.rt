@@ -9,7 +9,7 @@ ghost use Rattle.word_rule.specs.Places.{AreAll, AreMadeOf};
 ghost use Rattle.word_rule.specs.Stores.{IsShapeOf};
 
 use crate::claiming::claim;
-use crate::closing::{add_accepted, room_for_finals};
+use crate::closing::{add_accepted, casts_in, room_for_finals};
 use crate::{CastReply, Final};
 use ballot_record::BallotList;
 use body_store::Closed;
@@ -119,6 +119,10 @@ impl Kind for Casting {
         closed.election().limit() as usize - closed.len()
     }
 
+    fn prepare(closed: &mut Closed) -> Result<(), Memory> {
+        closed.make_words()
+    }
+
     fn begin(
         alloc: Global,
         closed: &Closed,
@@ -168,9 +172,9 @@ impl Kind for Casting {
             (map (λ list. list.items) finals.items) closed.new.ballots) }
         ensures unchanged { OnErr result (closed.new ≡ closed.old) }
     {
-        let cells = words.close(alloc, seats)?;
+        let changes = words.close(alloc, seats, closed.cells(), casts_in(&trays))?;
         let mut finals = room_for_finals(alloc, &trays)?;
-        add_accepted(alloc, closed, trays, cells, &mut finals)?;
+        add_accepted(alloc, closed, trays, changes, &mut finals)?;
         Ok(finals)
     }
 

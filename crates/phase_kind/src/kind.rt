@@ -115,6 +115,10 @@ pub trait Kind: Drop + Sync {
     fn claims(closed: &Closed) -> usize
         ensures { may_claim closed.now result };
 
+    /// Makes a store ready for a phase. It is as it was.
+    fn prepare(closed: &mut Closed) -> Result<(), Memory>
+        ensures { closed.new ≡ closed.old };
+
     /// Shared words over the cells of a store, and so many new seats.
     fn begin(
         alloc: Global,

@@ -37,7 +37,7 @@ impl<K: Kind> PhaseOf<K> {
     /// memory that its workers need is taken here.
     pub fn begin(
         alloc: Global,
-        closed: Closed,
+        mut closed: Closed,
         plan: &[u32],
     ) -> Result<(PhaseOf<K>, Vec<Worker<K>>), (Closed, Memory)>
         requires some_worker { 1 ≤ length plan.now }
@@ -49,6 +49,9 @@ impl<K: Kind> PhaseOf<K> {
             (λ begun. begun.1.items ≡ map (new_worker K.fresh begun.0) plan.now) }
         ensures given_back { IfErr result (λ refused. refused.0 ≡ closed) }
     {
+        if let Err(memory) = K::prepare(&mut closed) {
+            return Err((closed, memory));
+        }
         match opened(alloc, &closed, plan) {
             Ok((shape, words, workers)) => Ok((
                 PhaseOf {
@@ -66,7 +69,7 @@ impl<K: Kind> PhaseOf<K> {
     /// that its workers need is taken here. A list of 2^32 items and more counts as lack of memory.
     pub fn begin_with(
         alloc: Global,
-        closed: Closed,
+        mut closed: Closed,
         work: Vec<K::List>,
     ) -> Result<(PhaseOf<K>, Vec<Worker<K>>), (Closed, Memory)>
         requires some_worker { 1 ≤ length work.items }
@@ -79,6 +82,9 @@ impl<K: Kind> PhaseOf<K> {
             (λ begun. begun.1.items ≡ map (worker_with K.fresh begun.0) (map K.items work.items)) }
         ensures given_back { IfErr result (λ refused. refused.0 ≡ closed) }
     {
+        if let Err(memory) = K::prepare(&mut closed) {
+            return Err((closed, memory));
+        }
         match opened_with(alloc, &closed, work) {
             Ok((shape, words, workers)) => Ok((
                 PhaseOf {

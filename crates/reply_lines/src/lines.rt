@@ -15,11 +15,25 @@ pub fn push_all_replies<R: Reply>(text: &mut String, lists: &[Vec<R>]) -> Result
         (λ _. string_bytes text.new ≡ string_bytes text.old
         ++ all_reply_lines 1 (map (λ list. map R.word list.items) lists.now)) }
 {
+    text.reserve(usual_bytes(lists))?;
     'lists: for (at, replies) in lists.iter().enumerate() {
         push_replies(text, at + 1, replies)?;
     }
     Ok(())
 }
+
+/// How many bytes the lines of these replies take at most, in general. A text that is as long at once is not copied as it
+/// grows.
+fn usual_bytes<R: Reply>(lists: &[Vec<R>]) -> usize {
+    let mut count: usize = 0;
+    for replies in lists {
+        count = count.saturating_add(replies.len());
+    }
+    count.saturating_mul(USUAL_LINE)
+}
+
+/// How many bytes the line of a reply has at most, in general.
+const USUAL_LINE: usize = 20;
 
 /// The most bytes of a word.
 pub const MAX_WORD: usize = 20;

@@ -6,6 +6,7 @@ ghost use Rattle.store_spec.specs.CastStep.CastState.{Rest};
 ghost use Rattle.store_spec.specs.Layout.{numbers_in};
 ghost use Rattle.word_rule.specs.CastWords.{MayBeginWith};
 
+use crate::changed::changed;
 use crate::draws::{FEW_HOMES, drawn, number_at};
 use CastNote::{Claimed, Placed, Quiet, Taken};
 use Kind::{Carrying, Probing, Ready, Rest};
@@ -120,6 +121,7 @@ fn two_seats(
     requires size { length cells.now ≡ 16 }
     requires room { length (numbers_in cells.now) + claims ≤ 8 }
     ensures base { result.0.base ≡ cells.now }
+    ensures cells { result.0.shape.cells ≡ 16 }
     ensures claims { result.0.shape.claims ≡ claims }
     ensures two { result.0.seats ≡ 2 }
     ensures belong { (result.1.words ≡ result.0) × (result.2.words ≡ result.0) }
@@ -155,14 +157,22 @@ fn turn(rt: &impl Abort, words: &CastWords, cells: &[u64], seat: &mut CastSeat, 
     assert_eq!(rt; kind_of(seat.state()), (row.3, row.4));
 }
 
-/// The cells at the end, from two seats.
-fn close(alloc: Global, words: CastWords, one: CastSeat, two: CastSeat) -> Result<Vec<u64>, Memory>
+/// The cells at the end, from two seats at words over these cells.
+fn close(
+    alloc: Global,
+    words: CastWords,
+    cells: &[u64],
+    one: CastSeat,
+    two: CastSeat,
+) -> Result<Vec<u64>, Memory>
+    requires as_many { length cells.now ≡ words.shape.cells }
     requires two { words.seats ≡ 2 }
     requires belong { (one.words ≡ words) × (two.words ≡ words) }
     requires at_rest { (one.view.state ≡ Rest) × (two.view.state ≡ Rest) }
 {
     let seats = vec![in alloc; one, two]?;
-    words.close(alloc, seats)
+    let changes = words.close(alloc, seats, cells, 0)?;
+    changed(alloc, cells, changes)
 }
 
 /// Rows at words over these cells, after which the seats are at rest, and these numbers stand from cell 4 on.
@@ -180,7 +190,7 @@ fn play(rt: &impl Abort, alloc: Global, cells: &[u64], claims: usize, rows: &[Ro
     }
     assert!(rt; is_at_rest(&one));
     assert!(rt; is_at_rest(&two));
-    let left = close(alloc, words, one, two).expect(rt, "memory");
+    let left = close(alloc, words, cells, one, two).expect(rt, "memory");
     assert_eq!(rt; left.get(4..7), Some(ends.as_slice()));
 }
 

@@ -7,6 +7,8 @@ mod cast_words;
 #[cfg(test)]
 mod casting;
 #[cfg(test)]
+mod changed;
+#[cfg(test)]
 mod draws;
 #[cfg(test)]
 mod turns;

@@ -6,6 +6,7 @@ ghost use Rattle.store_spec.specs.WithdrawStep.WithdrawState.{Rest};
 ghost use Rattle.word_rule.specs.Places.{AreWhole};
 ghost use Rattle.word_rule.specs.WithdrawSeats.{IsAtRest};
 
+use crate::changed::changed;
 use crate::draws::{FEW_HOMES, drawn, number_at};
 use Kind::{Chosen, Down, Owing, Rest, Up};
 use WithdrawNote::{Begun, Done, Gone, Quiet};
@@ -306,7 +307,9 @@ fn two_seats_at_once(rt: HostRuntime) {
     );
     seats.push(first).expect(&rt, "memory");
     seats.push(second).expect(&rt, "memory");
-    let cells = words.close(rt.alloc(), seats).expect(&rt, "memory");
+    let alloc = rt.alloc();
+    let changes = words.close(alloc, seats, &CELLS, 16).expect(&rt, "memory");
+    let cells = changed(alloc, &CELLS, changes).expect(&rt, "memory");
     assert_eq!(rt;
         cells.as_slice(),
         [0, 0, 0, 0, 1, 14, 0, 0, 0, 0, 0, 0, 0, 0, 0, 0].as_slice()

@@ -11,7 +11,6 @@ pub mod CastStates
 pub mod CastTold
 pub mod Chains
 pub mod Closing
-pub mod Copying
 pub mod Dealing
 pub mod Joined
 pub mod Joining

@@ -1,11 +1,15 @@
 //! Shared words, whatever the phase: how they are made, and how they end.
 
-ghost use Rattle.std.specs.Prelude.{◌≡◌, ◌+◌, ◌^◌, ◌<◌, ◌≤◌, ◌++◌, [], IfOk, OnOk, length, replicate, take, vec_capacity};
+ghost use Rattle.layout_def.specs.Changes.{AreChanges};
+ghost use Rattle.std.specs.Mem.Slots.{IsFull, slots_items, slots_len};
+ghost use Rattle.std.specs.Prelude.{◌≡◌, ◌+◌, ◌^◌, ◌<◌, ◌≤◌, ◌++◌, ℕ, [], IfOk};
+ghost use Rattle.std.specs.Prelude.{List, OnOk, drop, length, replicate, slice_index, take, true};
 ghost use Rattle.word_rule.specs.Places.{AreAll, AreMadeOf, AreWhole};
 ghost use Rattle.word_rule.specs.Seats.{HasEnded};
 
 use crate::seats::{Known, Opening, PhaseRule, SeatOf, Seated, deal_seats, join_seats};
-use atomic_table::{Seat, Shared, Table};
+use atomic_table::{Closed, Seat, Table};
+use layout_def::{BLOCK, CellChange, note_changes, put_zeros};
 use outside_io::Memory;
 use std::alloc::Global;
 use std::marker::Model;
@@ -80,53 +84,32 @@ impl<V, Q: PhaseRule<V>> WordsOf<V, Q> {
         self.table.shared.peek(cell)
     }
 
-    /// The cells at the end, from all seats. Each seat but one costs one step on word 0.
-    pub fn close(self, alloc: Global, seats: Vec<SeatOf<V, Q>>) -> Result<Vec<u64>, Memory>
-        requires { AreWhole Q.rests self seats.items }
-        ensures cells { IfOk result (λ cells. cells.items ≡ Q.cells_after self seats.items) }
+    /// What changes from the cells of before to those at the end, from all seats. It has room for so many changes at
+    /// first. Each seat but one costs one step on word 0.
+    pub fn close(
+        self,
+        alloc: Global,
+        seats: Vec<SeatOf<V, Q>>,
+        before: &[u64],
+        room: usize,
+    ) -> Result<Vec<CellChange>, Memory>
+        requires whole { AreWhole Q.rests self seats.items }
+        requires as_many { length before.now ≡ self.shape.cells }
+        ensures changes { IfOk result (λ changes. AreChanges before.now
+            (Q.cells_after self seats.items) changes.items) }
         ensures lists { IfOk result (λ _. Q.agree_on self seats.items) }
     {
         Q::laws();
-        let Self { shape, table } = self;
-        let behind = if is_mostly_free(&table.shared, shape.cells, Q::words_behind(&shape)) {
-            shape.claims
-        } else {
-            0
-        };
-        let mut cells = Vec::with_capacity(alloc, shape.cells.saturating_add(behind))?;
+        let mut changes = Vec::with_capacity(alloc, room.saturating_add(BLOCK))?;
+        let Self { shape: _, table } = self;
         let whole = join_seats(&table.shared, seats);
-        close_table(table, whole, shape.cells, &mut cells);
-        Ok(cells)
+        close_table(table, whole, before, &mut changes)?;
+        Ok(changes)
     }
 }
 
-/// At how many words it is looked whether most are free.
-const LOOKS: usize = 64;
-
-/// Most of so many words behind the cells are 0, as far as a few looks tell: many will be so in a next phase, and room for
-/// them behind its cells is worth its memory. It promises nothing.
-fn is_mostly_free<V, Q: PhaseRule<V>>(
-    shared: &Shared<(), Known<V>, Opening, Seated<Q>>,
-    cells: usize,
-    behind: usize,
-) -> bool
-    requires within { cells + behind ≤ shared.now.table_id.words }
-    requires few { cells + behind < 2 ^ 32 }
-{
-    let step = behind / LOOKS;
-    let mut free = 0;
-    for look in 0..LOOKS {
-        if step > 0 && shared.peek(cells + look * step) == 0 {
-            free += 1;
-        }
-    }
-    free > LOOKS / 2
-}
-
-/// How many words are put at once. A block of this size is copied in the widest steps that the processor has.
-const BLOCK: usize = 250;
-
-const ZEROS: [u64; BLOCK] = [0; BLOCK];
+/// How many cells are copied at once. A block of this size is copied in the widest steps that the processor has.
+const COPIED: usize = 250;
 
 /// The cells, and behind them so many words that are 0.
 fn lay_out(alloc: Global, cells: &[u64], more: usize) -> Result<Vec<u64>, Memory>
@@ -136,44 +119,88 @@ fn lay_out(alloc: Global, cells: &[u64], more: usize) -> Result<Vec<u64>, Memory
     let mut words = Vec::with_capacity(alloc, cells.len() + more)?;
     while words.len() < cells.len() {
         let at = words.len();
-        let count = BLOCK.min(cells.len() - at);
+        let count = COPIED.min(cells.len() - at);
         words.extend_from_slice(&cells[at..at + count])?;
     }
     put_zeros(&mut words, more)?;
     Ok(words)
 }
 
-/// Puts so many words that are 0 behind others.
-fn put_zeros(words: &mut Vec<u64>, more: usize) -> Result<(), Memory>
-    ensures { OnOk result (words.new.items ≡ words.old.items ++ replicate more 0) }
+/// Notes what changes from the cells of before to the first words of a table at its end, which a seat saw.
+fn close_table<V, Q: PhaseRule<V>>(
+    table: Table<(), Known<V>, Opening, Seated<Q>, Global>,
+    seat: Seat<(), Known<V>>,
+    before: &[u64],
+    changes: &mut Vec<CellChange>,
+) -> Result<(), Memory>
+    requires table { seat.table_id ≡ table.shared.table_id }
+    requires no_slots { table.shared.table_id.slots ≡ 0 }
+    requires within { length before.now ≤ table.shared.table_id.words }
+    requires few { length before.now < 2 ^ 32 }
+    requires none { changes.old.items ≡ [] }
+    ensures { OnOk result ((cells : List ℕ) × HasEnded Q.holds Q.fresh table.shared.key seat.id seat.me.0 cells
+        × AreChanges before.now cells changes.new.items) }
 {
-    let mut left = more;
-    while left > 0 {
-        let count = BLOCK.min(left);
-        words.extend_from_slice(&ZEROS[..count])?;
-        left -= count;
+    let closed = table.close_with(seat);
+    let noted = note_words(&closed, before, changes);
+    closed.free();
+    noted
+}
+
+/// Notes what changes from some cells to the first words of a closed table. Many are compared at once: where none changed,
+/// and behind these, without a copy.
+fn note_words(
+    closed: &Closed<(), Global>,
+    before: &[u64],
+    changes: &mut Vec<CellChange>,
+) -> Result<(), Memory>
+    requires full { IsFull closed.now.words }
+    requires within { length before.now ≤ slots_len closed.now.words }
+    requires few { length before.now < 2 ^ 32 }
+    requires none { changes.old.items ≡ [] }
+    ensures { OnOk result (AreChanges before.now
+        (take (length before.now) (slots_items closed.now.words)) changes.new.items) }
+{
+    let mut block = [0; BLOCK];
+    let mut many = false;
+    let mut at = 0;
+    while at < before.len() {
+        let end = before.len().min(at + BLOCK);
+        let cells = &before[at..end];
+        if many || !are_same(closed, at, cells) {
+            let noted = changes.len();
+            let now = &mut block[..end - at];
+            take_words(closed, at, now);
+            note_changes(changes, at, cells, now)?;
+            many = changes.len() > noted;
+        }
+        at = end;
     }
     Ok(())
 }
 
-/// Puts so many first words of a table at its end, which a seat saw, into an empty list, which has room for them.
-fn close_table<V, Q: PhaseRule<V>>(
-    table: Table<(), Known<V>, Opening, Seated<Q>, Global>,
-    seat: Seat<(), Known<V>>,
-    count: usize,
-    cells: &mut Vec<u64>,
-)
-    requires table { seat.table_id ≡ table.shared.table_id }
-    requires no_slots { table.shared.table_id.slots ≡ 0 }
-    requires within { count ≤ table.shared.table_id.words }
-    requires none { cells.old.items ≡ [] }
-    requires room { count ≤ vec_capacity cells.old }
-    ensures ended { HasEnded Q.holds Q.fresh table.shared.key seat.id seat.me.0 cells.new.items }
-    ensures size { length cells.new.items ≡ count }
+/// Words of a closed table, from one on, are the same as some cells. It does not stop at the first that differs, so that
+/// many are compared at once.
+fn are_same(closed: &Closed<(), Global>, first: usize, cells: &[u64]) -> bool
+    requires full { IsFull closed.now.words }
+    requires within { first + length cells.now ≤ slots_len closed.now.words }
+    ensures { result ≡ true → ((k : ℕ) → k < length cells.now
+        → slice_index cells.now k ≡ slice_index (slots_items closed.now.words) (first + k)) }
 {
-    let closed = table.close_with(seat);
-    for place in 0..count {
-        cells.push_reserved(closed.word(place));
+    let mut same = true;
+    for place in 0..cells.len() {
+        same &= closed.word(first + place) == cells[place];
     }
-    closed.free();
+    same
+}
+
+/// Puts words of a closed table, from one on, in place of others.
+fn take_words(closed: &Closed<(), Global>, first: usize, words: &mut [u64])
+    requires full { IsFull closed.now.words }
+    requires within { first + length words.old ≤ slots_len closed.now.words }
+    ensures { words.new ≡ take (length words.old) (drop first (slots_items closed.now.words)) }
+{
+    for place in 0..words.len() {
+        words[place] = closed.word(first + place);
+    }
 }

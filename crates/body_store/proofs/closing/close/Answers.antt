@@ -1,66 +1,28 @@
-use Rattle.std.proofs.Common.{◌≡◌, ℕ, ◌+◌, ◌*◌, List, length, sym, ap, subst, ◌∙◌, arith}
-use Rattle.store_spec.proofs.Common.{IsOrdered, cell_bytes, cell_size, header_size, home_of, on_ok_weaker, with_items_is}
-use Rattle.std.proofs.lemmas.Result.{on_err_weaker}
-use Rattle.body_store.proofs.Keeping.{few_cells, shown_layout, shown_size}
-use Rattle.body_store.proofs.Relaying.{cells_before, each_wide, empty_blank, laid_ordered, laid_size, new_in_cells, number_from, relaid, rest_held}
+use Rattle.std.proofs.Common.{◌≡◌, List, sym, subst, subst₂, ◌∙◌, arith}
+use Rattle.store_spec.proofs.Common.{cells_of, with_items_is}
 use Rattle.body_store.proofs.closing.close.Goals as goal
-use Rattle.body_store.specs.Contents.{all_listed}
 use Rattle.body_store.specs.Held.{Shows}
-use Rattle.body_store.specs.Moves.{AreImageCells}
+use Rattle.layout_def.specs.Changes.{AreChanges}
+use Rattle.layout_def.specs.declared.changes.CellChange.{CellChange}
 
-pub relay-requires : goal.relay-requires
-relay-requires g c =
+pub fill-requires : goal.fill-requires
+fill-requires g c =
     let e = c.args.election.now in
-    let more = all_listed c.args.lists.now in
-    let bytes = c.deref_mut.result.now in
-    let numbers = c.args.old_cells.now in
-    let cells = c.args.cells.now in
-    let close = c.requires.0 in
-    let shown = subst (λ (bytes : List ℕ). Shows e g.change.old bytes numbers) (sym c.deref_mut.ensures.value) c.requires.1.1.0 in
-    let laid = c.requires.1.1.1 in
-    let held = rest_held e more g.change close in
-    let size = laid_size e g.change.rest cells close.election held laid in
-    let was = (shown_layout e g.change.old bytes numbers shown).size in (
-      c.requires.1.0,
-      record {
-        election = close.election;
-        wide = each_wide e more g.change close;
-        blank = empty_blank e more g.change close;
-        new_ballots = new_in_cells e more g.change close;
-        as_many = was ∙ sym size;
-        before = record {
-          long = shown_size e g.change.old bytes numbers shown ∙ ap (λ n. header_size + n * cell_size e) (sym was);
-          each = λ cell lt. cells_before e more g.change bytes numbers close shown cell (omega (arith, lt, was));
-        };
-        known = number_from e more g.change bytes numbers cells close shown laid;
-        ordered = subst (λ (b : ℕ). IsOrdered (home_of b c.order-order.result.salt) cells) (sym c.order-order.ensures.bits)
-            (subst (λ (s : ℕ). IsOrdered (home_of e.bits s) cells) (sym c.order-order.ensures.salt) (laid_ordered e g.change.rest cells close.election held laid));
-        few_cells = omega (arith, size, few_cells e close.election);
-        few_ballots = close.few;
-      },
+    let after = cells_of e g.change.rest in
+    let given = c.requires.1.1.0 in
+    let now = c.exchange.ensures after (subst (AreChanges c.args.cells.now after) (sym c.deref_mut.ensures.value) c.requires.1.1.1) in
+    let laid : c.numbers-numbers.result.now ≡ after = c.numbers-numbers.ensures.value ∙ now.0 in
+    let noted = c.deref.ensures.value ∙ with_items_is c.args.changes c.exchange.new.changes (omega (arith, c.exchange.auto.changes, c.deref_mut.ensures.len)) in (
+      c.requires.0,
+      (
+        c.requires.1.0,
+        (
+          subst (Shows e g.change.old c.args.image.now.items) given.cells given,
+          (
+            laid,
+            subst₂ (λ now (changes : List CellChange). AreChanges now (cells_of e g.change.old) changes) (sym laid) (sym noted)
+                (subst (λ was. AreChanges after was c.exchange.new.changes) given.cells now.1),
+          ),
+        ),
+      ),
     )
-
-pub returns-clause-shown : goal.returns-clause-shown
-returns-clause-shown g c =
-    let e = c.args.election.now in
-    let numbers = c.args.old_cells.now in
-    let cells = c.args.cells.now in
-    let bytes = c.deref_mut.result.now in
-    let now = c.relay.new.image in
-    let close = c.requires.0 in
-    let laid = c.requires.1.1.1 in
-    let shown = subst (λ (bytes : List ℕ). Shows e g.change.old bytes numbers) (sym c.deref_mut.ensures.value) c.requires.1.1.0 in
-    let size = laid_size e g.change.rest cells close.election (rest_held e (all_listed c.args.lists.now) g.change close) laid in
-    on_ok_weaker c.relay.result
-    (λ (is : AreImageCells e (cell_bytes e g.change.all) cells now).
-    let long : length now ≡ length bytes = is.long ∙ ap (λ n. header_size + n * cell_size e) size ∙ sym (shown_size e g.change.old bytes numbers shown) in
-    subst (λ (bytes : List ℕ). Shows e g.change.rest bytes cells) (sym (with_items_is c.args.image.now now (omega (arith, long, c.deref_mut.ensures.len))))
-    (relaid e (all_listed c.args.lists.now) g.change bytes numbers now cells close shown laid is.each c.relay.ensures.header long))
-    c.relay.ensures.after
-
-pub returns-clause-unchanged : goal.returns-clause-unchanged
-returns-clause-unchanged g c =
-    on_err_weaker c.relay.result
-    (λ (same : c.relay.new.image ≡ c.deref_mut.result.now).
-    with_items_is c.args.image.now c.relay.new.image (omega (arith, ap length same, c.deref_mut.ensures.len)) ∙ same ∙ c.deref_mut.ensures.value)
-    c.relay.ensures.unchanged

@@ -2,7 +2,7 @@ use Rattle.std.proofs.Common.{◌≡◌, ℕ, ◌<◌, ◌≤◌, ⊎_elim, get_
 use Rattle.store_spec.proofs.Common.{IsNonDecreasingBy, cases_lt, get_or_default, nat_cmp, ordering_index}
 use Rattle.std.proofs.lemmas.List.Sorted.{answers_always}
 use Rattle.body_store.proofs.Lookups.{cmp_equal, cmp_less, cmp_greater, cmp_rises}
-use Rattle.body_store.proofs.Planning.{among_at}
+use Rattle.layout_def.proofs.Keyed.{among_at}
 use Rattle.body_store.specs.declared.moves.Waiting.{Waiting}
 use Rattle.body_store.proofs.moves.waits_from.Goals as goal
 

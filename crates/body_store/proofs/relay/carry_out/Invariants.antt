@@ -8,11 +8,11 @@ use Rattle.body_store.proofs.relay.carry_out.Given as goal
 abbrev pub invariant-loop-one : goal.invariant-loop-one
 invariant-loop-one g l = record {
   after : (cell : ℕ) → cell < length l.cells
-      → (slice_index l.old_cells cell ≡ slice_index l.cells cell) ⊎ IsMoved (take l.one-index l.plan.moves.items) cell
-      → cell_in l.size cell l.image ≡ g.f (slice_index l.cells cell);
+      → (slice_index g.was.numbers cell ≡ slice_index l.cells cell) ⊎ IsMoved (take l.one-index l.plan.moves.items) cell
+      → cell_in l.size cell l.image ≡ g.was.bytes_of (slice_index l.cells cell);
   header : take header_size l.image ≡ take header_size l.initial.image;
   front : IsListStart l.lists l.front;
 }
 
 abbrev pub ghost-waiting : goal.ghost-waiting
-ghost-waiting g a = g.f
+ghost-waiting g a = g.was.bytes_of

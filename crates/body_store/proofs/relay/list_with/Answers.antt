@@ -1,4 +1,4 @@
-use Rattle.std.proofs.Common.{◌≡◌, ◌+◌, ◌≤◌, length, refl, subst, sym, ap, ◌∙◌, arith}
+use Rattle.std.proofs.Common.{◌≤◌, length, refl, subst, sym, ap, arith}
 use Rattle.ballot_record.specs.BallotList.{ListedBallots}
 use Rattle.body_store.proofs.Listed.{length-one_more}
 use Rattle.body_store.proofs.relay.list_with.Goals as goal

@@ -1,4 +1,4 @@
-use Rattle.std.proofs.Common.{ℕ, ◌+◌, ◌*◌, List, length, replicate, ap, sym, ◌∙◌, arith}
+use Rattle.std.proofs.Common.{ℕ, ◌+◌, ◌*◌, List, length, ap, sym, ◌∙◌, arith}
 use Rattle.store_spec.proofs.Common.{cell_size, header_size, home_of, numbers_of}
 use Rattle.ballot_record.proofs.BallotNumbers.{length-numbers_of}
 use Rattle.body_store.proofs.Planning.{all_noted}
@@ -10,11 +10,11 @@ arrivals : (new : Arrivals) (home : ℕ → ℕ) (old cells image : List ℕ) �
 arrivals new home old cells image given = record { election = given.election; wide = given.wide; each = given.new_ballots; few = given.few_ballots }
 
 pub count-front-requires : goal.count-front-requires
-count-front-requires g c = omega (arith, c.requires.1.1.few_ballots, ap length c.requires.1.0)
+count-front-requires g c = omega (arith, c.requires.1.1.0.few_ballots, ap length c.requires.1.0)
 
 pub take_in-requires : goal.take_in-requires
 take_in-requires g c =
-    let given = c.requires.1.1 in
+    let given = c.requires.1.1.0 in
     let size = c.cell_bytes-size.ensures.size ∙ ap cell_size (sym c.requires.0) in (
       given.ordered,
       (
@@ -23,8 +23,7 @@ take_in-requires g c =
           arrivals g.new _ _ _ _ given,
           (
             c.requires.1.0,
-            c.in_ok-plan.ensures.right g.new.bytes_of c.args.cells.now (arriving_bytes g.new)
-                (given.blank ∙ ap (λ size. replicate size 0) (sym size)),
+            c.in_ok-plan.ensures.right g.new.bytes_of c.args.cells.now (arriving_bytes g.new),
           ),
         ),
       ),
@@ -32,8 +31,8 @@ take_in-requires g c =
 
 pub take_out-requires : goal.take_out-requires
 take_out-requires g c =
-    let given = c.requires.1.1 in
-    let old = c.args.old_cells.now in
+    let given = c.requires.1.1.0 in
+    let old = g.new.before in
     let image = c.args.image.now in
     let size = c.cell_bytes-size.ensures.size ∙ ap cell_size (sym c.requires.0) in
     let taken = c.in_ok-take_in.ensures in (
@@ -47,12 +46,12 @@ take_out-requires g c =
             (
               given.few_cells,
               (
-                given.as_many,
+                c.requires.1.1.1,
                 (
-                  given.before.long ∙ ap (λ size. header_size + length old * size) (sym size),
+                  given.before.long ∙ ap (λ size. header_size + length old * size) (sym size) ∙ ap (λ n. header_size + n * c.cell_bytes-size.result) given.as_many,
                   (
                     λ cell lt. ap (λ size. cell_in size cell image) size ∙ given.before.each cell (omega (arith, lt, given.as_many)),
-                    (taken.right, ap length taken.bytes ∙ c.in_ok-plan.ensures.long),
+                    (taken.right, taken.bytes ∙ c.in_ok-plan.ensures.none),
                   ),
                 ),
               ),
@@ -62,15 +61,21 @@ take_out-requires g c =
       ),
     )
 
-pub find_far-requires-clause-noted : goal.find_far-requires-clause-noted
-find_far-requires-clause-noted g c cell lt changed =
-    let given = c.requires.1.1 in
+pub find_far-requires : goal.find_far-requires
+find_far-requires g c =
+    let given = c.requires.1.1.0 in
     let ballots = g.new.ballots in
-    let out = c.in_ok-take_out.ensures in
-    all_noted (home_of c.args.order.now.bits c.args.order.now.salt) (numbers_of ballots) c.args.old_cells.now
-    c.args.cells.now c.take_out.new.plan cell given.ordered given.as_many
-    (λ k within there same. out.still there (c.in_ok-take_in.ensures.sought k (omega (arith, within, length-numbers_of ballots)) there same))
-    out.left (given.known cell) lt changed
+    let out = c.in_ok-take_out.ensures in (
+      c.requires.1.1.1,
+      (
+        given.few_cells,
+        λ cell new.
+            all_noted (home_of c.args.order.now.bits c.args.order.now.salt) (numbers_of ballots) g.new.before
+            c.args.cells.now c.take_out.new.plan c.args.changes.now cell given.ordered c.requires.1.1.1
+            (λ k within there same. out.still there (c.in_ok-take_in.ensures.sought k (omega (arith, within, length-numbers_of ballots)) there same))
+            out.sought (given.known cell new.some) new,
+      ),
+    )
 
 pub returns-clause-right : goal.returns-clause-right
 returns-clause-right g c = c.in_ok-find_far.ensures.right g.new.bytes_of (arriving_bytes g.new) c.in_ok-take_out.ensures.right

@@ -5,3 +5,6 @@ ghost-take_in g a = g.new
 
 abbrev pub ghost-take_out : goal.ghost-take_out
 ghost-take_out g a = g.new
+
+abbrev pub ghost-find_far : goal.ghost-find_far
+ghost-find_far g a = g.new.before

@@ -1,4 +1,4 @@
-use Rattle.std.proofs.Common.{ℕ, List, Some, ◌≡◌, ◌+◌, ◌*◌, ◌-◌, ◌<◌, ◌≤◌, length, take, drop, subst, sym, ap, ◌∙◌, arith}
+use Rattle.std.proofs.Common.{ℕ, List, Some, ◌≡◌, ◌+◌, ◌*◌, ◌-◌, ◌≤◌, length, take, drop, subst, sym, ap, ◌∙◌, arith}
 use Rattle.store_spec.proofs.Common.{All, Election, IsElection, IsValid, ballot_bytes, cell_size, flat_map, slice_get, take_all}
 use Rattle.ballot_record.specs.BallotList.{ListedBallots}
 use Rattle.body_store.proofs.Listed.{stands, waits_among, waits_past}

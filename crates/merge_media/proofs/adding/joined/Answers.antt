@@ -1,14 +1,12 @@
-use Rattle.std.proofs.Common.{◌≡◌, ◌++◌, is_some, get_or, sym, ap, subst, ◌∙◌, arith}
-use Rattle.store_spec.proofs.Common.{All-contains, Ballot, Election, IsValid, slice_range}
-use Rattle.ballot_record.proofs.Lookups.{found_in}
+use Rattle.std.proofs.Common.{◌≡◌, ◌++◌, ℕ, List, Some, get_or, sym, ap, subst, ◌∙◌, arith}
+use Rattle.store_spec.proofs.Common.{Ballot, Election, IsCellOf, IsElection, ballot_of, cells_of, get_or_default, slice_range}
+use Rattle.ballot_record.proofs.BallotNumbers.{no_ballot}
+use Rattle.ballot_record.proofs.CellFormat.{spells_itself}
 use Rattle.ballot_record.specs.BallotList.{ListedBallots}
-use Rattle.ballot_record.specs.Record.{ballot}
-use Rattle.body_store.specs.declared.lookup.Place.{Place}
-use Rattle.merge_media.proofs.Running.{IsRun, below_next, found_at, found_is, listed_all, numbered, run_begins, run_ends, run_on}
+use Rattle.ballot_record.specs.Format.{ballot_at}
+use Rattle.body_store.specs.Contents.{Contents}
+use Rattle.merge_media.proofs.Running.{IsRun, StandsNext, below_next, listed_all, nowhere, run_begins, run_ends, run_on, stands_next}
 use Rattle.merge_media.proofs.adding.joined.Goals as goal
-
-abbrev nowhere : Place
-nowhere = record { number = 0; cell = 0 }
 
 pub places-init : goal.places-init
 places-init c =
@@ -20,63 +18,72 @@ places-init c =
       election = ap (λ (list : ListedBallots). list.election) c.in_ok-ballots.ensures ∙ c.election-election.ensures.election ∙ c.requires.election;
     }
 
-pub held-record-requires : goal.held-record-requires
-held-record-requires c =
-    let set = c.args.closed.now.ballots in
-    let i = c.places.place-index in
-    let at = numbered set c.deref-place-items.result.now c.in_ok-places.places.items i nowhere c.deref-place-items.ensures.value c.in_ok-places.ensures.numbers (omega arith) in
-    ap is_some (found_at set i (get_or c.deref-place-items.result.now i nowhere).number c.in_ok-places.ensures.stored.set.ascending at.0 at.1)
+-- the ballot that stands next is that of the cell
+spells_next : (store : Contents) (i number place : ℕ) (e : Election) (cell : List ℕ) → StandsNext store i number place → IsElection store.election → store.election ≡ e
+    → ((b : Ballot) → ballot_of store.ballots (get_or (cells_of store.election store.ballots) place 0) ≡ Some b → IsCellOf store.election cell b)
+    → (ballot_at e cell ≡ get_or store.ballots i no_ballot) × IsCellOf e cell (ballot_at e cell)
+spells_next store i number place e cell next election own held =
+    let b = get_or store.ballots i no_ballot in
+    let is : IsCellOf e cell b = subst (λ (e : Election). IsCellOf e cell b) own (held b next.found) in
+    let same : ballot_at e cell ≡ b = ap (ballot_at e) is.1 ∙ spells_itself e b (subst IsElection own election) is.0 in
+    (same, subst (IsCellOf e cell) (sym same) is)
 
-pub meet-requires-clause-valid : goal.meet-requires-clause-valid
-meet-requires-clause-valid c =
+pub cell-cell-requires : goal.cell-cell-requires
+cell-cell-requires c =
+    (stands_next c.args.closed.now c.deref-place-items.result.now c.in_ok-places.places.items c.places.place-index c.in_ok-places.ensures.stored
+    c.deref-place-items.ensures.value c.in_ok-places.ensures.numbers c.in_ok-places.ensures.cells (omega arith)).cell_within
+
+pub meet-requires : goal.meet-requires
+meet-requires c =
+    let kept = c.args.kept.now.ballots in
     let store = c.args.closed.now in
-    let s = ballot c.held-record.result in
-    let n = (get_or c.deref-place-items.result.now c.places.place-index nowhere).number in
-    let valid = All-contains (IsValid store.election) store.ballots s c.in_ok-places.ensures.stored.set.valid (found_in store.ballots n s c.held-record.ensures).0 in
-    subst (λ (e : Election). IsValid e s) (sym c.election-election.ensures.election) valid
-
-pub meet-requires-clause-below : goal.meet-requires-clause-below
-meet-requires-clause-below c =
-    let set = c.args.closed.now.ballots in
     let i = c.places.place-index in
+    let e = c.args.kept.now.election in
     let n = (get_or c.deref-place-items.result.now i nowhere).number in
-    let up = c.in_ok-places.ensures.stored.set.ascending in
-    let s = ballot c.held-record.result in
-    let at = numbered set c.deref-place-items.result.now c.in_ok-places.places.items i nowhere c.deref-place-items.ensures.value c.in_ok-places.ensures.numbers (omega arith) in
-    let is = found_is set i n s up at.0 at.1 c.held-record.ensures in
-    let number : (get_or set i s).number ≡ n = ap (λ (b : Ballot). b.number) is.0 ∙ is.1 in
-    let below = below_next c.args.kept.now.ballots set c.args.dispute c.places.ballots.ballots c.put_range.new.out.ballots c.places.next c.first_not_below-end.result i n c.places.dispute s
-    c.places.invariant.run at.0 number c.in_ok-put_range.ensures.put c.first_not_below-end.ensures.below in
-    λ k d lt. let less = below k d lt in let same : s.number ≡ n = is.1 in omega arith
-
-pub meet-requires-clause-not_below : goal.meet-requires-clause-not_below
-meet-requires-clause-not_below c lt =
-    let set = c.args.closed.now.ballots in
-    let i = c.places.place-index in
-    let n = (get_or c.deref-place-items.result.now i nowhere).number in
-    let up = c.in_ok-places.ensures.stored.set.ascending in
-    let s = ballot c.held-record.result in
-    let at = numbered set c.deref-place-items.result.now c.in_ok-places.places.items i nowhere c.deref-place-items.ensures.value c.in_ok-places.ensures.numbers (omega arith) in
-    let same : s.number ≡ n = (found_is set i n s up at.0 at.1 c.held-record.ensures).1 in
-    let least = c.first_not_below-end.ensures.not_below lt in
-    omega arith
+    let cell = c.cell-cell.result.now in
+    let s = ballot_at e cell in
+    let next = stands_next store c.deref-place-items.result.now c.in_ok-places.places.items i c.in_ok-places.ensures.stored
+    c.deref-place-items.ensures.value c.in_ok-places.ensures.numbers c.in_ok-places.ensures.cells (omega arith) in
+    let is = spells_next store i n _ e cell next c.in_ok-places.ensures.stored.election c.requires.election c.cell-cell.ensures.held in
+    let number : n ≡ s.number = sym (ap (λ (b : Ballot). b.number) is.0 ∙ next.number) in
+    let below = below_next kept store.ballots c.args.dispute c.places.ballots.ballots c.push_range.new.self.ballots c.places.next c.first_not_below-end.result i n c.places.dispute no_ballot
+    c.places.invariant.run next.within next.number c.in_ok-push_range.ensures.put c.first_not_below-end.ensures.below in (
+      is.1,
+      (
+        number,
+        (
+          c.in_ok-push_range.ensures.election ∙ c.places.invariant.election,
+          (
+            c.first_not_below-end.ensures.onward.1,
+            (
+              λ k d lt. let less = below k d lt in omega (arith, number, less),
+              λ lt. let least = c.first_not_below-end.ensures.not_below lt in omega (arith, number, least),
+            ),
+          ),
+        ),
+      ),
+    )
 
 pub places-preserved : goal.places-preserved
 places-preserved c =
     let kept = c.args.kept.now.ballots in
-    let set = c.args.closed.now.ballots in
+    let store = c.args.closed.now in
+    let set = store.ballots in
     let i = c.places.place-index in
+    let e = c.args.kept.now.election in
     let n = (get_or c.deref-place-items.result.now i nowhere).number in
-    let up = c.in_ok-places.ensures.stored.set.ascending in
-    let s = ballot c.held-record.result in
-    let at = numbered set c.deref-place-items.result.now c.in_ok-places.places.items i nowhere c.deref-place-items.ensures.value c.in_ok-places.ensures.numbers (omega arith) in
-    let is = found_is set i n s up at.0 at.1 c.held-record.ensures in
+    let cell = c.cell-cell.result.now in
+    let s = ballot_at e cell in
+    let next = stands_next store c.deref-place-items.result.now c.in_ok-places.places.items i c.in_ok-places.ensures.stored
+    c.deref-place-items.ensures.value c.in_ok-places.ensures.numbers c.in_ok-places.ensures.cells (omega arith) in
+    let is = spells_next store i n _ e cell next c.in_ok-places.ensures.stored.election c.requires.election c.cell-cell.ensures.held in
     let met = c.in_ok-dispute.ensures in
     record {
-      run = run_on kept set c.args.dispute c.places.ballots.ballots c.put_range.new.out.ballots c.meet.new.out.ballots c.places.next c.first_not_below-end.result i c.places.dispute c.in_ok-dispute.dispute s
-          up c.places.invariant.run at.0 is.0 c.first_not_below-end.ensures.onward.0 c.first_not_below-end.ensures.onward.1 c.in_ok-put_range.ensures.put
+      run = run_on kept set c.args.dispute c.places.ballots.ballots c.push_range.new.self.ballots c.meet.new.out.ballots c.places.next c.first_not_below-end.result i c.places.dispute c.in_ok-dispute.dispute s
+          c.in_ok-places.ensures.stored.set.ascending c.places.invariant.run next.within (get_or_default set i s no_ballot next.within ∙ sym is.0)
+          c.first_not_below-end.ensures.onward.0 c.first_not_below-end.ensures.onward.1 c.in_ok-push_range.ensures.put
           met.joined met.ascending met.below met.count;
-      election = met.election ∙ c.in_ok-put_range.ensures.election ∙ c.places.invariant.election;
+      election = met.election ∙ c.in_ok-push_range.ensures.election ∙ c.places.invariant.election;
     }
 
 pub returns-clause-joined : goal.returns-clause-joined
@@ -85,5 +92,5 @@ returns-clause-joined c =
     let set = c.args.closed.now.ballots in
     let i = c.places.place-index in
     let size = listed_all set c.deref-place-items.result.now c.in_ok-places.places.items c.deref-place-items.ensures.value c.in_ok-places.ensures.numbers in
-    (run_ends kept set c.args.dispute c.places.ballots.ballots c.put_range-2.new.out.ballots c.places.next i c.places.dispute c.places.invariant.run (omega arith)
-    (c.in_ok-put_range-2.ensures.put ∙ ap (λ n. c.places.ballots.ballots ++ slice_range kept c.places.next n) c.len-3.ensures.count)).1
+    (run_ends kept set c.args.dispute c.places.ballots.ballots c.push_range-2.new.self.ballots c.places.next i c.places.dispute c.places.invariant.run (omega arith)
+    (c.in_ok-push_range-2.ensures.put ∙ ap (λ n. c.places.ballots.ballots ++ slice_range kept c.places.next n) c.len-3.ensures.count)).1

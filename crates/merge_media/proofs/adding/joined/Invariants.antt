@@ -1,4 +1,5 @@
 use Rattle.std.proofs.Common.{◌≡◌}
+use Rattle.ballot_record.specs.Format.{ballot_at}
 use Rattle.merge_media.proofs.Running.{IsRun}
 use Rattle.merge_media.proofs.adding.joined.Given as goal
 
@@ -8,3 +9,7 @@ invariant-places l = record {
   run : IsRun l.kept.ballots l.closed.ballots l.ballots.ballots l.next l.place-index l.fn.dispute l.dispute;
   election : l.ballots.election ≡ l.kept.election;
 }
+
+-- the ballot of the cell
+abbrev pub ghost-meet : goal.ghost-meet
+ghost-meet a = ballot_at a.kept.now.election a.cell.now

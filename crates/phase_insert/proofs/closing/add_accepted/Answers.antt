@@ -2,6 +2,7 @@ use Rattle.std.proofs.Common.{◌≡◌, ◌++◌, List, map, sym, ap, subst, �
 use Rattle.store_spec.proofs.Common.{All, All-map, Ballot, IsListing, IsPermutation, IsWithinLimit, cells_of, on_ok_weaker}
 use Rattle.ballot_record.specs.BallotList.{ListedBallots}
 use Rattle.body_store.specs.Contents.{all_listed}
+use Rattle.layout_def.specs.Changes.{AreChanges}
 use Rattle.phase_insert.proofs.AllAccepted.{finals_stay, taken_in}
 use Rattle.phase_insert.proofs.closing.add_accepted.Goals as goal
 use Rattle.phase_insert.specs.Ends.{AreAllFinals}
@@ -25,11 +26,11 @@ merge-requires-clause-within_limit c =
     let joined = taken_in c.args.trays.items c.deref.result.now c.in_ok-lists.lists.items c.deref-then-are_all_accepted-2.result.now c.deref.ensures.value c.requires.paired (c.are_all_accepted.ensures c.if-are_all_accepted.true) c.in_ok-lists.ensures c.deref-then-are_all_accepted-2.ensures.value in
     subst (λ (bs : List Ballot). IsWithinLimit base.election (base.ballots ++ bs)) (sym joined) c.requires.within_limit
 
-pub merge-requires-clause-layout : goal.merge-requires-clause-layout
-merge-requires-clause-layout c =
+pub merge-requires-clause-changes : goal.merge-requires-clause-changes
+merge-requires-clause-changes c =
     let base = c.args.closed.now in
     let joined = taken_in c.args.trays.items c.deref.result.now c.in_ok-lists.lists.items c.deref-then-are_all_accepted-2.result.now c.deref.ensures.value c.requires.paired (c.are_all_accepted.ensures c.if-are_all_accepted.true) c.in_ok-lists.ensures c.deref-then-are_all_accepted-2.ensures.value in
-    c.requires.layout ∙ ap (λ (bs : List Ballot). cells_of base.election (base.ballots ++ bs)) (sym joined)
+    subst (λ (bs : List Ballot). AreChanges (cells_of base.election base.ballots) (cells_of base.election (base.ballots ++ bs)) c.args.changes.items) (sym joined) c.requires.changes
 
 pub returns-then-are_all_accepted-clause-union : goal.returns-then-are_all_accepted-clause-union
 returns-then-are_all_accepted-clause-union c =

@@ -3,8 +3,8 @@ use Rattle.store_spec.proofs.Common.{All-cons, All-nil, CastView, Rest}
 use Rattle.step_tests.proofs.cast_words.close.Goals as goal
 use Rattle.word_rule.specs.Places.{Place}
 
-pub close-requires : goal.close-requires
-close-requires c =
+pub close-requires-clause-whole : goal.close-requires-clause-whole
+close-requires-clause-whole c =
     let one = c.args.one in
     let two = c.args.two in
     let items = c.in_ok-seats.ensures.items in

@@ -4,21 +4,8 @@ use Rattle.std.proofs.lemmas.Nat.{and_le_l}
 use Rattle.std.proofs.lemmas.Nat.Bits.{bit_at-trailing_zeros, bit_at_clear_other, bit_at_clear_same}
 use Rattle.std.specs.Int.{bit_not, trailing_zeros}
 use Rattle.ballot_record.specs.Record.{set_word}
+use Rattle.layout_def.proofs.Marks.{fewer_marks, without_first}
 use Rattle.tally_export.proofs.counts.add_choices.Goals as goal
-
--- the marks behind the first
-abbrev without_first : ℕ → ℕ
-without_first marks = bit_and marks (bit_not set_word (1 * 2 ^ trailing_zeros set_word marks % 2 ^ 64))
-
-fewer : (marks : ℕ) → 0 < marks → marks < 2 ^ 64 → without_first marks < marks
-fewer marks some fits =
-    let first = bit_at-trailing_zeros set_word marks some fits in
-    let place = trailing_zeros set_word marks in
-    let gone : bit_at (without_first marks) place ≡ 0 = bit_at_clear_same set_word marks place first.0 in
-    let other : without_first marks ≢ marks = λ same. let still = ap (λ n. bit_at n place) same in omega
-    (arith, gone, first.1, still) in
-    let most : without_first marks ≤ marks = and_le_l marks (bit_not set_word (1 * 2 ^ trailing_zeros set_word marks % 2 ^ 64)) in
-    omega (arith, most, other)
 
 one_counted : (counts : List ℕ) (marks c : ℕ) → length counts ≡ 64 → 0 < marks → marks < 2 ^ 64 → c < 64
     → get_or (set counts (trailing_zeros set_word marks) (get_or counts (trailing_zeros set_word marks) 0 + 1)) c 0 + bit_at
@@ -46,7 +33,7 @@ one_counted counts marks c size some fits within =
     ]
 
 pub loop-rest-smaller : goal.loop-rest-smaller
-loop-rest-smaller c = fewer c.loop-rest.rest (omega arith) (omega (arith, c.loop-rest.auto.rest-fits))
+loop-rest-smaller c = fewer_marks c.loop-rest.rest (omega arith) (omega (arith, c.loop-rest.auto.rest-fits))
 
 pub loop-rest-preserved : goal.loop-rest-preserved
 loop-rest-preserved c choice within =

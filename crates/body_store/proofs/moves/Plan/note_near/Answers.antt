@@ -1,7 +1,8 @@
 use Rattle.std.proofs.Common.{◌≡◌, ◌++◌, [], ◌∷◌, List, get_or, inl, inr, refl, sym, ◌∙◌, subst}
 use Rattle.store_spec.proofs.Common.{home_of}
 use Rattle.body_store.proofs.CellPlaces.{stands_once}
-use Rattle.body_store.proofs.Planning.{among_pushed, noted_far, noted_moved, right_far, right_moved, same_right}
+use Rattle.body_store.proofs.Planning.{noted_far, noted_moved, right_far, right_moved, same_right}
+use Rattle.layout_def.proofs.Keyed.{among_pushed}
 use Rattle.body_store.specs.Moves.{AwaitsCell, IsMoved, IsNear, WaitsIn}
 use Rattle.body_store.specs.declared.moves.Move.{Move}
 use Rattle.body_store.specs.declared.moves.Waiting.{Waiting}

@@ -1,6 +1,7 @@
-use Rattle.std.proofs.Common.{Global, List, Vec, ℕ, refl, ap, map, ◌∙◌, subst, sym}
+use Rattle.std.proofs.Common.{Global, List, Vec, ℕ, refl, ap, map, ◌∙◌, subst, subst₂, sym}
 use Rattle.store_spec.proofs.Common.{map-id}
 use Rattle.body_store.specs.Contents.{Contents}
+use Rattle.layout_def.specs.Changes.{AreChanges}
 use Rattle.phase_delete.proofs.Whole.{closes_as, layout, replies_in, trays_of, whole}
 use Rattle.phase_delete.proofs.kind.WithdrawingKind.end.Goals as goal
 use Rattle.phase_delete.specs.Closing.{ClosesAs}
@@ -20,7 +21,10 @@ pub close-requires : goal.close-requires
 close-requires c =
     let left = c.requires.left in
     let seats = sym (map-id c.args.seats.items) ∙ left.seats_are in
-    subst (AreWhole IsAtRest c.args.words) (sym seats) (whole c.args.closed.now c.args.words left.workers left.all left.told)
+    record {
+      whole = subst (AreWhole IsAtRest c.args.words) (sym seats) (whole c.args.closed.now c.args.words left.workers left.all left.told);
+      as_many = c.cells.ensures.layout.size ∙ sym c.requires.own.of_store.shape.cells;
+    }
 
 pub without-requires : goal.without-requires
 without-requires c =
@@ -30,7 +34,9 @@ without-requires c =
     let base = c.args.closed.now in
     let gone = all_withdrawn (trays_of left.workers) in (
       gone,
-      layout base words left.workers left.all left.told base.election gone c.in_ok-cells.cells.items c.requires.own.of_store c.requires.stored refl refl (c.in_ok-cells.ensures.cells ∙ ap (cells_after words) seats),
+      subst₂ (λ (before after : List ℕ). AreChanges before after c.in_ok-changes.changes.items) c.cells.ensures.cells
+          (layout base words left.workers left.all left.told base.election gone (cells_after words c.args.seats.items) c.requires.own.of_store c.requires.stored refl refl (ap (cells_after words) seats))
+          c.in_ok-changes.ensures.changes,
     )
 
 pub returns-clause-closes : goal.returns-clause-closes
@@ -40,11 +46,14 @@ returns-clause-closes c =
     let words = c.args.words in
     let base = c.args.closed.now in
     let gone = all_withdrawn (trays_of left.workers) in
-    let laid = layout base words left.workers left.all left.told base.election gone c.in_ok-cells.cells.items c.requires.own.of_store c.requires.stored refl refl (c.in_ok-cells.ensures.cells ∙ ap (cells_after words) seats) in
+    let laid =
+    subst₂ (λ (before after : List ℕ). AreChanges before after c.in_ok-changes.changes.items) c.cells.ensures.cells
+    (layout base words left.workers left.all left.told base.election gone (cells_after words c.args.seats.items) c.requires.own.of_store c.requires.stored refl refl (ap (cells_after words) seats))
+    c.in_ok-changes.ensures.changes in
     let after = c.without.new.self.ballots in
     let replies = map (λ list. list.items) c.in_ok-replies.replies.items in
     subst (λ (trays : List (List TrayWithdrawal)). ClosesAs base trays replies after) (sym left.trays_are)
-    (closes_as base words left.workers left.all left.told (subst (AgreeOn words) seats c.in_ok-cells.ensures.lists) gone after replies refl (ap (λ (store : Contents). store.ballots) (c.in_ok-without.ensures.rest gone laid))
+    (closes_as base words left.workers left.all left.told (subst (AgreeOn words) seats c.in_ok-changes.ensures.lists) gone after replies refl (ap (λ (store : Contents). store.ballots) (c.in_ok-without.ensures.rest gone laid))
     (c.in_ok-replies.ensures
     ∙ replies_of_trays (λ (tray : WithdrawTray). tray.items.items) (λ (tray : WithdrawTray). tray.replies.items) c.args.trays.items c.requires.paired
     ∙ ap (map replies_in) left.trays_are))

@@ -1,5 +1,6 @@
-use Rattle.std.proofs.Common.{All, ◌≡◌, [], ◌++◌, Vec, vec_capacity, Global, ap, drop, length, map, take, ◌∙◌, refl, subst, sym, List, arith}
+use Rattle.std.proofs.Common.{All, ◌≡◌, [], ◌++◌, Vec, vec_capacity, Global, ap, drop, length, map, take, ◌∙◌, refl, subst, subst₂, sym, List, ℕ, arith}
 use Rattle.store_spec.proofs.Common.{Ballot, Election, IsBallotSet, IsPermutation, IsWithinLimit, map-id, take-append_seam}
+use Rattle.layout_def.specs.Changes.{AreChanges}
 use Rattle.phase_insert.proofs.Outcome.{closes_as}
 use Rattle.phase_insert.proofs.Whole.{may_join, whole}
 use Rattle.phase_insert.proofs.kind.CastingKind.end.Goals as goal
@@ -15,7 +16,10 @@ pub close-requires : goal.close-requires
 close-requires c =
     let left = c.requires.left in
     let seats = sym (map-id c.args.seats.items) ∙ left.seats_are in
-    subst (AreWhole IsAtRest c.args.words) (sym seats) (whole c.args.closed.now c.args.words left.workers left.all left.told)
+    record {
+      whole = subst (AreWhole IsAtRest c.args.words) (sym seats) (whole c.args.closed.now c.args.words left.workers left.all left.told);
+      as_many = c.cells.ensures.layout.size ∙ sym c.requires.own.of_store.shape.cells;
+    }
 
 pub add_accepted-requires : goal.add_accepted-requires
 add_accepted-requires c =
@@ -24,18 +28,19 @@ add_accepted-requires c =
     let base = c.args.closed.now in
     let words = c.args.words in
     let trays = c.args.trays.items in
-    let may = may_join base words left.workers left.all c.requires.own c.requires.stored left.told (subst (AgreeOn words) seats c.in_ok-cells.ensures.lists)
-    base.election (all_accepted (map casts_of trays)) c.in_ok-cells.cells.items refl (ap all_accepted left.trays_are) (c.in_ok-cells.ensures.cells ∙ ap (cells_after words) seats) in
+    let ended = cells_after words c.args.seats.items in
+    let may = may_join base words left.workers left.all c.requires.own c.requires.stored left.told (subst (AgreeOn words) seats c.in_ok-changes.ensures.lists)
+    base.election (all_accepted (map casts_of trays)) ended refl (ap all_accepted left.trays_are) (ap (cells_after words) seats) in
     record {
       stored = c.requires.stored;
       elections = c.requires.is_of;
       paired = c.requires.paired;
       listing = may.listing;
       within_limit = may.within_limit;
-      layout = may.layout;
+      changes = subst₂ (λ (before after : List ℕ). AreChanges before after c.in_ok-changes.changes.items) c.cells.ensures.cells may.layout c.in_ok-changes.ensures.changes;
       empty = subst (λ (lists : List (Vec Final Global)). All (λ list. list.items ≡ []) lists) (sym c.deref_mut.ensures.value) c.in_ok-finals.ensures.empty;
       room = ap (map (λ (list : Vec Final Global). vec_capacity list)) c.deref_mut.ensures.value ∙ c.in_ok-finals.ensures.room
-          ∙ ap (map (λ (tray : CastTray). length tray.replies.items)) c.deref.ensures.value;
+          ∙ ap (map (λ (tray : CastTray). length tray.replies.items)) c.deref-2.ensures.value;
     }
 
 pub returns-clause-closes : goal.returns-clause-closes
@@ -56,7 +61,7 @@ returns-clause-closes c =
     ap (λ n. take n (told ++ drop (length told) rooms.items)) size ∙ take-append_seam told (drop (length told) rooms.items) in
     subst (λ (trays : List (List Cast)). ClosesAs base trays (map (λ list. list.items) (take rooms.len (told ++ drop (length told) rooms.items))) after.ballots) (sym left.trays_are)
     (subst (λ (lists : List (Vec Final Global)). ClosesAs base (map (λ tab. tab.tray) tabs) (map (λ list. list.items) lists) after.ballots) (sym written)
-    (closes_as base words tabs left.all c.requires.own left.told (subst (AgreeOn words) seats c.in_ok-cells.ensures.lists) after.ballots gains (map (λ list. list.items) told)
+    (closes_as base words tabs left.all c.requires.own left.told (subst (AgreeOn words) seats c.in_ok-changes.ensures.lists) after.ballots gains (map (λ list. list.items) told)
     (subst (λ (e : Election). IsBallotSet e after.ballots) election added.stored.set)
     (subst (λ (e : Election). IsWithinLimit e after.ballots) election added.stored.within_limit)
     (subst (λ (trays : List (List Cast)). AreAllFinals after.ballots trays (map (λ list. list.items) told)) left.trays_are added.finals)))

@@ -1,0 +1,23 @@
+use Rattle.std.proofs.Common.{◌+◌, ◌*◌, length, replicate, ap, ◌∙◌, arith, rules}
+use Rattle.store_spec.proofs.Common.{header_size, length-replicate}
+use Rattle.std.proofs.lemmas.Slice.{take-put_mid_below}
+use Rattle.ballot_record.proofs.CellFormat.{header_width}
+use Rattle.ballot_record.specs.declared.format.TheConstants.{HEADER_BYTES}
+use Rattle.body_store.proofs.Pieces.{cell_start, others_same, this_put}
+use Rattle.body_store.proofs.relay.clear_cell_at.Goals as goal
+
+pub returns-clause-here : goal.returns-clause-here
+returns-clause-here c =
+    this_put c.args.size c.args.cell _ _ c.args.image.now c.fill.new.self (cell_start c.args.cell c.args.size)
+    (omega arith) c.requires.within
+    ∙ search rules
+
+pub returns-clause-others : goal.returns-clause-others
+returns-clause-others c other apart =
+    others_same c.args.size c.args.cell other _ _ c.args.image.now c.fill.new.self (cell_start c.args.cell c.args.size)
+    (omega arith) (omega arith) c.requires.within apart
+
+pub returns-clause-header : goal.returns-clause-header
+returns-clause-header c =
+    take-put_mid_below (HEADER_BYTES + c.args.cell * c.args.size) _ c.args.image.now c.fill.new.self header_size
+    (omega (arith, header_width)) (omega (arith, header_width, c.requires.within))
