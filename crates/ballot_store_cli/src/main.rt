@@ -6,7 +6,7 @@ ghost use Rattle.std.specs.Prelude.{◌≡◌, ◌-◌, IfOk, length, vec_len};
 mod help;
 mod streams;
 
-use crash_disk::{FileDisk, FileLock};
+use file_disk::{FileDisk, FileLock};
 use outside_io::{FileSource, Memory, NoTurns, StdinSource, StdoutSink};
 use run_command::{Status, Which, run};
 use std::alloc::Global;

@@ -4,9 +4,7 @@
 mod disk;
 mod entry;
 mod failing;
-mod file;
 pub mod laws;
-mod lock;
 mod recorded;
 mod recording;
 mod stop;
@@ -15,8 +13,6 @@ mod sure;
 pub use disk::Disk;
 pub use entry::{DiskCall, Room};
 pub use failing::{Failing, LaterCalls, ListedCalls};
-pub use file::FileDisk;
-pub use lock::FileLock;
 pub use recorded::{FusedDisk, MemoryDisk, RecordedDisk};
 pub use stop::Torn;
 pub use sure::SureDisk;

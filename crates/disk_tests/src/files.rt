@@ -6,7 +6,7 @@ use crate::fakes::Call::{
 };
 use crate::fakes::{Call, FAULT_KINDS, FakeFiles, Others, Stage};
 use crate::real::{gets, puts, settles, size_of};
-use crash_disk::{FileDisk, FileLock};
+use file_disk::{FileDisk, FileLock};
 use std::alloc::Global;
 use std::fs::Files;
 use std::io::ErrorKind;

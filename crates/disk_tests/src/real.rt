@@ -1,6 +1,7 @@
 //! Disks over real files, which are made, locked and read back.
 
-use crash_disk::{Disk, FileDisk, FileLock};
+use crash_disk::Disk;
+use file_disk::{FileDisk, FileLock};
 use outside_io::Failed;
 use std::fs::{self, Files};
 use std::os::unix::fs::{FileExt, PermissionsExt};

@@ -1,7 +1,7 @@
 //! A file system of one file and its folder, as a stage plays it.
 
 use super::stage::{Call, Stage};
-use crash_disk::FileLock;
+use file_disk::FileLock;
 use std::alloc::{Allocator, Global};
 use std::fs::{Files, Metadata, OpenFile, OpenOptions, TryLockError};
 use std::io::{self, ErrorKind, Read, Seek, SeekFrom, Write};

@@ -4,8 +4,8 @@ ghost use Rattle.std.specs.Prelude.{◌≡◌, ℕ, None, true, OnOk, OnErr};
 ghost use Rattle.store_spec.specs.Fault.{next_count, CountsFault};
 ghost use Rattle.outside_io.specs.Count.{count_value};
 
-use crate::disk::Disk;
 use crate::lock::FileLock;
+use crash_disk::Disk;
 use outside_io::{Count, Failed};
 use std::fs::{Files, OpenFile, OpenOptions, TryLockError};
 use std::io::{self, ErrorKind};
