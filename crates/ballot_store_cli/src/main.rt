@@ -6,14 +6,14 @@ ghost use Rattle.std.specs.Prelude.{◌≡◌, ◌-◌, IfOk, length, vec_len};
 mod help;
 mod streams;
 
-use file_disk::{FileDisk, FileLock};
+use file_disk::{FileDisk, FileIdentity, FileLock, LooksAtFiles};
 use outside_io::{FileSource, Memory, NoTurns, StdinSource, StdoutSink};
 use run_command::{Status, Which, run};
 use std::alloc::Global;
 use std::io::IsTerminal;
 use std::os::unix::fs::FileExt;
 use std::process::ExitCode;
-use std::rt::{Env, Files};
+use std::rt::Env;
 use std::thread::Threads;
 use std::{env, io};
 
@@ -38,16 +38,25 @@ fn words_of(rt: &(impl Env + AllocGlobal)) -> Result<Vec<String>, Status> {
     }
 }
 
+// The file that no disk may be over: the election's own, where there is one.
+fn spared_file(rt: &impl LooksAtFiles, election: &str) -> Option<FileIdentity> {
+    match rt.look_at(election) {
+        Ok(found) => Some(found.identity),
+        Err(_) => None,
+    }
+}
+
 // A disk for each word after the third.
-fn further_disks<'a, R: Files + AllocGlobal>(
+fn further_disks<'a, R: LooksAtFiles + AllocGlobal>(
     rt: &'a R,
     words: &'a [String],
+    spared: Option<FileIdentity>,
 ) -> Result<Vec<FileDisk<'a, R>>, Memory>
     ensures { IfOk result (λ disks. vec_len disks ≡ length words.now - 3) }
 {
     let mut disks = Vec::new(rt.alloc());
     'words: for at in 3..words.len().max(3) {
-        disks.push(FileDisk::new(rt, &words[at]))?;
+        disks.push(FileDisk::new(rt, &words[at], spared))?;
     }
     Ok(disks)
 }
@@ -55,14 +64,17 @@ fn further_disks<'a, R: Files + AllocGlobal>(
 // The election is the file of the second word.
 fn status_of<R>(rt: &R) -> Status
 where
-    R: Threads + Sync + Env + Files + Input + Print + AllocGlobal,
+    R: Threads + Sync + Env + LooksAtFiles + Input + Print + AllocGlobal,
     R::File: FileExt + FileLock,
 {
     let words = match words_of(rt) {
         Ok(words) => words,
         Err(status) => return status,
     };
-    let mut more = match further_disks(rt, &words) {
+    let medium = words.first().map_or("", |path| path.as_str());
+    let election = words.get(1).map_or("", |path| path.as_str());
+    let spared = spared_file(rt, election);
+    let mut more = match further_disks(rt, &words, spared) {
         Ok(disks) => disks,
         Err(_) => return Status::Memory,
     };
@@ -70,10 +82,10 @@ where
         rt,
         rt.alloc(),
         &words,
-        &mut FileSource::new(rt, words.get(1).map_or("", |path| path.as_str())),
+        &mut FileSource::new(rt, election),
         &mut StdinSource::new(rt),
         &mut StdoutSink::new(rt),
-        &mut FileDisk::new(rt, words.first().map_or("", |path| path.as_str())),
+        &mut FileDisk::new(rt, medium, spared),
         &mut more,
         &NoTurns,
     );

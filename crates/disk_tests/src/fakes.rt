@@ -6,5 +6,5 @@ mod stage;
 mod streams;
 
 pub(crate) use file::FakeFiles;
-pub(crate) use stage::{Call, FAULT_KINDS, Others, Stage};
+pub(crate) use stage::{Call, FAULT_KINDS, Named, Others, Stage};
 pub(crate) use streams::{FakeInput, FakeOutput};

@@ -1,47 +1,57 @@
 //! Which calls a disk over a file makes, by a stand-in for the file.
 
 use crate::fakes::Call::{
-    Lock, LockShared, Make, Open, OpenFolder, OpenToWrite, ReadAt, Size, SyncAll, SyncData,
-    SyncFolder, WriteAt,
+    Lock, LockShared, Look, LookInto, Make, Open, OpenFolder, OpenToWrite, ReadAt, Size, SyncAll,
+    SyncData, SyncFolder, WriteAt,
 };
-use crate::fakes::{Call, FAULT_KINDS, FakeFiles, Others, Stage};
+use crate::fakes::{Call, FAULT_KINDS, FakeFiles, Named, Others, Stage};
 use crate::real::{gets, puts, settles, size_of};
-use file_disk::{FileDisk, FileLock};
+use file_disk::{FileDisk, FileIdentity, FileLock, LooksAtFiles};
 use std::alloc::Global;
-use std::fs::Files;
 use std::io::ErrorKind;
 use std::os::unix::fs::FileExt;
 use std::process::Abort;
 use std::test::Fail;
 
-/// A call on a disk, or what others make of the file's lock before the next.
+/// A call on a disk, or what others make of the file's lock or its path before the next.
 #[derive(Clone, Copy, Debug)]
-enum Act {
+pub(crate) enum Act {
     AskSize,
     Get(u64, usize),
     Put(u64, usize),
     Settle,
+    /// A sync in which calls of the system between two numbers fail too.
+    SettleInVain(u64, u64),
     Meanwhile(Others),
+    Name(Named),
 }
+
+/// The file that no disk may be over.
+const SPARED: FileIdentity = FileIdentity {
+    device: 1,
+    inode: 9,
+};
 
 /// A call on a disk, in which the call of the system with this number fails, or none with 0; whether it succeeds, and
 /// which calls of the system it makes.
-type Row<'a> = (u64, Act, bool, &'a [Call]);
+pub(crate) type Row<'a> = (u64, Act, bool, &'a [Call]);
 
-/// A path and its folder; a file there, or none, of which others have such a lock; the kind of each error; the calls; and the bytes that they leave.
+/// A path and its folder; a file there, or none, of which no call gives or takes more than so many bytes, and of which
+/// others have such a lock; the kind of each error; the calls; and the bytes that they leave.
 #[derive(Clone, Copy)]
-struct Case<'a> {
-    path: &'a str,
-    folder: &'a str,
-    bytes: Option<&'a [u8]>,
-    others: Others,
-    kind: ErrorKind,
-    rows: &'a [Row<'a>],
-    left: Option<&'a [u8]>,
+pub(crate) struct Case<'a> {
+    pub(crate) path: &'a str,
+    pub(crate) folder: &'a str,
+    pub(crate) bytes: Option<&'a [u8]>,
+    pub(crate) most: usize,
+    pub(crate) others: Others,
+    pub(crate) kind: ErrorKind,
+    pub(crate) rows: &'a [Row<'a>],
+    pub(crate) left: Option<&'a [u8]>,
 }
 
 // Makes a call, and answers whether it succeeded. What is put is a number of letters.
-fn succeeds<F: Files>(disk: &mut FileDisk<'_, F>, stage: &Stage, act: Act) -> bool
+fn succeeds<F: LooksAtFiles>(disk: &mut FileDisk<'_, F>, stage: &Stage, act: Act) -> bool
 where
     F::File: FileExt + FileLock,
 {
@@ -51,15 +61,23 @@ where
         Act::Get(at, count) => gets(disk, at, &mut buf[..count.min(8)]),
         Act::Put(at, count) => puts(disk, at, &buf[..count.min(8)]),
         Act::Settle => settles(disk),
+        Act::SettleInVain(first, last) => {
+            stage.fail_too(first, last);
+            settles(disk)
+        }
         Act::Meanwhile(others) => {
             stage.lock_by_others(others);
+            true
+        }
+        Act::Name(named) => {
+            stage.name(named);
             true
         }
     }
 }
 
 // Makes the calls of a case one after another on a disk over these files, and compares what each does.
-fn assert_rows<F: Files>(
+fn assert_rows<F: LooksAtFiles>(
     rt: &impl Abort,
     files: &F,
     stage: &Stage,
@@ -68,7 +86,7 @@ fn assert_rows<F: Files>(
 where
     F::File: FileExt + FileLock,
 {
-    let mut disk = FileDisk::new(files, case.path);
+    let mut disk = FileDisk::new(files, case.path, Some(SPARED));
     for (failing, act, wanted, calls) in case.rows {
         stage.fail(*failing, case.kind)?;
         let found = succeeds(&mut disk, stage, *act);
@@ -88,13 +106,13 @@ fn stage_of(alloc: Global, case: &Case<'_>) -> Result<Stage, Fail> {
         Some(bytes) => Some(bytes.to_vec(alloc)?),
         None => None,
     };
-    let stage = Stage::new(alloc, bytes, 3);
+    let stage = Stage::new(alloc, bytes, case.most);
     stage.lock_by_others(case.others);
     Ok(stage)
 }
 
 // Makes the calls of a case, and compares what each does, and what they leave.
-fn assert_case(rt: &impl Abort, alloc: Global, case: &Case<'_>) -> Result<(), Fail> {
+pub(crate) fn assert_case(rt: &impl Abort, alloc: Global, case: &Case<'_>) -> Result<(), Fail> {
     let stage = stage_of(alloc, case)?;
     let files = FakeFiles::new(alloc, &stage, case.path, case.folder);
     assert_rows(rt, &files, &stage, case)?;
@@ -103,13 +121,30 @@ fn assert_case(rt: &impl Abort, alloc: Global, case: &Case<'_>) -> Result<(), Fa
     Ok(())
 }
 
-const ALL_SYNCED: [Call; 5] = [OpenToWrite, Lock, SyncAll, OpenFolder, SyncFolder];
+/// The calls of a first sync.
+pub(crate) const ALL_SYNCED: [Call; 8] = [
+    Look,
+    OpenToWrite,
+    LookInto,
+    Lock,
+    SyncAll,
+    OpenFolder,
+    SyncFolder,
+    Look,
+];
+
+/// The same of a file that is open.
+pub(crate) const LOCKED_AND_SYNCED: [Call; 5] = [Lock, SyncAll, OpenFolder, SyncFolder, Look];
+
+/// The same of a file that is open and locked.
+pub(crate) const SYNCED: [Call; 4] = [SyncAll, OpenFolder, SyncFolder, Look];
 
 /// A file of four bytes.
-const FOUR: Case<'static> = Case {
+pub(crate) const FOUR: Case<'static> = Case {
     path: "folder/file",
     folder: "folder",
     bytes: Some(b"abcd"),
+    most: 3,
     others: Others::HoldNone,
     kind: ErrorKind::Other,
     rows: &[],
@@ -118,14 +153,14 @@ const FOUR: Case<'static> = Case {
 
 #[test]
 fn a_sync_reaches_what_is_owed(rt: HostRuntime) -> Result<(), Fail> {
-    for failing in 3..6usize {
+    for failing in 6..9usize {
         let rows = [
             (failing as u64, Act::Settle, false, &ALL_SYNCED[..failing]),
-            (0, Act::Settle, true, &ALL_SYNCED[2..]),
-            (0, Act::Settle, true, &[SyncData]),
-            (1, Act::Settle, false, &[SyncData]),
-            (0, Act::Settle, true, &[SyncAll]),
-            (0, Act::Settle, true, &[SyncData]),
+            (0, Act::Settle, true, &SYNCED[..]),
+            (0, Act::Settle, true, &[SyncData, Look]),
+            (1, Act::Settle, false, &[SyncData, Size]),
+            (0, Act::Settle, true, &[SyncAll, Look]),
+            (0, Act::Settle, true, &[SyncData, Look]),
         ];
         let case = Case {
             rows: &rows,
@@ -147,20 +182,20 @@ const GROWN: Case<'static> = Case {
     rows: &[
         (0, Act::Settle, true, &ALL_SYNCED),
         (0, Act::Put(2, 2), true, &[Size, WriteAt(2, 2)]),
-        (0, Act::Settle, true, &[SyncData]),
+        (0, Act::Settle, true, &[SyncData, Look]),
         (0, Act::Put(3, 2), true, &[WriteAt(3, 2)]),
-        (0, Act::Settle, true, &[SyncAll]),
+        (0, Act::Settle, true, &[SyncAll, Look]),
         (0, Act::Put(3, 2), true, &[WriteAt(3, 2)]),
-        (0, Act::Settle, true, &[SyncData]),
+        (0, Act::Settle, true, &[SyncData, Look]),
         (1, Act::Put(4, 2), false, &[WriteAt(4, 2)]),
-        (0, Act::Settle, true, &[SyncAll]),
+        (0, Act::Settle, true, &[SyncAll, Look]),
         (
             0,
             Act::Put(5, 4),
             true,
             &[Size, WriteAt(5, 4), WriteAt(8, 1)],
         ),
-        (0, Act::Settle, true, &[SyncAll]),
+        (0, Act::Settle, true, &[SyncAll, Look]),
     ],
     left: Some(b"abxxxxxxx"),
     ..FOUR
@@ -173,7 +208,7 @@ const SIZE_ASKED_ONCE: Case<'static> = Case {
             0,
             Act::Get(1, 2),
             true,
-            &[OpenToWrite, LockShared, Size, ReadAt(1, 2)],
+            &[Look, OpenToWrite, LookInto, LockShared, Size, ReadAt(1, 2)],
         ),
         (0, Act::Get(0, 5), true, &[ReadAt(0, 5), ReadAt(3, 2)]),
         (0, Act::Put(6, 1), true, &[Lock, Size, WriteAt(6, 1)]),
@@ -200,16 +235,16 @@ const MADE_BY_A_WRITE: Case<'static> = Case {
     bytes: None,
     kind: ErrorKind::StorageFull,
     rows: &[
-        (0, Act::AskSize, true, &[OpenToWrite]),
-        (0, Act::Settle, true, &[OpenToWrite]),
+        (0, Act::AskSize, true, &[Look]),
+        (0, Act::Settle, true, &[Look]),
         (0, Act::Get(0, 1), false, &[]),
         (0, Act::Put(1, 1), false, &[]),
         (1, Act::Put(0, 2), false, &[Make]),
         (
-            4,
+            5,
             Act::Put(0, 2),
             false,
-            &[OpenToWrite, Make, Lock, WriteAt(0, 2)],
+            &[Look, Make, LookInto, Lock, WriteAt(0, 2)],
         ),
         (
             0,
@@ -217,7 +252,7 @@ const MADE_BY_A_WRITE: Case<'static> = Case {
             true,
             &[Size, WriteAt(0, 5), WriteAt(3, 2)],
         ),
-        (0, Act::Settle, true, &[SyncAll, OpenFolder, SyncFolder]),
+        (0, Act::Settle, true, &SYNCED),
     ],
     left: Some(b"xxxxx"),
     ..FOUR
@@ -226,20 +261,13 @@ const MADE_BY_A_WRITE: Case<'static> = Case {
 const READ_ALONE: Case<'static> = Case {
     kind: ErrorKind::PermissionDenied,
     rows: &[
-        (
-            1,
-            Act::AskSize,
-            true,
-            &[OpenToWrite, Open, LockShared, Size],
-        ),
+        (2, Act::Settle, false, &[Look, OpenToWrite, Open, LookInto]),
+        (0, Act::AskSize, true, &[LockShared, Size]),
         (0, Act::Get(1, 2), true, &[ReadAt(1, 2)]),
-        (
-            0,
-            Act::Settle,
-            true,
-            &[Lock, SyncAll, OpenFolder, SyncFolder],
-        ),
-        (2, Act::Put(0, 2), false, &[Size, WriteAt(0, 2)]),
+        (0, Act::Settle, false, &[]),
+        (0, Act::Put(0, 2), false, &[]),
+        (0, Act::Put(4, 2), false, &[]),
+        (0, Act::Get(1, 2), true, &[ReadAt(1, 2)]),
     ],
     ..FOUR
 };
@@ -282,7 +310,12 @@ fn each_call_makes_calls_of_the_system(rt: HostRuntime) -> Result<(), Fail> {
 const OTHERS_SHARE: Case<'static> = Case {
     others: Others::Share,
     rows: &[
-        (0, Act::AskSize, true, &[OpenToWrite, LockShared, Size]),
+        (
+            0,
+            Act::AskSize,
+            true,
+            &[Look, OpenToWrite, LookInto, LockShared, Size],
+        ),
         (0, Act::Get(0, 2), true, &[ReadAt(0, 2)]),
         (0, Act::Settle, false, &[Lock]),
         // The share was let go for that.
@@ -298,7 +331,7 @@ const OTHERS_SHARE: Case<'static> = Case {
         (0, Act::Get(0, 2), true, &[ReadAt(0, 2)]),
         (0, Act::AskSize, true, &[Size]),
         (0, Act::Put(0, 2), true, &[WriteAt(0, 2)]),
-        (0, Act::Settle, true, &[SyncAll, OpenFolder, SyncFolder]),
+        (0, Act::Settle, true, &SYNCED),
     ],
     left: Some(b"xxcd"),
     ..FOUR
@@ -307,17 +340,12 @@ const OTHERS_SHARE: Case<'static> = Case {
 const ANOTHER_HOLDS_IT: Case<'static> = Case {
     others: Others::HoldAlone,
     rows: &[
-        (0, Act::Settle, false, &[OpenToWrite, Lock]),
+        (0, Act::Settle, false, &[Look, OpenToWrite, LookInto, Lock]),
         (0, Act::AskSize, false, &[LockShared]),
         (0, Act::Get(0, 1), false, &[LockShared]),
         (0, Act::Put(0, 1), false, &[Lock]),
         (0, Act::Meanwhile(Others::HoldNone), true, &[]),
-        (
-            0,
-            Act::Settle,
-            true,
-            &[Lock, SyncAll, OpenFolder, SyncFolder],
-        ),
+        (0, Act::Settle, true, &LOCKED_AND_SYNCED),
     ],
     ..FOUR
 };
@@ -325,10 +353,15 @@ const ANOTHER_HOLDS_IT: Case<'static> = Case {
 const NO_LOCKS: Case<'static> = Case {
     others: Others::HaveNoLocks,
     rows: &[
-        (0, Act::AskSize, true, &[OpenToWrite, LockShared, Size]),
+        (
+            0,
+            Act::AskSize,
+            true,
+            &[Look, OpenToWrite, LookInto, LockShared, Size],
+        ),
         (0, Act::Get(0, 2), true, &[ReadAt(0, 2)]),
         (0, Act::Put(2, 2), true, &[Lock, Size, WriteAt(2, 2)]),
-        (0, Act::Settle, true, &[SyncAll, OpenFolder, SyncFolder]),
+        (0, Act::Settle, true, &SYNCED),
         (0, Act::Put(2, 2), true, &[WriteAt(2, 2)]),
     ],
     left: Some(b"abxx"),
@@ -339,8 +372,8 @@ const LOCKED_ONCE_MADE: Case<'static> = Case {
     bytes: None,
     others: Others::HoldAlone,
     rows: &[
-        (0, Act::Settle, true, &[OpenToWrite]),
-        (0, Act::Put(0, 2), false, &[OpenToWrite, Make, Lock]),
+        (0, Act::Settle, true, &[Look]),
+        (0, Act::Put(0, 2), false, &[Look, Make, LookInto, Lock]),
         (0, Act::Put(0, 2), false, &[Lock]),
     ],
     left: Some(b""),
@@ -364,15 +397,15 @@ fn the_lock_of_another_is_a_fault(rt: HostRuntime) -> Result<(), Fail> {
 
 const LOCK_FAILS: Case<'static> = Case {
     rows: &[
-        (2, Act::AskSize, true, &[OpenToWrite, LockShared, Size]),
-        (0, Act::AskSize, true, &[Size]),
         (
-            1,
-            Act::Settle,
+            4,
+            Act::AskSize,
             true,
-            &[Lock, SyncAll, OpenFolder, SyncFolder],
+            &[Look, OpenToWrite, LookInto, LockShared, Size],
         ),
-        (0, Act::Settle, true, &[SyncData]),
+        (0, Act::AskSize, true, &[Size]),
+        (1, Act::Settle, true, &LOCKED_AND_SYNCED),
+        (0, Act::Settle, true, &[SyncData, Look]),
     ],
     ..FOUR
 };
@@ -380,15 +413,15 @@ const LOCK_FAILS: Case<'static> = Case {
 const LOCK_IS_HELD: Case<'static> = Case {
     kind: ErrorKind::WouldBlock,
     rows: &[
-        (2, Act::AskSize, false, &[OpenToWrite, LockShared]),
+        (
+            4,
+            Act::AskSize,
+            false,
+            &[Look, OpenToWrite, LookInto, LockShared],
+        ),
         (0, Act::AskSize, true, &[LockShared, Size]),
         (1, Act::Settle, false, &[Lock]),
-        (
-            0,
-            Act::Settle,
-            true,
-            &[Lock, SyncAll, OpenFolder, SyncFolder],
-        ),
+        (0, Act::Settle, true, &LOCKED_AND_SYNCED),
     ],
     ..FOUR
 };
@@ -409,27 +442,34 @@ fn only_a_held_lock_is_a_fault(rt: HostRuntime) -> Result<(), Fail> {
     Ok(())
 }
 
-const FAULTS: [Row<'static>; 8] = [
-    (1, Act::AskSize, false, &[OpenToWrite]),
-    (1, Act::Put(0, 1), false, &[OpenToWrite]),
-    (1, Act::Settle, false, &[OpenToWrite]),
-    (3, Act::Settle, false, &[OpenToWrite, Lock, SyncAll]),
+const FAULTS: [Row<'static>; 11] = [
+    (2, Act::Settle, false, &[Look, OpenToWrite]),
+    (1, Act::AskSize, false, &[Look]),
+    (1, Act::Put(0, 1), false, &[Look]),
+    (1, Act::Settle, false, &[Look]),
+    (3, Act::Settle, false, &[Look, OpenToWrite, LookInto]),
+    (
+        6,
+        Act::Settle,
+        false,
+        &[Look, OpenToWrite, LookInto, Lock, SyncAll, OpenFolder],
+    ),
+    (4, Act::Settle, false, &SYNCED),
     (1, Act::AskSize, false, &[Size]),
     (2, Act::Get(0, 2), false, &[Size, ReadAt(0, 2)]),
     (1, Act::Put(0, 2), false, &[WriteAt(0, 2)]),
-    (1, Act::Settle, false, &[SyncAll]),
+    (1, Act::AskSize, false, &[Size]),
 ];
 
 #[test]
 fn each_error_is_a_fault(rt: HostRuntime) -> Result<(), Fail> {
-    // A file that is not found is none, and one that may not be written is opened to be read.
-    let opens = [
-        ErrorKind::NotFound,
-        ErrorKind::PermissionDenied,
-        ErrorKind::ReadOnlyFilesystem,
-    ];
     for kind in &FAULT_KINDS {
-        let skipped = if opens.contains(kind) { 3usize } else { 0 };
+        let skipped = match kind {
+            // A file that is not found is none, and one that may not be written is opened to be read.
+            ErrorKind::NotFound => 4usize,
+            ErrorKind::PermissionDenied | ErrorKind::ReadOnlyFilesystem => 1,
+            _ => 0,
+        };
         let case = Case {
             kind: *kind,
             rows: &FAULTS[skipped..],

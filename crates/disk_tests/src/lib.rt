@@ -16,8 +16,12 @@ mod lines;
 #[cfg(test)]
 mod memory;
 #[cfg(test)]
+mod named_files;
+#[cfg(test)]
 mod real;
 #[cfg(test)]
 mod stops;
 #[cfg(test)]
 mod streams;
+#[cfg(test)]
+mod written_again;

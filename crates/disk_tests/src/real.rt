@@ -1,7 +1,7 @@
 //! Disks over real files, which are made, locked and read back.
 
 use crash_disk::Disk;
-use file_disk::{FileDisk, FileLock};
+use file_disk::{FileDisk, FileLock, LooksAtFiles};
 use outside_io::Failed;
 use std::fs::{self, Files};
 use std::os::unix::fs::{FileExt, PermissionsExt};
@@ -10,28 +10,28 @@ use std::test::Fail;
 
 // The calls of a disk over a file, each in a function of its own: no clause of them says anything of the file.
 
-pub(crate) fn size_of<F: Files>(disk: &mut FileDisk<'_, F>) -> Result<u64, Failed>
+pub(crate) fn size_of<F: LooksAtFiles>(disk: &mut FileDisk<'_, F>) -> Result<u64, Failed>
 where
     F::File: FileExt + FileLock,
 {
     disk.size()
 }
 
-pub(crate) fn gets<F: Files>(disk: &mut FileDisk<'_, F>, at: u64, buf: &mut [u8]) -> bool
+pub(crate) fn gets<F: LooksAtFiles>(disk: &mut FileDisk<'_, F>, at: u64, buf: &mut [u8]) -> bool
 where
     F::File: FileExt + FileLock,
 {
     disk.read(at, buf).is_ok()
 }
 
-pub(crate) fn puts<F: Files>(disk: &mut FileDisk<'_, F>, at: u64, bytes: &[u8]) -> bool
+pub(crate) fn puts<F: LooksAtFiles>(disk: &mut FileDisk<'_, F>, at: u64, bytes: &[u8]) -> bool
 where
     F::File: FileExt + FileLock,
 {
     disk.write_at(at, bytes).is_ok()
 }
 
-pub(crate) fn settles<F: Files>(disk: &mut FileDisk<'_, F>) -> bool
+pub(crate) fn settles<F: LooksAtFiles>(disk: &mut FileDisk<'_, F>) -> bool
 where
     F::File: FileExt + FileLock,
 {
@@ -61,7 +61,7 @@ fn is_owners_alone(rt: &impl Files) -> bool {
 }
 
 // Whether the file of a disk has these bytes at a place.
-fn has<F: Files>(disk: &mut FileDisk<'_, F>, at: u64, bytes: &[u8]) -> bool
+fn has<F: LooksAtFiles>(disk: &mut FileDisk<'_, F>, at: u64, bytes: &[u8]) -> bool
 where
     F::File: FileExt + FileLock,
 {
@@ -71,7 +71,7 @@ where
 }
 
 // Whether a disk does so, or whether it stands so.
-fn does<'a, R: Files>(rt: &'a R, disk: &mut FileDisk<'a, R>, act: RealAct<'_>) -> bool
+fn does<'a, R: LooksAtFiles>(rt: &'a R, disk: &mut FileDisk<'a, R>, act: RealAct<'_>) -> bool
 where
     R::File: FileExt + FileLock,
 {
@@ -79,7 +79,7 @@ where
         RealAct::Missing => fs::metadata(rt, REAL).is_err(),
         RealAct::OwnersAlone => is_owners_alone(rt),
         RealAct::Leave => {
-            *disk = FileDisk::new(rt, REAL);
+            *disk = FileDisk::new(rt, REAL, None);
             true
         }
         RealAct::Settle => settles(disk),
@@ -124,13 +124,13 @@ const TOGETHER: [(usize, RealAct<'static>, bool); 27] = [
 ];
 
 // Has three disks over the file do so, one after another.
-fn assert_together<R: Files + Abort>(rt: &R)
+fn assert_together<R: LooksAtFiles + Abort>(rt: &R)
 where
     R::File: FileExt + FileLock,
 {
-    let mut first = FileDisk::new(rt, REAL);
-    let mut second = FileDisk::new(rt, REAL);
-    let mut third = FileDisk::new(rt, REAL);
+    let mut first = FileDisk::new(rt, REAL, None);
+    let mut second = FileDisk::new(rt, REAL, None);
+    let mut third = FileDisk::new(rt, REAL, None);
     for (who, act, wanted) in &TOGETHER {
         let done = match who {
             0 => does(rt, &mut first, *act),
@@ -150,11 +150,11 @@ fn a_real_file_has_one_user_and_is_read_back(rt: HostRuntime) -> Result<(), Fail
 }
 
 // How many bytes the file of a path seems to have, and whether a write to it succeeds.
-fn size_and_write<R: Files>(rt: &R, path: &str) -> (Result<u64, Failed>, bool)
+fn size_and_write<R: LooksAtFiles>(rt: &R, path: &str) -> (Result<u64, Failed>, bool)
 where
     R::File: FileExt + FileLock,
 {
-    let mut disk = FileDisk::new(rt, path);
+    let mut disk = FileDisk::new(rt, path, None);
     (size_of(&mut disk), puts(&mut disk, 0, b"x"))
 }
 

@@ -4,16 +4,15 @@ ghost use Rattle.std.specs.Prelude.{◌≡◌, ℕ, None, true, OnOk, OnErr};
 ghost use Rattle.store_spec.specs.Fault.{next_count, CountsFault};
 ghost use Rattle.outside_io.specs.Count.{count_value};
 
+use crate::identity::{FileIdentity, LooksAtFiles};
 use crate::lock::FileLock;
+use crate::opened::{Opened, make_new, open_existing, sync_folder};
+use crate::unsettled::{Unsettled, write_again};
 use crash_disk::Disk;
 use outside_io::{Count, Failed};
-use std::fs::{Files, OpenFile, OpenOptions, TryLockError};
+use std::fs::{OpenFile, TryLockError};
 use std::io::{self, ErrorKind};
-use std::os::unix::fs::{FileExt, OpenOptionsExt};
-use std::path::Path;
-
-/// Who may read and write a file that is made here: its owner alone.
-const OWNER_ALONE: u32 = 0o600;
+use std::os::unix::fs::FileExt;
 
 /// How the lock of an open file is held. What a file system without locks cannot give counts as held.
 #[derive(Clone, Copy, Debug, PartialEq, Eq)]
@@ -26,20 +25,30 @@ enum Hold {
     Alone,
 }
 
-/// A disk over a file, whose path is opened at the first call. Where no file is there, it has no bytes, and the first
-/// write makes one. To reach outside the file is a fault, and so is a write to one that may only be read.
+/// A disk over a file, whose path is opened at the first call that finds a file there. Where none is, it has no bytes,
+/// and the first write makes one. A path that names anything but a regular file is a fault of each call, and so is one
+/// that names the file to spare: neither is opened. To reach outside the file is a fault.
+///
+/// A file that may not be written is opened to be read: each sync and each write is a fault then. So is a sync after
+/// which the path names another file than the open one, or none.
 ///
 /// An open file is locked, from the call that opened it until the disk is dropped: shared, and alone from the first
 /// sync or write on. No call waits for the lock. While another holds it, each call that needs it is a fault and does
 /// nothing else to the file.
+///
+/// When a sync of the file fails, the system may have taken for written what the device never got. So what may not be
+/// on the device is written again before the call returns, for a later sync.
 #[derive(Drop)]
-pub struct FileDisk<'a, F: Files> {
+pub struct FileDisk<'a, F: LooksAtFiles> {
     files: &'a F,
     path: &'a str,
-    file: Option<F::File>,
+    spared: Option<FileIdentity>,
+    opened: Option<Opened<F::File>>,
     hold: Hold,
     /// The size, where it was asked for and no write failed since.
     size: Option<u64>,
+    /// What the device may not have.
+    unsettled: Unsettled,
     /// The next sync has to reach all that the system keeps of the file: since the last one that succeeded the file was
     /// opened, made or grown, or a sync failed.
     needs_all: bool,
@@ -49,18 +58,20 @@ pub struct FileDisk<'a, F: Files> {
     faults: Count,
 }
 
-impl<'a, F: Files> FileDisk<'a, F> {
-    /// A disk over the file of this path. It opens nothing yet.
-    pub fn new(rt: &'a F, path: &'a str) -> FileDisk<'a, F>
+impl<'a, F: LooksAtFiles> FileDisk<'a, F> {
+    /// A disk over the file of this path, unless that is the file to spare. It opens nothing yet.
+    pub fn new(rt: &'a F, path: &'a str, spared: Option<FileIdentity>) -> FileDisk<'a, F>
         ensures no_calls { count_value result.calls ≡ 0 }
         ensures no_faults { count_value result.faults ≡ 0 }
     {
         FileDisk {
             files: rt,
             path,
-            file: None,
+            spared,
+            opened: None,
             hold: Hold::Free,
             size: None,
+            unsettled: Unsettled::anywhere(),
             needs_all: false,
             owes_folder: false,
             calls: Count::zero(),
@@ -69,13 +80,13 @@ impl<'a, F: Files> FileDisk<'a, F> {
     }
 
     /// Keeps a file that was just opened or made.
-    fn keep(&mut self, file: F::File)
+    fn keep(&mut self, opened: Opened<F::File>)
         ensures calls { self.new.calls ≡ self.old.calls }
         ensures faults { self.new.faults ≡ self.old.faults }
         ensures needs_all { self.new.needs_all ≡ true }
         ensures owes_folder { self.new.owes_folder ≡ true }
     {
-        self.file = Some(file);
+        self.opened = Some(opened);
         self.hold = Hold::Free;
         self.needs_all = true;
         self.owes_folder = true;
@@ -89,48 +100,44 @@ impl<'a, F: Files> FileDisk<'a, F> {
         self.calls.add_one();
         self.faults.counted(outcome)
     }
-}
 
-/// Opens a file that is there: to be read and written, or, where it may not be written, to be read.
-fn open_existing<F: Files>(files: &F, path: &str) -> io::Result<F::File> {
-    let opened = OpenOptions::new().read(true).write(true).open(files, path);
-    match opened {
-        Err(error) if is_write_refused(error.kind()) => {
-            OpenOptions::new().read(true).open(files, path)
+    /// Fails where a file is open and its path names another one now, or none.
+    fn find_name(&self) -> io::Result<()> {
+        let Some(opened) = &self.opened else {
+            return Ok(());
+        };
+        if self.files.look_at(self.path)?.identity == opened.identity {
+            Ok(())
+        } else {
+            Err(ErrorKind::NotFound.into())
         }
-        opened => opened,
     }
 }
 
-/// Whether an error says that a file may not be written.
-fn is_write_refused(kind: ErrorKind) -> bool {
-    matches!(
-        kind,
-        ErrorKind::PermissionDenied | ErrorKind::ReadOnlyFilesystem
-    )
-}
-
-impl<'a, F: Files> FileDisk<'a, F>
+impl<'a, F: LooksAtFiles> FileDisk<'a, F>
 where
     F::File: FileExt + FileLock,
 {
     /// Locks the file, where one is open and it is not locked so already. An answer that another holds the lock leaves it
-    /// with none.
+    /// with none. To be held alone it has to be one that may be written.
     fn lock(&mut self, wanted: Hold) -> io::Result<()>
         ensures calls { self.new.calls ≡ self.old.calls }
         ensures faults { self.new.faults ≡ self.old.faults }
         ensures needs_all { self.new.needs_all ≡ self.old.needs_all }
         ensures owes_folder { self.new.owes_folder ≡ self.old.owes_folder }
     {
-        let Some(file) = &self.file else {
+        let Some(opened) = &self.opened else {
             return Ok(());
         };
+        if wanted == Hold::Alone && !opened.is_writable {
+            return Err(ErrorKind::PermissionDenied.into());
+        }
         if self.hold == Hold::Alone || self.hold == wanted {
             return Ok(());
         }
         let answer = match wanted {
-            Hold::Alone => file.try_lock(),
-            Hold::Shared | Hold::Free => file.try_lock_shared(),
+            Hold::Alone => opened.file.try_lock(),
+            Hold::Shared | Hold::Free => opened.file.try_lock_shared(),
         };
         // A lock that changes is let go first, so that another may have had it in between.
         self.size = None;
@@ -149,11 +156,9 @@ where
         ensures needs_all { self.old.needs_all ≡ true → self.new.needs_all ≡ true }
         ensures owes_folder { self.old.owes_folder ≡ true → self.new.owes_folder ≡ true }
     {
-        if self.file.is_none() {
-            match open_existing(self.files, self.path) {
-                Ok(file) => self.keep(file),
-                Err(error) if error.kind() == ErrorKind::NotFound => {}
-                Err(error) => return Err(error),
+        if self.opened.is_none() {
+            if let Some(opened) = open_existing(self.files, self.path, self.spared)? {
+                self.keep(opened);
             }
         }
         self.lock(wanted)
@@ -165,8 +170,8 @@ where
         ensures faults { self.new.faults ≡ self.old.faults }
     {
         self.open(wanted)?;
-        let size = match &self.file {
-            Some(file) => file.metadata()?.len(),
+        let size = match &self.opened {
+            Some(opened) => opened.file.metadata()?.len(),
             None => 0,
         };
         self.size = Some(size);
@@ -185,7 +190,8 @@ where
         }
     }
 
-    /// Syncs the file, and its folder where that is owed. A file that is missing has nothing to sync.
+    /// Syncs the file, and its folder where that is owed, and sees that its path still names it. A file that is missing
+    /// has nothing to sync.
     fn settle(&mut self) -> io::Result<()>
         ensures calls { self.new.calls ≡ self.old.calls }
         ensures faults { self.new.faults ≡ self.old.faults }
@@ -194,22 +200,39 @@ where
             (self.old.owes_folder ≡ true → self.new.owes_folder ≡ true) }
     {
         self.open(Hold::Alone)?;
-        let Some(file) = &self.file else {
+        if self.opened.is_none() {
             return Ok(());
-        };
+        }
         let needs_all = self.needs_all;
         self.needs_all = true;
-        if needs_all {
-            file.sync_all()?;
-        } else {
-            file.sync_data()?;
-        }
+        self.sync_or_write_again(needs_all)?;
+        self.unsettled.settle();
         if self.owes_folder {
             sync_folder(self.files, self.path)?;
-            self.owes_folder = false;
         }
+        self.find_name()?;
+        self.owes_folder = false;
         self.needs_all = false;
         Ok(())
+    }
+
+    /// Syncs the open file: its bytes, and, where all is wanted, all that the system keeps of it. Where that fails, what
+    /// the device may not have is written again.
+    fn sync_or_write_again(&self, needs_all: bool) -> io::Result<()> {
+        let Some(Opened { file, .. }) = &self.opened else {
+            return Ok(());
+        };
+        let outcome = if needs_all {
+            file.sync_all()
+        } else {
+            file.sync_data()
+        };
+        if outcome.is_err() {
+            if let Ok(found) = file.metadata() {
+                write_again(file, self.unsettled.range(found.len()));
+            }
+        }
+        outcome
     }
 
     fn read_range(&mut self, at: u64, buf: &mut [u8]) -> io::Result<()>
@@ -220,8 +243,8 @@ where
         if at > size || buf.len() as u64 > size - at {
             return Err(ErrorKind::UnexpectedEof.into());
         }
-        match &self.file {
-            Some(file) => file.read_exact_at(buf, at),
+        match &self.opened {
+            Some(opened) => opened.file.read_exact_at(buf, at),
             None => Ok(()),
         }
     }
@@ -231,16 +254,11 @@ where
         ensures calls { self.new.calls ≡ self.old.calls }
         ensures faults { self.new.faults ≡ self.old.faults }
     {
-        let file = OpenOptions::new()
-            .read(true)
-            .write(true)
-            .create_new(true)
-            .mode(OWNER_ALONE)
-            .open(self.files, self.path)?;
-        self.keep(file);
+        let opened = make_new(self.files, self.path)?;
+        self.keep(opened);
         self.lock(Hold::Alone)?;
-        match &self.file {
-            Some(file) => file.write_all_at(bytes, 0),
+        match &self.opened {
+            Some(opened) => opened.file.write_all_at(bytes, 0),
             None => Ok(()),
         }
     }
@@ -260,8 +278,9 @@ where
             self.needs_all = true;
         }
         self.size = None;
-        match &self.file {
-            Some(file) => file.write_all_at(bytes, at)?,
+        self.unsettled.note(at, end);
+        match &self.opened {
+            Some(opened) => opened.file.write_all_at(bytes, at)?,
             None => self.make(bytes)?,
         }
         self.size = Some(end.max(size));
@@ -269,18 +288,7 @@ where
     }
 }
 
-/// Syncs the folder of a path, so that a crash keeps the names in it.
-fn sync_folder<F: Files>(files: &F, path: &str) -> io::Result<()> {
-    let mut options = OpenOptions::new();
-    let options = options.read(true);
-    let folder = match Path::new(path).parent() {
-        Some(folder) if !folder.as_str().is_empty() => options.open(files, folder)?,
-        _ => options.open(files, ".")?,
-    };
-    folder.sync_all()
-}
-
-impl<'a, F: Files> Disk for FileDisk<'a, F>
+impl<'a, F: LooksAtFiles> Disk for FileDisk<'a, F>
 where
     F::File: FileExt + FileLock,
 {

@@ -1,7 +1,7 @@
 //! A file system of one file and its folder, as a stage plays it.
 
 use super::stage::{Call, Stage};
-use file_disk::FileLock;
+use file_disk::{FileIdentity, FileLock, FileLook, LooksAtFiles};
 use std::alloc::{Allocator, Global};
 use std::fs::{Files, Metadata, OpenFile, OpenOptions, TryLockError};
 use std::io::{self, ErrorKind, Read, Seek, SeekFrom, Write};
@@ -32,6 +32,7 @@ impl<'a> FakeFiles<'a> {
 #[derive(Drop)]
 pub struct FakeFile<'a> {
     stage: &'a Stage,
+    identity: FileIdentity,
     is_folder: bool,
     at: usize,
 }
@@ -43,6 +44,19 @@ impl FileLock for FakeFile<'_> {
 
     fn try_lock_shared(&self) -> Result<(), TryLockError> {
         self.stage.lock(Call::LockShared)
+    }
+}
+
+impl LooksAtFiles for FakeFiles<'_> {
+    fn look_at(&self, path: &str) -> io::Result<FileLook> {
+        if path != self.path {
+            return Err(ErrorKind::NotFound.into());
+        }
+        self.stage.look_at()
+    }
+
+    fn look_into(&self, file: &FakeFile<'_>) -> io::Result<FileLook> {
+        self.stage.look_into(file.identity)
     }
 }
 
@@ -82,6 +96,7 @@ impl<'a> Files for FakeFiles<'a> {
         }
         Ok(FakeFile {
             stage: self.stage,
+            identity: self.stage.opened(),
             is_folder,
             at: 0,
         })

@@ -2,6 +2,7 @@
 
 ghost use Rattle.std.specs.Prelude.{◌≤◌, length, IfOk};
 
+use file_disk::{FileIdentity, FileLook};
 use std::alloc::{AllocError, Global};
 use std::cell::{Cell, RefCell};
 use std::fs::TryLockError;
@@ -18,6 +19,10 @@ pub enum Call {
     Make,
     /// The folder of the file was opened.
     OpenFolder,
+    /// What the path names was looked at.
+    Look,
+    /// The open file was looked at.
+    LookInto,
     /// The open file was asked for its size.
     Size,
     /// So many of the next bytes were asked for.
@@ -53,6 +58,21 @@ pub enum Others {
     HoldAlone,
     /// The file has no lock.
     HaveNoLocks,
+}
+
+/// What the path of the file of a stage names.
+#[derive(Clone, Copy, Debug, PartialEq, Eq)]
+pub enum Named {
+    /// The regular file of this number.
+    File(u64),
+    /// What is no regular file, of this number.
+    NoFile(u64),
+    /// The regular file of this number, in whose place one of number 9 is opened.
+    Swapped(u64),
+    /// The regular file of this number, in whose place what is none is opened.
+    SwappedForNoFile(u64),
+    /// Nothing.
+    Nothing,
 }
 
 /// Each kind of error but an interruption, after which a call is made again.
@@ -107,9 +127,11 @@ pub struct Stage {
     log: RefCell<Vec<Call>>,
     most: usize,
     failing: Cell<(u64, u64)>,
+    failing_too: Cell<(u64, u64)>,
     kind: Cell<ErrorKind>,
     made: Cell<u64>,
     others: Cell<Others>,
+    named: Cell<Named>,
 }
 
 fn in_use() -> io::Error {
@@ -120,6 +142,17 @@ fn no_memory() -> io::Error {
     ErrorKind::OutOfMemory.into()
 }
 
+fn identity(inode: u64) -> FileIdentity {
+    FileIdentity { device: 1, inode }
+}
+
+fn found(identity: FileIdentity, is_regular: bool) -> FileLook {
+    FileLook {
+        identity,
+        is_regular,
+    }
+}
+
 impl Stage {
     /// A stage with these bytes, or with no file. No call takes or gives more than so many of them at once.
     pub fn new(alloc: Global, bytes: Option<Vec<u8>>, most: usize) -> Stage {
@@ -128,9 +161,11 @@ impl Stage {
             log: RefCell::new(Vec::new(alloc)),
             most,
             failing: Cell::new((0, 0)),
+            failing_too: Cell::new((0, 0)),
             kind: Cell::new(ErrorKind::Other),
             made: Cell::new(0),
             others: Cell::new(Others::HoldNone),
+            named: Cell::new(Named::File(1)),
         }
     }
 
@@ -145,13 +180,24 @@ impl Stage {
         self.log.try_borrow_mut().map_err(|_| in_use())?.clear();
         self.made.set(0);
         self.failing.set((first, last));
+        self.failing_too.set((0, 0));
         self.kind.set(kind);
         Ok(())
+    }
+
+    /// Beside those the calls from one with such a number to one with that number fail.
+    pub fn fail_too(&self, first: u64, last: u64) {
+        self.failing_too.set((first, last));
     }
 
     /// What others have of the lock from now on.
     pub fn lock_by_others(&self, others: Others) {
         self.others.set(others);
+    }
+
+    /// What the path names from now on.
+    pub fn name(&self, named: Named) {
+        self.named.set(named);
     }
 
     /// The calls since the log was emptied.
@@ -176,8 +222,8 @@ impl Stage {
         log.push(call).map_err(|_| no_memory())?;
         let made = self.made.get().saturating_add(1);
         self.made.set(made);
-        let (first, last) = self.failing.get();
-        if first <= made && made <= last {
+        let is_in = |(first, last)| first <= made && made <= last;
+        if is_in(self.failing.get()) || is_in(self.failing_too.get()) {
             return Err(self.kind.get().into());
         }
         Ok(())
@@ -197,6 +243,40 @@ impl Stage {
             (Others::Share | Others::HoldAlone, _) => Err(TryLockError::WouldBlock),
             (Others::HaveNoLocks, _) => Err(TryLockError::Error(ErrorKind::Unsupported.into())),
         }
+    }
+
+    /// Which file is opened by the path. Of none the number is 0.
+    pub(crate) fn opened(&self) -> FileIdentity {
+        identity(match self.named.get() {
+            Named::File(inode) | Named::NoFile(inode) | Named::SwappedForNoFile(inode) => inode,
+            Named::Swapped(_) => 9,
+            Named::Nothing => 0,
+        })
+    }
+
+    /// Logs that what the path names was looked at, and tells of it.
+    pub(crate) fn look_at(&self) -> io::Result<FileLook> {
+        self.step(Call::Look)?;
+        if self.size()?.is_none() {
+            return Err(ErrorKind::NotFound.into());
+        }
+        match self.named.get() {
+            Named::File(inode) | Named::Swapped(inode) | Named::SwappedForNoFile(inode) => {
+                Ok(found(identity(inode), true))
+            }
+            Named::NoFile(inode) => Ok(found(identity(inode), false)),
+            Named::Nothing => Err(ErrorKind::NotFound.into()),
+        }
+    }
+
+    /// Logs that the open file was looked at, which is this one, and tells of it.
+    pub(crate) fn look_into(&self, opened: FileIdentity) -> io::Result<FileLook> {
+        self.step(Call::LookInto)?;
+        let is_regular = !matches!(
+            self.named.get(),
+            Named::NoFile(_) | Named::SwappedForNoFile(_)
+        );
+        Ok(found(opened, is_regular))
     }
 
     /// How many bytes there are, where there is a file.
