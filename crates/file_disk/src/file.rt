@@ -61,6 +61,8 @@ pub struct FileDisk<'a, F: LooksAtFiles> {
 impl<'a, F: LooksAtFiles> FileDisk<'a, F> {
     /// A disk over the file of this path, unless that is the file to spare. It opens nothing yet.
     pub fn new(rt: &'a F, path: &'a str, spared: Option<FileIdentity>) -> FileDisk<'a, F>
+        ensures path { result.path.now ≡ path.now }
+        ensures spared { result.spared ≡ spared }
         ensures no_calls { count_value result.calls ≡ 0 }
         ensures no_faults { count_value result.faults ≡ 0 }
     {
