@@ -5,6 +5,8 @@ use crate::fakes::Call::{
     Lock, Look, LookInto, OpenFolder, OpenToWrite, ReadAt, Size, SyncAll, SyncData, WriteAt,
 };
 use crate::files::{ALL_SYNCED, Act, Case, FOUR, Row, SYNCED, assert_case};
+use std::alloc::Global;
+use std::process::Abort;
 use std::test::Fail;
 
 const BEFORE_A_GOOD_SYNC: Case<'static> = Case {
@@ -208,6 +210,27 @@ const TWO_PAGES: [Row<'static>; 9] = [
     (0, Act::Get(4_090, 8), true, &[ReadAt(4_090, 8)]),
 ];
 
+// Makes such calls on a file of so many bytes, which may be read and written at once, and compares what they leave.
+fn assert_large(
+    rt: &impl Abort,
+    alloc: Global,
+    bytes: &[u8],
+    rows: &[Row<'_>],
+    left: &[u8],
+) -> Result<(), Fail> {
+    let case = Case {
+        path: FOUR.path,
+        folder: FOUR.folder,
+        bytes: Some(bytes),
+        most: LARGE,
+        others: FOUR.others,
+        kind: FOUR.kind,
+        rows,
+        left: Some(left),
+    };
+    assert_case(rt, alloc, &case)
+}
+
 #[test]
 fn it_is_written_in_pieces(rt: HostRuntime) -> Result<(), Fail> {
     let alloc = rt.alloc();
@@ -215,22 +238,10 @@ fn it_is_written_in_pieces(rt: HostRuntime) -> Result<(), Fail> {
     for (at, byte) in bytes.iter_mut().enumerate() {
         *byte = (at % 251) as u8;
     }
+    assert_large(&rt, alloc, &bytes, &PIECES, &bytes)?;
     let mut left = bytes.clone()?;
-    let case = Case {
-        bytes: Some(&bytes),
-        most: LARGE,
-        rows: &PIECES,
-        left: Some(&bytes),
-        ..FOUR
-    };
-    assert_case(&rt, alloc, &case)?;
     left[4_090..4_098].copy_from_slice(b"xxxxxxxx");
     let mut rows = PIECES.to_vec(alloc)?;
     rows.extend_from_slice(&TWO_PAGES)?;
-    let case = Case {
-        rows: &rows,
-        left: Some(&left),
-        ..case
-    };
-    assert_case(&rt, alloc, &case)
+    assert_large(&rt, alloc, &bytes, &rows, &left)
 }
