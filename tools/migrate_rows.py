@@ -152,9 +152,9 @@ def target_rows(media):
         media.refused(f"a migration into a target of {size} bytes", old, target, wrong_size(size))
     shutil.copy(media.elections[2], media.table.room / "own.json")
     media.lay(old, None)
-    media.table.row("a migration into its election", ["old", "own.json", "migrate", "own.json"], OK,
-                    output=b"migrated 3\n")
-    media.table.same("an election that was a target", (media.table.room / "own.json").read_bytes(), MEDIUM)
+    media.table.row("a migration into its election", ["old", "own.json", "migrate", "own.json"], TARGET_FAULT)
+    media.table.same("an election that was to be a target", (media.table.room / "own.json").read_bytes(),
+                     Path(media.elections[2]).read_bytes())
     media.stands("a migration into its election", old, None)
 
 
@@ -213,7 +213,7 @@ def word_rows(media):
     media.stands("words that are no form", old, None)
     table.row("a migration under a missing election", ["old", "no.json", "migrate", "target"], ELECTION_FAULT)
     table.row("a migration under a medium", ["old", "old", "migrate", "target"], BAD_ELECTION)
-    table.row("a migration of an election", [election, election, "migrate", "target"], NO_STORE)
+    table.row("a migration of an election", [election, election, "migrate", "target"], DISK_FAULT)
     media.stands("elections that are none", old, None)
     for target in ("a b", "=", "migrate", "t-", "\u00e9"):
         (table.room / target).unlink(missing_ok=True)
@@ -293,7 +293,8 @@ def held_up_rows(media):
 
 
 def read_only_rows(media):
-    """An old medium that may only be read is carried over; a target that may only be read cannot be filled."""
+    """An old medium that may only be read is carried over. A target that may only be read is a fault, whatever it
+    holds."""
     table, old = media.table, media.medium(1, *THREE)
     folder = table.room / "of_nobody"
     folder.mkdir()
@@ -307,7 +308,7 @@ def read_only_rows(media):
         os.chown(folder, NOBODY, NOBODY)
         run = ["setpriv", f"--reuid={NOBODY}", f"--regid={NOBODY}", "--clear-groups", *run]
     for name, target, ending in (("that is missing", None, OK), ("without a byte", b"", TARGET_FAULT),
-                                 ("in use", MEDIUM, IN_USE), ("of a byte too many", bytes(867), wrong_size(867))):
+                                 ("in use", MEDIUM, TARGET_FAULT), ("of a byte too many", bytes(867), TARGET_FAULT)):
         for medium, data in (("old", old), ("target", target)):
             (folder / medium).unlink(missing_ok=True)
             if data is not None:

@@ -370,8 +370,8 @@ def file_rows(media):
              ("part1/x", "part1", torn_a, DISK_FAULT), (".", "./.", torn_a, DISK_FAULT),
              ("no/such", ".", bad, NO_STORE),
              ("part0", ".", bad, (10, "damaged cell 4")), ("part0", "none", bad, (10, "damaged cell 4")),
-             ("none", "none/x", torn_a, NO_STORE), (election, "part1", torn_a, NO_STORE),
-             ("part0", election, torn_a, (20, "medium 1 no store"))]
+             ("none", "none/x", torn_a, NO_STORE), (election, "part1", torn_a, DISK_FAULT),
+             ("part0", election, torn_a, second), ("part0", election, bad, (10, "damaged cell 4"))]
     for first, other, data, ending in cases:
         name = f"the parts {first[-7:]} and {other[-7:]}, of {ending[1]}"
         media.lay([data, three[1]])
@@ -515,8 +515,9 @@ def short_output_rows(media):
 
 
 def read_only_rows(media):
-    """Parts that may only be read. A checkpoint on them makes the parts before the first such one new, and no other."""
-    table, three, five = media.table, media.media(FIRST), media.media(FIVE)
+    """A part that may only be read ends a run where it is recovered, before anything is said: the parts before it are
+    recovered then, and no other is written. All are read first, so what is no store or misplaced is told before."""
+    table, three = media.table, media.media(FIRST)
     folder = table.room / f"parts_of_nobody_{media.count}"
     folder.mkdir()
     for source, name, mode in ((media.program, "program", 0o755), (media.election, "election", 0o644)):
@@ -527,21 +528,22 @@ def read_only_rows(media):
         os.chmod(table.room, 0o755)
         os.chown(folder, NOBODY, NOBODY)
         run = ["setpriv", f"--reuid={NOBODY}", f"--regid={NOBODY}", "--clear-groups", *run]
+    last, torn_all, lost = media.count - 1, [data[:-1] + b"\0" for data in three], [*three[:-1], b""]
     for part in range(media.count):
-        ending = DISK_FAULT if part == 0 else (17, f"disk fault at medium {part}")
-        torn_part = three[:part] + [three[part][:-1] + b"\0"] + three[part + 1:]
-        cases = [("and no checkpoint", three, b"export", OK, media.exported(FIRST), three),
-                 ("and a checkpoint", three, MORE, ending, PHASE_TOLD, five[:part] + three[part:]),
-                 ("which is torn", torn_part, MORE, ending, b"", torn_part)]
-        for name, media_of, script, (status, why), told, then in cases:
+        fault = DISK_FAULT if part == 0 else (17, f"disk fault at medium {part}")
+        cases = [(f"and the script {script!r}", three, script, fault, three) for script in (b"", b"export\n", MORE)]
+        cases += [("beside torn parts", torn_all, MORE, fault, three[:part] + torn_all[part:]),
+                  ("before one of no byte", lost, MORE, (20, f"medium {last} no store"), lost),
+                  ("among exchanged ones", three[::-1], MORE, misplaced(0, GREATEST), three[::-1])]
+        for name, media_of, script, (status, why), then in cases:
             for at, data in enumerate(media_of):
                 (folder / media.names[at]).unlink(missing_ok=True)
                 (folder / media.names[at]).write_bytes(data)
                 (folder / media.names[at]).chmod(0o444 if at == part else 0o666)
             done = subprocess.run(run, input=script, cwd=folder, capture_output=True)
             name = f"part {part} of {media.count} that may only be read, {name}"
-            error = f"ballot_store: {why}\n".encode() if why else b""
-            table.judge(name, (done.returncode, done.stdout, done.stderr), (status, told, error))
+            wanted = (status, b"", f"ballot_store: {why}\n".encode())
+            table.judge(name, (done.returncode, done.stdout, done.stderr), wanted)
             table.same(name, [(folder / each).read_bytes() for each in media.names], then)
 
 

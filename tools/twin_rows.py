@@ -260,10 +260,11 @@ def word_rows(media):
                   output=b"media second-restored\n")
         table.same(f"the second disk {second!r}", (table.room / second).read_bytes(), three)
     shutil.copy(election, table.room / "own.json")
-    table.row("its election as second disk", ["first", "own.json", "twin", "own.json"], OK, MORE,
-              b"media second-restored\n" + MORE_CAST)
-    for name in ("own.json", "first"):
-        table.same(f"{name} after its election was a disk", (table.room / name).read_bytes(), media.medium(*FOUR))
+    for words, ending in ((["first", "own.json", "twin", "own.json"], SECOND_FAULT),
+                          (["own.json", "own.json", "twin", "first"], DISK_FAULT)):
+        table.row(f"its election as a disk: {' '.join(words)}", words, ending, MORE)
+        found = [(table.room / name).read_bytes() for name in ("own.json", "first")]
+        table.same(f"the files after {' '.join(words)}", found, [Path(election).read_bytes(), three])
 
 
 def file_rows(media):
@@ -359,7 +360,8 @@ def held_up_rows(media):
 
 
 def read_only_rows(media):
-    """Disks that may only be read: a pair that is as it has to be is taken, and a checkpoint on it is not."""
+    """A disk that may only be read ends a run before anything is said or written, also where nothing has to be written:
+    the first at its first sync, and the second at its own."""
     table, three, other = media.table, media.medium(*THREE), media.medium(*OTHER)
     folder = table.room / "twins_of_nobody"
     folder.mkdir()
@@ -371,28 +373,24 @@ def read_only_rows(media):
         os.chmod(table.room, 0o755)
         os.chown(folder, NOBODY, NOBODY)
         run = ["setpriv", f"--reuid={NOBODY}", f"--regid={NOBODY}", "--clear-groups", *run]
-    torn_b, shut = three[:305] + b"\x3c" + three[306:], three[:-1] + b"\0"
-    # name, the disks, which of them may be written, the end, what is said, and the disks then
-    cases = [("both, and no checkpoint", three, three, "", OK, "equal", three, three),
-             ("both", three, three, "", DISK_FAULT, "equal", three, three),
-             ("the first", three, three, "second", DISK_FAULT, "equal", three, three),
-             ("the second", three, three, "first", SECOND_FAULT, "equal", shut, three),
-             ("a second with another set", three, other, "first", SECOND_FAULT, None, three, other),
-             ("a second that is torn", three, torn_b, "first", SECOND_FAULT, None, three, torn_b),
-             ("a first that is torn", torn_b, three, "second", DISK_FAULT, None, torn_b, three),
-             ("a second that is lost", three, b"", "first", SECOND_FAULT, None, three, b""),
-             ("a first that is lost", b"", three, "second", DISK_FAULT, None, b"", three)]
-    for name, first, second, writable, ending, said, *then in cases:
-        for which, data in zip(NAMES, (first, second)):
-            (folder / which).unlink(missing_ok=True)
-            (folder / which).write_bytes(data)
-            (folder / which).chmod(0o666 if which == writable else 0o444)
-        script, name = b"" if ending == OK else b"checkpoint\n", f"disks that may only be read: {name}"
-        done = subprocess.run(run, input=script, cwd=folder, capture_output=True)
-        wanted = f"media {said}\n".encode() if said else b""
-        told = f"ballot_store: {ending[1]}\n".encode() if ending[0] else b""
-        table.judge(name, (done.returncode, done.stdout, done.stderr), (ending[0], wanted, told))
-        table.same(f"the {name}", [(folder / which).read_bytes() for which in NAMES], then)
+    torn_b, bad, large = three[:305] + b"\x3c" + three[306:], three[:108] + b"\2" + three[109:], three + b"\0"
+    kinds_of = {"as they have to be": (three, three), "with two sets": (three, other),
+                "with a torn first": (torn_b, three), "with a torn second": (three, torn_b),
+                "with a first that is lost": (b"", three), "with a second that is lost": (three, b""),
+                "with a damaged second": (three, bad), "with a second that is too large": (three, large),
+                "that are both lost": (b"", b"")}
+    for writable, ending in (("", DISK_FAULT), ("second", DISK_FAULT), ("first", SECOND_FAULT)):
+        for kind, then in kinds_of.items():
+            for script in (b"", b"export\n", b"checkpoint\n"):
+                for which, data in zip(NAMES, then):
+                    (folder / which).unlink(missing_ok=True)
+                    (folder / which).write_bytes(data)
+                    (folder / which).chmod(0o666 if which == writable else 0o444)
+                name = f"disks {kind} of which {writable or 'none'} may be written, and the script {script!r}"
+                done = subprocess.run(run, input=script, cwd=folder, capture_output=True)
+                wanted = (ending[0], b"", f"ballot_store: {ending[1]}\n".encode())
+                table.judge(name, (done.returncode, done.stdout, done.stderr), wanted)
+                table.same(f"the {name}", tuple((folder / which).read_bytes() for which in NAMES), then)
 
 
 def output_rows(media):
