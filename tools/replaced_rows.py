@@ -4,12 +4,14 @@ acknowledged from then on, and no other file changes."""
 import itertools
 import os
 import re
+import shutil
 import subprocess
 import threading
-from collections.abc import Callable
+from collections.abc import Callable, Sequence
 from pathlib import Path
 from typing import NamedTuple
 
+from guard_rows import mount_words
 from guarded_runs import (
     COMMANDS,
     CONTENTS,
@@ -147,7 +149,16 @@ def title_of(harm: Harm) -> str:
 def replaced_rows(table: Table, program: Path, examples: Path) -> None:
     """All cases."""
     with in_room(table, program, examples) as room:
-        for rows in (phase_rows, harmless_rows, linked_rows, link_rows, last_rows, compared_rows, stopped_rows):
+        for rows in (
+            phase_rows,
+            harmless_rows,
+            linked_rows,
+            link_rows,
+            last_rows,
+            compared_rows,
+            stick_rows,
+            stopped_rows,
+        ):
             rows(room)
 
 
@@ -188,11 +199,10 @@ def held_bank(data: bytes) -> bytes:
 class Talk:
     """A run that is given its script line by line, as its replies come."""
 
-    def __init__(self, case: Case):
+    def __init__(self, case: Case, before: Sequence[str] = ()):
         pipe = subprocess.PIPE
-        self.process = subprocess.Popen(
-            [str(case.program), *case.line()], cwd=case.folder, stdin=pipe, stdout=pipe, stderr=pipe
-        )
+        words = [*before, str(case.program), *case.line()]
+        self.process = subprocess.Popen(words, cwd=case.folder, stdin=pipe, stdout=pipe, stderr=pipe)
         self.watch = threading.Timer(LONGEST, self.process.kill)
         self.watch.daemon = True
         self.watch.start()
@@ -232,11 +242,13 @@ def sessions() -> list[tuple[Command, int]]:
     return [(command, index) for command in COMMANDS if command.name in SCRIPTED for index in range(command.media)]
 
 
-def begin(case: Case, content: str, moment: str) -> tuple[Talk, bytes, bytes, list[str], list[str]]:
+def begin(
+    case: Case, content: str, moment: str, words: Sequence[str] = ()
+) -> tuple[Talk, bytes, bytes, list[str], list[str]]:
     """A run up to a moment: what it has told, what it should have, and the rest of its lines and replies."""
     before, told, rest, replies = lines_around(case.media, content, moment)
     told = ["media equal"] * (case.command.name == "twin") + told
-    talk = Talk(case)
+    talk = Talk(case, words)
     return talk, talk.say(before, told), text(*told), rest, replies
 
 
@@ -391,6 +403,42 @@ def link_rows(room: Room) -> None:
                 room.table.same(f"the replies before {name}", found, wanted)
                 room.table.same(f"all other files after {name}", files.others(), before)
                 files.close()
+
+
+# a file system in memory is mounted in the folder of a medium, with a copy of it
+STICK = 'mount -t tmpfs tmpfs "$1" && cp copy "$1/medium"'
+
+
+def stick_rows(room: Room) -> None:
+    """Another file system is mounted where the medium lay, as when a stick is pulled and another one put in: its file
+    may have the same number as the medium had."""
+    words = mount_words()
+    if not words or not shutil.which("nsenter"):
+        room.table.leave_out(
+            "media on a device that is exchanged", "unshare may not mount here, or there is no nsenter"
+        )
+        return
+    for command, index in sessions():
+        case = room.case(command).lay("whole")
+        case.path(index).rename(case.folder / "copy")
+        run_there = [*words, "bash", "-c", STICK + ' && shift && exec "$@"', "stick", str(index)]
+        talk, found, wanted, rest, replies = begin(case, "whole", MOMENTS[0], run_there)
+        numbers = [number_inside(talk.process.pid, words, case, index, "true")]
+        numbers.append(number_inside(talk.process.pid, words, case, index, STICK))
+        name = f"{command.place(index)} on a device that is exchanged"
+        room.table.judge(name, talk.end(rest), said(fault_at(index), text(*replies[:-1])))
+        room.table.same(f"the replies before {name}", found, wanted)
+        if len(set(numbers)) != 1:
+            room.table.leave_out(f"{name} for one with a file of the same number", f"the numbers are {numbers}")
+
+
+def number_inside(pid: int, words: Sequence[str], case: Case, index: int, then: str) -> str:
+    """Does something among the mounts of a run, and tells the number of a medium there."""
+    enter = ["nsenter", f"--target={pid}", "--mount"]
+    if "--map-root-user" in words:
+        enter += ["--user", "--preserve-credentials"]
+    line = [*enter, "bash", "-c", f'cd "$2" && {then} && stat -c %i "$1/medium"', "stick", str(index), str(case.folder)]
+    return subprocess.run(line, capture_output=True, text=True).stdout.strip()
 
 
 class Sync(NamedTuple):
