@@ -190,9 +190,10 @@ def parted(
     sets: Sets = []
     if held is not None:
         sets = [(0, held), *follow(rules, held, output, script, failed, len(names))]
+    split = [(place, shares(len(names), found)) for place, found in sets]
     outcomes = {}
     for part, name in enumerate(names):
-        own = [(place, shares(len(names), found)[part]) for place, found in sets]
+        own = [(place, found[part]) for place, found in split]
         if not failed and after.get(name) != (rules.medium(own[-1][1]) if own else start.get(name)):
             raise Doubt(f"{short(ending)}, and {name} is not as it has to be then")
         outcomes[name] = [(place, holding(found)) for place, found in own] or [(0, rules.outcome(start.get(name)))]

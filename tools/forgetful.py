@@ -105,9 +105,10 @@ class ForgetfulDisk:
         """A unit in which something is written waits as a whole: so does what was forgotten in it."""
         low, high = place - place % self.unit, place + length + -(place + length) % self.unit
         known, seen = self.settled() or b"", self.seen or b""
+        if known[slice(low, high)] == seen[slice(low, high)]:
+            return
         differ = [at for at in range(low, min(high, len(seen))) if at >= len(known) or known[at] != seen[at]]
-        if differ:
-            self.pending.append(Write(differ[0], seen[slice(differ[0], differ[-1] + 1)], True))
+        self.pending.append(Write(differ[0], seen[slice(differ[0], differ[-1] + 1)], True))
 
     def settled(self) -> bytes | None:
         """What the device has after a sync that succeeds."""

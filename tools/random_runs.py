@@ -13,11 +13,11 @@ Described = dict[str, Any] | None  # a medium, as random_cases.py describes it
 
 
 class RandomRuns:
-    """An election and media of one of five kinds, and runs on them."""
+    """An election and media of one of five kinds, and runs on them. Crowded ones have many numbers, on all homes."""
 
-    def __init__(self, rng: random.Random, kind: str, election: dict[str, Any]) -> None:
+    def __init__(self, rng: random.Random, kind: str, election: dict[str, Any], crowded: bool = False) -> None:
         self.rng, self.kind = rng, kind
-        self.maker = Maker(rng, election, crowded=kind not in ("alone", "twin"))
+        self.maker = Maker(rng, election, crowded=crowded or kind not in ("alone", "twin"))
         medium, more = self.described()
         self.case: dict[str, Any] = {"election": election, "text": None, "medium": medium, "more": more, "runs": []}
         self.text: bytes = text_of(self.case)

@@ -6,7 +6,7 @@ is a dictionary from numbers to ballots. The reading of elections and of images 
 import json
 import re
 
-from check_medium import OPEN_GATE, VERSIONS, Finding, is_valid, judge, parse_election, place
+from check_medium import OPEN_GATE, VERSIONS, Finding, is_valid, look, parse_election, place
 
 LINE_WIDTH = 8192
 NUMBER = rb"[1-9][0-9]{0,19}"
@@ -93,22 +93,16 @@ class Rules:
         return f"{ballot[0]} {ballot[1]} {'/'.join(groups)}".encode()
 
     def image(self, held):
-        cells = place(self.election, held.values())
-        return self.election.header() + b"".join(self.election.cell_format().pack(*cell) for cell in cells)
+        cells, layout = place(self.election, held.values()), self.election.cell_format()
+        return self.election.header() + b"".join(layout.pack(*cell) for cell in cells)
 
     def medium(self, held):
         return self.image(held) * 2 + bytes([OPEN_GATE] * 2)
 
     def held(self, medium):
         """The set that these bytes hold; a Finding where they hold none. None is a missing file."""
-        try:
-            judge(self.election, medium or b"")
-        except Finding as finding:
-            if finding.args[0] != 14:
-                raise
-        size = self.election.image_size()
-        bank = medium[32:size] if medium[-2] == OPEN_GATE else medium[size + 32:-2]
-        return {cell[0]: cell for cell in self.election.cell_format().iter_unpack(bank) if cell[0]}
+        _, ballots = look(self.election, medium or b"")
+        return {ballot[0]: ballot for ballot in ballots}
 
     def outcome(self, medium):
         """How a recovery of these bytes ends: a set, as the sorted ballots, or a status and its text."""
