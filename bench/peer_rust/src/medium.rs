@@ -5,10 +5,13 @@ use crate::election::Election;
 use crate::store::{ImageFault, Store};
 use std::fs::{File, OpenOptions};
 use std::io::{ErrorKind, Result as Io};
+use std::ops::Range;
 use std::os::unix::fs::FileExt;
 use std::path::Path;
 
 pub const PAGE: usize = 4096;
+/// how many bytes are written once more in one call
+const AGAIN: usize = 65536;
 const OPEN: u8 = 0xA7;
 
 pub enum Fault {
@@ -187,11 +190,16 @@ pub struct FileDisk {
     /// the file's name in its folder is settled
     named: bool,
     run: usize,
+    /// a sync of the file succeeded in this run
+    synced: bool,
+    /// the least range of the file that has all writes since then
+    unsettled: Range<u64>,
 }
 
 impl FileDisk {
     pub fn new(path: &str, runs: bool) -> FileDisk {
-        FileDisk { path: path.to_string(), file: None, opened: false, named: false, run: if runs { 64 } else { 1 } }
+        let (path, run) = (path.to_string(), if runs { 64 } else { 1 });
+        FileDisk { path, file: None, opened: false, named: false, run, synced: false, unsettled: 0..0 }
     }
 
     fn file(&mut self) -> Io<Option<&File>> {
@@ -206,6 +214,40 @@ impl FileDisk {
         }
         Ok(self.file.as_ref())
     }
+
+    /// After a sync of the file failed: the system may take for written what the device never
+    /// got. Bytes that are written once more reach it at the next run's first sync, or that fails
+    /// too. Where no sync succeeded yet it is the whole file, in which an earlier run may have
+    /// left such bytes. A piece that fails is tried page by page, and a page that fails is passed
+    /// over.
+    fn write_again(&self, file: &File) {
+        let size = file.metadata().map_or(0, |m| m.len());
+        let span = if self.synced { self.unsettled.clone() } else { 0..size };
+        for piece in pieces(span.start..span.end.min(size), AGAIN) {
+            if put_back(file, &piece).is_err() {
+                for page in pieces(piece, PAGE) {
+                    let _ = put_back(file, &page);
+                }
+            }
+        }
+    }
+}
+
+/// A range in pieces that end at multiples of this size.
+fn pieces(range: Range<u64>, size: usize) -> impl Iterator<Item = Range<u64>> {
+    let mut at = range.start;
+    std::iter::from_fn(move || {
+        let piece = at..range.end.min((at / size as u64 + 1) * size as u64);
+        at = piece.end;
+        (!piece.is_empty()).then_some(piece)
+    })
+}
+
+/// Writes to a range the bytes that a read gives there.
+fn put_back(file: &File, range: &Range<u64>) -> Io<()> {
+    let mut bytes = vec![0; (range.end - range.start) as usize];
+    file.read_exact_at(&mut bytes, range.start)?;
+    file.write_all_at(&bytes, range.start)
 }
 
 impl Disk for FileDisk {
@@ -227,16 +269,23 @@ impl Disk for FileDisk {
         if self.file()?.is_none() {
             self.file = Some(OpenOptions::new().read(true).write(true).create(true).truncate(false).open(&self.path)?);
         }
+        let (old, to) = (&self.unsettled, at + bytes.len() as u64);
+        self.unsettled = if old.is_empty() { at..to } else { old.start.min(at)..old.end.max(to) };
         self.file.as_ref().unwrap().write_all_at(bytes, at)
     }
 
     /// Settles the bytes and, the first time, the file's name. A run that was killed may have
     /// made the file, so this does not ask who made it.
     fn sync(&mut self) -> Io<()> {
-        match self.file()? {
-            Some(f) => f.sync_data()?,
-            None => return Ok(()),
+        if self.file()?.is_none() {
+            return Ok(());
         }
+        let file = self.file.as_ref().unwrap();
+        if let Err(fault) = file.sync_data() {
+            self.write_again(file);
+            return Err(fault);
+        }
+        (self.synced, self.unsettled) = (true, 0..0);
         if !self.named {
             let folder = Path::new(&self.path).parent().filter(|p| !p.as_os_str().is_empty());
             File::open(folder.unwrap_or(Path::new(".")))?.sync_all()?;
