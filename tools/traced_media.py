@@ -1,5 +1,17 @@
 """What a run of the program did to its media, from a log of strace; and what a loss of power leaves of it, as
 docs/DISK.md has it: for `lose_power`.
+
+Behind a sync that failed, which makes nothing safe, a run writes again what stands there. By the letter of the disk
+model such a write is one like any other: a crash may tear it. Where a sync of the run was good before, that is how it
+is taken here. It does no harm: the run writes again only what lies between writes of its own since that sync, and no
+crash lets that be read. Where none was good it writes the whole file again, and by the letter a crash could leave
+anything of that. So there it is a premise that a write of the bytes that a read gives leaves them at a crash. Then it
+adds nothing to what a crash may leave: what an earlier write left unsafe may be lost, whole or torn as before, and
+elsewhere the device has the same bytes already. Nor does it take anything away: nothing of it is safe until a sync
+succeeds. `Disk` passes over it.
+
+The model also lets a read behind a failed sync give anything that a crash could have left. Here the sync is refused
+before the system has done anything, so a read gives what was written: for a device that forgets there is `fail_syncs`.
 """
 import os
 import re
@@ -10,6 +22,7 @@ CALLS = ("open openat openat2 creat close dup dup2 dup3 fcntl write writev pwrit
          "read readv lseek fsync fdatasync sync syncfs sync_file_range msync mmap truncate ftruncate fallocate rename "
          "renameat renameat2 unlink unlinkat link linkat symlink symlinkat sendfile splice copy_file_range "
          "io_uring_setup").split()
+SYNCS = ("fsync", "fdatasync")
 HARMLESS = ("pread64", "preadv", "read", "readv", "lseek", "fcntl", "mmap")  # on the medium
 WHOLE = re.compile(r"(\d+) +(\w+)\((.*)\)\s+= (-?\d+|\?|0x[0-9a-f]+)")
 BEGUN = re.compile(r"(\d+) +(\w+\(.*) <unfinished \.\.\.>")
@@ -30,7 +43,7 @@ def texts(arguments):
 
 class Trace:
     """The events of a run, from its system calls: what it did to the media that it may write, to their folder and to
-    the other media, and what it replied."""
+    the other media, which of its syncs failed, and what it replied."""
 
     def __init__(self, log, folder, written):
         self.folder, self.written, self.others = folder, written, [name for name in MEDIA if name not in written]
@@ -50,21 +63,26 @@ class Trace:
         return kind in self.others
 
     def call(self, name, arguments, result):
+        if result.startswith("-") and name in SYNCS:
+            return self.synced(name, arguments, "unsynced")
         if result.startswith("-") or result == "?":
-            return  # it did nothing; a write that fails may tear its range, but here no call on the medium fails
+            return  # it did nothing; a write that fails may tear its range, but here only a sync of the medium fails
         if name in ("open", "openat", "creat"):
             self.open(name, arguments, int(result))
         elif name == "close":
             self.files.pop(int(arguments), None)
-        elif name in ("fsync", "fdatasync"):
-            kind = self.files.get(int(arguments))
-            self.events += [("synced", kind)] if kind and not self.touched(kind, name) else []
+        elif name in SYNCS:
+            self.synced(name, arguments, "synced")
         elif name in ("sync", "syncfs"):
             self.events += [("synced", kind) for kind in (*self.written, "folder")]
         elif name in ("write", "writev", "pwrite64", "pwritev", "pwritev2"):
             self.write(name, arguments, int(result))
         else:
             self.other(name, arguments)
+
+    def synced(self, name, arguments, what):
+        kind = self.files.get(int(arguments))
+        self.events += [(what, kind)] if kind and not self.touched(kind, name) else []
 
     def open(self, name, arguments, result):
         kind = self.kind(texts(arguments)[0])
@@ -121,30 +139,46 @@ def calls(log):
             yield whole[2], whole[3], whole[4]
 
 
+def syncs(log):
+    """The syncs of a run, in order, each as the name of its call and its number among those of this name."""
+    names = [name for name, _, _ in calls(log) if name in SYNCS]
+    return [(name, names[:at + 1].count(name)) for at, name in enumerate(names)]
+
+
 class Disk:
-    """Of the medium of this name: what is safe, what a read gives, and the writes between."""
+    """Of the medium of this name: what is safe, what a read gives, the writes between, and how the syncs of this run
+    went."""
 
     def __init__(self, name, data):
         self.name = name
         self.safe = self.seen = data  # None for a missing file
         self.named = True  # the name of the file is safe, or that there is none
         self.pending = []
+        self.synced = False  # one was good
+        self.again = False  # one failed and none was good: bytes that are there are written again
 
     def copy(self):
         disk = Disk(self.name, self.seen)
         disk.safe, disk.named, disk.pending = self.safe, self.named, list(self.pending)
+        disk.synced, disk.again = self.synced, self.again
         return disk
 
     def handle(self, event):
-        if event == ("made", self.name) and self.seen is None:
+        if event == ("begun",):
+            self.synced = self.again = False
+        elif event == ("made", self.name) and self.seen is None:
             self.safe = self.seen = b""
             self.named = False
         elif event[:2] == ("written", self.name):
             place, data = event[2:]
+            if self.again and self.seen[place:place + len(data)] == data:
+                return
             self.seen = self.seen[:place].ljust(place, b"\0") + data + self.seen[place + len(data):]
             self.pending.append((place, data))
         elif event == ("synced", self.name):
-            self.safe, self.pending = self.seen, []
+            self.safe, self.pending, self.synced, self.again = self.seen, [], True, False
+        elif event == ("unsynced", self.name):
+            self.again = not self.synced
         elif event == ("synced", "folder"):
             self.named = True
 
