@@ -64,7 +64,7 @@ class Trace:
 
     def call(self, name, arguments, result):
         if result.startswith("-") and name in SYNCS:
-            return self.synced(name, arguments, "unsynced")
+            return self.synced(name, arguments, "failed")
         if result.startswith("-") or result == "?":
             return  # it did nothing; a write that fails may tear its range, but here only a sync of the medium fails
         if name in ("open", "openat", "creat"):
@@ -177,7 +177,7 @@ class Disk:
             self.pending.append((place, data))
         elif event == ("synced", self.name):
             self.safe, self.pending, self.synced, self.again = self.seen, [], True, False
-        elif event == ("unsynced", self.name):
+        elif event == ("failed", self.name):
             self.again = not self.synced
         elif event == ("synced", "folder"):
             self.named = True
