@@ -17,6 +17,7 @@ from types import TracebackType
 from typing import NamedTuple
 
 MIB = 1 << 20
+ZEROS = bytes(MIB)
 NEW_NAMESPACE, PRIVATE = 0x20000, 0x44000  # CLONE_NEWNS, and MS_PRIVATE of a whole tree of mounts
 FICLONE, FIEMAP = 0x40049409, 0xC020660B
 FREE_LOOP, CONFIGURE_LOOP, CLEARS_ITSELF = 0x4C82, 0x4C0A, 4  # of /dev/loop-control, of a loop device, and its flag
@@ -233,22 +234,19 @@ class Copies:
 
 
 def copy_data(source: Path, target: Path) -> None:
-    """Copies a file, and leaves out its holes."""
-    reader, writer = os.open(source, os.O_RDONLY), os.open(target, os.O_WRONLY | os.O_CREAT | os.O_EXCL)
-    try:
-        size, at = os.fstat(reader).st_size, 0
-        os.truncate(writer, size)
+    """Copies a file, also to another file system, and leaves out holes and pieces that are all zeros."""
+    with open(source, "rb") as reader, open(target, "xb") as writer:
+        size, at = os.fstat(reader.fileno()).st_size, 0
+        os.truncate(writer.fileno(), size)
         while at < size:
             try:
-                start = os.lseek(reader, at, os.SEEK_DATA)
+                at = os.lseek(reader.fileno(), at, os.SEEK_DATA)
             except OSError:  # nothing but a hole
                 break
-            at = os.lseek(reader, start, os.SEEK_HOLE)
-            while start < at:
-                start += os.copy_file_range(reader, writer, at - start, start, start)
-    finally:
-        os.close(reader)
-        os.close(writer)
+            piece = os.pread(reader.fileno(), min(len(ZEROS), os.lseek(reader.fileno(), at, os.SEEK_HOLE) - at), at)
+            if not ZEROS.startswith(piece):
+                os.pwrite(writer.fileno(), piece, at)
+            at += len(piece)
 
 
 def extents(path: Path) -> list[tuple[int, int, int]]:

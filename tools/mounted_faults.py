@@ -125,8 +125,8 @@ class Thin:
         try:
             os.listdir(self.folder)
         except OSError:
-            return "it shut itself down"
-        return "it became read-only" if {"ro", "emergency_ro", "shutdown"} & {*options} else ""
+            return " (it shut itself down)"
+        return " (it became read-only)" if {"ro", "emergency_ro", "shutdown"} & {*options} else ""
 
     def places(self, path: Path, blocks: list[int]) -> list[tuple[int, int]]:
         """Where the device has these blocks of a file."""
@@ -225,8 +225,6 @@ class Attempt:
         self.thin.fill(self.room_left())
         self.told = "first " + self.run()
         self.thin.make_room()
-        condition = self.thin.condition()
-        self.told += f" ({condition})" if condition else ""
 
     def room_left(self) -> int:
         """How many blocks can be written still: some of those that the session writes anew."""
@@ -274,7 +272,7 @@ class Attempt:
 
     def again(self) -> None:
         """Runs the same lines again, mounts the device anew, and judges what is on it."""
-        self.told += ", then " + self.run()
+        self.told += ", then " + self.run() + self.thin.condition()
         try:
             self.thin.device.unmount()
             self.thin.device.mount()

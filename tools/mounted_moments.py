@@ -19,7 +19,7 @@ from typing import Any, NamedTuple
 
 import random_cases
 import store_model
-from mounted_devices import KINDS, Copies, Device, Failure, Kind, Room, copy_data, formatted, must
+from mounted_devices import KINDS, Copies, Device, Failure, Kind, Room, copy_data, formatted
 
 CASES: Any = random_cases
 MODEL: Any = store_model
@@ -290,14 +290,14 @@ class Moments:
             return f"{kind.name}, run {number}: {doubt}"
         for moment in rng.sample(moments, min(most, len(moments))):
             allowed = {name: allowed_at(told, name, moment) for name in play.names}
-            kept = self.copies.path / "kept"
-            self.copies.copy(moment.image, kept)
-            wrong = self.recovered(play, kind, moment.image, options, allowed, rng.random() < 0.3)
+            image = self.copies.path / "image"
+            self.copies.copy(moment.image, image)
+            wrong = self.recovered(play, kind, image, options, allowed, rng.random() < 0.3)
+            image.unlink()
             self.states += 1
             if wrong:
-                where = self.kept(kept, play, kind, number, moment, options, output, allowed, wrong)
+                where = self.kept(play, kind, number, moment, options, output, allowed, wrong)
                 return f"{kind.name}, run {number}, {moment.image.name}: {wrong}\n  kept in {where}"
-            kept.unlink()
         return ""
 
     def recovered(self, play: Play, kind: Kind, image: Path, options: str, allowed: dict[str, set[Outcome]],
@@ -338,13 +338,13 @@ class Moments:
                 return f"the twin again: {name} is not the medium of its set"
         return ""
 
-    def kept(self, image: Path, play: Play, kind: Kind, number: int, moment: Moment, options: str, output: bytes,
+    def kept(self, play: Play, kind: Kind, number: int, moment: Moment, options: str, output: bytes,
              allowed: dict[str, set[Outcome]], wrong: str) -> Path:  # fmt: skip
         """Keeps a snapshot that was wrong, with what it came from."""
         folder = self.keep / f"mounted_{self.seed}_{kind.name}_{number}"
         folder.mkdir(parents=True, exist_ok=True)
-        must("cp", "--sparse=always", image, folder / "device")
-        image.unlink()
+        (folder / "device").unlink(missing_ok=True)
+        copy_data(moment.image, folder / "device")
         (folder / "election.json").write_bytes(play.text)
         (folder / "run.words").write_text(shlex.join(play.words) + "\n")
         (folder / "run.script").write_bytes(play.script)
@@ -370,8 +370,8 @@ class Moments:
         how, text = json.loads((folder / "allowed.json").read_text()), (folder / "election.json").read_bytes()
         [kind] = [kind for kind in KINDS if kind.name == how["kind"]]
         self.program.election.write_bytes(text)
-        copy_data(folder / "device", self.copies.path / "again")
-        device, fits = Device(kind, self.copies.path / "again", self.mounted, how["options"]), True
+        copy_data(folder / "device", self.room.path / "again")
+        device, fits = Device(kind, self.room.path / "again", self.mounted, how["options"]), True
         try:
             device.mount()
             for name, allowed in how["allowed"].items():
