@@ -211,12 +211,12 @@ const TWO_PAGES: [Row<'static>; 9] = [
 ];
 
 // Makes such calls on a file of so many bytes, which may be read and written at once, and compares what they leave.
-fn assert_large(
+fn assert_large<'x>(
     rt: &impl Abort,
     alloc: Global,
-    bytes: &[u8],
-    rows: &[Row<'_>],
-    left: &[u8],
+    bytes: &'x [u8],
+    rows: &'x [Row<'x>],
+    left: &'x [u8],
 ) -> Result<(), Fail> {
     let case = Case {
         path: FOUR.path,
