@@ -1,6 +1,7 @@
 """Runs of each command on media that lie in folders of their own, for the rows on what is done to such a file."""
 
 import contextlib
+import hashlib
 import json
 import os
 import shutil
@@ -170,11 +171,11 @@ class Media:
             f"checkpoint {count}",
         ]
 
-    def after(self, content: str, index: int) -> bytes:
-        """The bytes of a medium after its session."""
+    def after(self, content: str, index: int, withdrawn: bool = False) -> bytes:
+        """The bytes of a medium after its session, and, where that is said, once the new ballot is withdrawn again."""
         gone, new = self.exchanged(content)
         lines = [new if line == gone else line for line in self.lines(content, index)]
-        return medium_of(self.parts, lines)
+        return medium_of(self.parts, [line for line in lines if not withdrawn or line != new])
 
     def large(self, content: str) -> list[str]:
         """The ballots that are held after the command `large`."""
@@ -301,13 +302,13 @@ def said(ending: Ending, output: bytes = b"") -> Found:
 
 
 def snapshot(folder: Path) -> dict[str, object]:
-    """Each file below a folder: its kind and mode, when it was changed, and its bytes or where it leads."""
+    """Each file below a folder: its kind and mode, a digest of its bytes and when it was changed, or where it leads."""
     found: dict[str, object] = {}
     for path in sorted(folder.rglob("*")):
         seen = path.lstat()
         data: object = None
         if stat.S_ISREG(seen.st_mode):
-            data = path.read_bytes(), seen.st_mtime_ns
+            data = hashlib.sha256(path.read_bytes()).hexdigest()[:16], seen.st_mtime_ns
         elif stat.S_ISLNK(seen.st_mode):
             data = os.readlink(path)
         found[str(path.relative_to(folder))] = seen.st_mode, data

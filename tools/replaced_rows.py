@@ -230,7 +230,7 @@ MOMENTS = ("in a phase", "between checkpoints")
 def lines_around(media: Media, content: str, moment: str) -> tuple[list[str], list[str], list[str], list[str]]:
     """The lines and the replies of a session before a moment, and those behind it."""
     lines, replies = media.script(content)
-    if moment == "in a phase":
+    if moment == MOMENTS[0]:
         return lines[:5], replies[:4], lines[5:], replies[4:]
     again, count = media.exchanged(content)[1].split(" ")[0], len(media.held(content))
     more = ["open withdraw 1", f"withdraw 1 {again}", "close", "checkpoint"]
@@ -291,9 +291,8 @@ def harmless_rows(room: Room) -> None:
                 harm(case.path(index), b"")
                 room.table.judge(name, talk.end(rest), said(OK, text(*replies)))
                 room.table.same(f"the replies before {name}", found, wanted)
-                half = (len(case.media.data(content, index)) - 2) // 2
-                data = case.path(index).read_bytes()
-                room.table.same(f"both banks after {name}", data, data[:half] * 2 + b"\xa7\xa7")
+                data = [case.media.after(content, at, moment == MOMENTS[1]) for at in range(command.media)]
+                room.table.same(f"the media after {name}", case.found(), data)
 
 
 def last_rows(room: Room) -> None:
