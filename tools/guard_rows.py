@@ -19,6 +19,7 @@ from guarded_runs import (
     DISK_FAULT,
     FURTHER,
     NO_STORE,
+    NO_STORES,
     OK,
     Case,
     Command,
@@ -40,9 +41,8 @@ from guarded_runs import (
 NOBODY = 65534
 AS_NOBODY: dict[str, Any] = {"user": NOBODY, "group": NOBODY, "extra_groups": []} if os.geteuid() == 0 else {}
 READ_ONLY, WRITE_ONLY = 0o444, 0o200
-# a folder is mounted to be read alone, and the words behind it run in the folder around it
-SEAL = 'd=$1; shift; mount --bind "$d" "$d" && mount -o remount,bind,ro "$d" && cd "$PWD" && exec "$@"'
-FURTHER_NONE = "empty", "short"  # contents that are no store
+# mounts a folder to be read alone, and runs the words behind it
+SEAL = 'd=$1; shift; mount --bind "$d" "$d" && mount -o remount,bind,ro "$d" && exec "$@"'
 
 
 def guard_rows(table: Table, program: Path, examples: Path) -> None:
@@ -278,7 +278,7 @@ def sealed_outcome(case: Case, index: int, content: str) -> tuple[Ending, bytes,
     if index not in command.written:
         return case.media.outcome(content)
     reads_first = command.name == "part" or index > 0 and command.name in FURTHER
-    ending = NO_STORE if reads_first and content in FURTHER_NONE else fault_at(index)
+    ending = NO_STORE if reads_first and content in NO_STORES else fault_at(index)
     return ending, b"", case.media.all_data(content)
 
 
@@ -371,7 +371,7 @@ NAMES: dict[str, Callable[[Case], str]] = {
 def named_twice(case: Case, index: int, content: str) -> Ending:
     """How a run ends in which this medium is the first one by another name."""
     command, lines = case.command.name, case.media.lines(content, 0)
-    if content in FURTHER_NONE and command in FURTHER:
+    if content in NO_STORES and command in FURTHER:
         return NO_STORE
     if command == "part" and lines:
         return 23, f"medium {index} misplaced {lines[0].split(' ')[0]}"

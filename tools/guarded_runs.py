@@ -26,6 +26,7 @@ DISK_FAULT = (5, "disk fault")
 NO_STORE = (9, "no store")
 EXISTS = (12, "store exists")
 CONTENTS = ("empty", "short", "whole", "filled")
+NO_STORES = "empty", "short"
 LONGEST = 20  # seconds, after which a run counts as one that waits
 SCRIPTED = "session", "twin", "part"  # the commands whose script the runs give
 FURTHER = "merge", "migrate", "part"  # the commands that look at a further medium only where the first is a store
@@ -105,7 +106,7 @@ def fault_at(index: int) -> Ending:
 
 def refusal(command: Command, index: int, content: str) -> Ending:
     """How a run ends whose disk fails in this place at its first call, where the other media have this content."""
-    if index and content in ("empty", "short") and command.name in FURTHER:
+    if index and content in NO_STORES and command.name in FURTHER:
         return NO_STORE
     return fault_at(index)
 
