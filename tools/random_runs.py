@@ -62,9 +62,9 @@ class RandomRuns:
             return [name, "election.json", "large", "--seed", seed, "--count", count, "--tabs", tabs], b""
         return [name, "election.json", "session"], self.script([1, 2, 3, 4])
 
-    def script(self, phases: list[int]) -> bytes:
+    def script(self, phases: list[int], crowded: bool = False) -> bytes:
         """A script of so many phases as one of these numbers, with a checkpoint behind most."""
         script: list[str] = []
-        for line in self.maker.script(self.rng.choice(phases), badness=0):
+        for line in self.maker.script(self.rng.choice(phases), crowded, badness=0):
             script += [line, "checkpoint"] if line == "close" and self.rng.random() < 0.8 else [line]
         return "\n".join(script).encode()
