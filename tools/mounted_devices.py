@@ -78,12 +78,14 @@ class Room:
         if libc.unshare(NEW_NAMESPACE) or libc.mount(b"none", b"/", None, PRIVATE, None):
             raise Missing(f"it may not mount: {os.strerror(ctypes.get_errno())}")
         self.path = Path(tempfile.mkdtemp(prefix="lose_mounted."))
+        # In other namespaces it would look empty, and to remove it would take all mounts away.
+        (self.path / "in_use").write_text(f"Process {os.getpid()} has mounted a folder here.\n")
 
     def __enter__(self) -> "Room":
         try:
             must("mount", "-t", "tmpfs", "-o", f"size={4096 * MIB}", "tmpfs", self.path)
         except Failure as failure:
-            self.path.rmdir()
+            shutil.rmtree(self.path)
             raise Missing(f"it may not mount: {failure}")
         return self
 
