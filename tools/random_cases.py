@@ -418,6 +418,14 @@ def onto_targets(rng, runs):
             words[0] = target if rng.random() < 0.6 else words[0]
 
 
+def spare_election(runs):
+    """Puts a file that is missing in the place of the election's where that stands as a medium: no peer guards it, and
+    `check_program` tries each spelling of it."""
+    for words in (run["words"] for run in runs):
+        words[:] = ["none" if at != 1 and NAMES.get(word, word) == NAMES["ELECTION"] else word
+                    for at, word in enumerate(words)]
+
+
 def case(rng):
     crowded = rng.random() < 0.03
     commands = rng.choices(list(COMMANDS), list(COMMANDS.values()), k=rng.choice([1, 1, 2, 3]))
@@ -449,6 +457,7 @@ def case(rng):
         runs.append({"words": ["MEDIUM", "ELECTION", *on], "script": maker.script(3, True, 0), "output": "pipe"})
     runs += [maker.run(command) for command in commands]
     onto_targets(rng, runs)
+    spare_election(runs)
     words = [word for run in runs for word in run["words"]]
     more = [told for told in more if any(told["name"] in word for word in words)]
     return {"election": told, "text": text, "medium": medium, "more": more, "runs": runs}
