@@ -336,8 +336,10 @@ class Traced:
         pipe = subprocess.PIPE
         self.process = subprocess.Popen([*strace, *inject, *words], stdin=pipe, stdout=pipe, stderr=pipe, cwd=folder)
         assert self.process.stdin
-        self.process.stdin.write(script)  # (less than a pipe holds)
-        self.process.stdin.close()
+        with contextlib.suppress(BrokenPipeError):  # (a script is less than a pipe holds, and may not be read)
+            self.process.stdin.write(script)
+        with contextlib.suppress(BrokenPipeError):
+            self.process.stdin.close()
         self.process.stdin = None
 
     def told(self) -> list[str]:
@@ -355,8 +357,10 @@ class Traced:
 
     def end(self) -> Found:
         """Lets the run go on, and answers how it ended."""
-        if self.process.poll() is None and (told := self.told()):
-            os.kill(int(told[-1].split()[0]), signal.SIGCONT)
+        told = self.told()
+        if self.process.poll() is None and told:
+            with contextlib.suppress(ProcessLookupError):  # where it has ended, and strace not yet
+                os.kill(int(told[-1].split()[0]), signal.SIGCONT)
         try:
             output, error = self.process.communicate(timeout=LONGEST)
         except subprocess.TimeoutExpired:
