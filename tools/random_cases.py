@@ -438,6 +438,7 @@ def case(rng):
     if text is not None:
         runs = [maker.run("migrate" if migrates else rng.choice(["init", "build", "audit", "replay"]))]
         medium = maker.old_medium() if migrates else maker.medium()
+        spare_election(runs)
         return {"election": told, "text": text, "medium": medium, "more": [], "runs": runs}
     if "part" in commands and not migrates:  # a session on one part alone mostly makes it none
         commands = ["part" if command == "session" and rng.random() < 0.7 else command for command in commands]
