@@ -77,6 +77,16 @@ class Sets:
         """The medium of a set."""
         return bytes(self.rules.medium(held))
 
+    def changed(self, name: str) -> dict[str, list[int]]:
+        """The blocks of a medium that the session changes, of either bank alone, and of the gates."""
+        old, new = self.medium(self.old[name]), self.medium(self.new[name])
+        bank, count = len(old) // 2 - 1, (len(old) + BLOCK - 1) // BLOCK
+        changed = [i for i in range(count) if block(old, i) != block(new, i)]
+        first = [i for i in changed if (i + 1) * BLOCK <= bank]
+        second = [i for i in changed if i * BLOCK >= bank and i < count - 1]
+        return {"first bank": first, "second bank": second, "banks": first + second, "gates": [count - 1],
+                "all": sorted({*changed, count - 1})}  # fmt: skip
+
 
 class Thin:
     """A device that has no room for some blocks, until there is room."""
@@ -191,6 +201,8 @@ class Attempt:
         self.program, self.kind, self.trial = program, kind, trial
         self.rng = random.Random(f"{seed} {kind.name} {trial} {number}")
         self.sets = Sets(self.rng, trial.command)
+        while not all(all(self.sets.changed(name).values()) for name in self.sets.names):
+            self.sets = Sets(self.rng, trial.command)
         self.election = self.sets.text
         more = () if trial.command == "session" else NAMES[1:]
         self.words = program.words(trial.command, *more)
@@ -230,7 +242,7 @@ class Attempt:
         """How many blocks can be written still: some of those that the session writes anew."""
         if self.trial.blocks != "new blocks for data":
             return 0
-        return self.rng.randint(0, sum(4 + len(self.changed(name)["all"]) for name in self.sets.names))
+        return self.rng.randint(0, sum(4 + len(self.sets.changed(name)["all"]) for name in self.sets.names))
 
     def start(self, name: str, held: dict[int, Any]) -> bytes:
         """The medium at the start: where it is behind a killed run, in the middle of the renewing of bank A."""
@@ -244,16 +256,6 @@ class Attempt:
         with open(self.thin.folder / name, "r+b") as file:
             file.write(new[: len(new) // 2 - 1])
 
-    def changed(self, name: str) -> dict[str, list[int]]:
-        """The blocks of a medium that the session changes, of either bank alone, and of the gates."""
-        old, new = self.sets.medium(self.sets.old[name]), self.sets.medium(self.sets.new[name])
-        bank, count = len(old) // 2 - 1, (len(old) + BLOCK - 1) // BLOCK
-        changed = [i for i in range(count) if block(old, i) != block(new, i)]
-        first = [i for i in changed if (i + 1) * BLOCK <= bank]
-        second = [i for i in changed if i * BLOCK >= bank and i < count - 1]
-        return {"first bank": first, "second bank": second, "banks": first + second, "gates": [count - 1],
-                "all": sorted({*changed, count - 1})}  # fmt: skip
-
     def places(self) -> list[tuple[int, int]]:
         """What is taken away of the device."""
         if self.trial.blocks == "journal":
@@ -265,7 +267,7 @@ class Attempt:
         chosen = self.rng.choice([paths, paths[:1], paths[-1:]])
         found = []
         for path in chosen:
-            blocks = self.changed(path.name)[self.trial.blocks]
+            blocks = self.sets.changed(path.name)[self.trial.blocks]
             some = self.rng.sample(blocks, self.rng.choice([1, len(blocks), self.rng.randint(1, len(blocks))]))
             found += self.thin.places(path, sorted(some))
         return found
