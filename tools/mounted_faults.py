@@ -273,8 +273,14 @@ class Attempt:
         return found
 
     def again(self) -> None:
-        """Runs the same lines again, mounts the device anew, and judges what is on it."""
-        self.told += ", then " + self.run() + self.thin.condition()
+        """Runs the same lines again, mounts the device anew, and judges what is on it.
+
+        A write back that came before there was room may fail this run too, and even the next one."""
+        for _ in range(3):
+            ended, condition = self.run(), self.thin.condition()
+            self.told += f", then {ended}{condition}"
+            if ended == "acknowledged" or condition:
+                break
         try:
             self.thin.device.unmount()
             self.thin.device.mount()
