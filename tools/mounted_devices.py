@@ -66,6 +66,11 @@ def must(*words: object) -> str:
     return ended.stdout
 
 
+def sync(folder: Path) -> None:
+    """Syncs the file system of a folder, and no other one."""
+    must("sync", "--file-system", folder)
+
+
 class Room:
     """A temporary folder with a tmpfs, in which all else is mounted; at the end nothing of it is left."""
 

@@ -6,6 +6,7 @@ so what the system writes back to these blocks fails, as on a device with bad se
 """
 import contextlib
 import json
+import mmap
 import os
 import random
 import re
@@ -14,10 +15,11 @@ from collections import Counter
 from pathlib import Path
 from typing import Any, NamedTuple
 
-from mounted_devices import MIB, Device, Failure, Kind, Room, done, extents, formatted, must
+from mounted_devices import MIB, Device, Failure, Kind, Room, done, extents, formatted, must, sync
 from mounted_moments import CASES, MODEL, NAMES, Program, holding, read, short
 
 BLOCK = 4096
+LOCKED = 0x2000  # MAP_LOCKED
 
 
 class Trial(NamedTuple):
@@ -106,6 +108,19 @@ class Thin:
         Path("/sys/block", Path(self.device.loop).name, "queue/max_sectors_kb").write_text(str(BLOCK // 1024))
         self.device.mount()
         self.folder = self.device.folder
+        self.held = list[mmap.mmap]()
+
+    def hold(self, path: Path) -> None:
+        """Holds a file in memory, so that what is taken away of the device below it is not read from there."""
+        with open(path, "rb") as file:
+            flags = mmap.MAP_SHARED | mmap.MAP_POPULATE | LOCKED
+            self.held.append(mmap.mmap(file.fileno(), 0, flags=flags, prot=mmap.PROT_READ))
+
+    def unmount(self) -> None:
+        """Lets go what was held, and unmounts the device."""
+        while self.held:
+            self.held.pop().close()
+        self.device.unmount()
 
     def punch(self, places: list[tuple[int, int]]) -> None:
         """Takes these bytes of the device away: from where, and how many."""
@@ -115,8 +130,9 @@ class Thin:
     def fill(self, left: int) -> None:
         """Takes all room, but for so many blocks."""
         with open(self.path / "ballast", "wb") as ballast:
-            free = os.statvfs(self.path)
-            os.posix_fallocate(ballast.fileno(), 0, free.f_bavail * free.f_frsize - left * BLOCK)
+            while (blocks := os.statvfs(self.path).f_bavail - left) > 0:
+                with contextlib.suppress(OSError):  # the system has just written back something
+                    os.posix_fallocate(ballast.fileno(), os.fstat(ballast.fileno()).st_size, blocks * BLOCK)
 
     def make_room(self) -> None:
         """There is room again."""
@@ -124,6 +140,8 @@ class Thin:
 
     def close(self) -> None:
         """Takes all of it away."""
+        while self.held:
+            self.held.pop().close()
         with contextlib.suppress(Failure):
             self.device.close()
         done("umount", self.path)
@@ -225,16 +243,15 @@ class Attempt:
         for name, held in self.sets.old.items():
             with open(self.thin.folder / name, "wb") as file:
                 file.write(self.start(name, held))
-        os.sync()
+        sync(self.thin.folder)
         self.thin.device.unmount()  # so that the journal has nothing of it
         self.thin.device.mount()
         for name in self.sets.names:
-            read(self.thin.folder, name)
-        places = self.places()  # which syncs the media
+            self.thin.hold(self.thin.folder / name)
+        self.thin.punch(self.places())
+        self.thin.fill(self.room_left())
         for name in self.sets.names if self.trial.dirty else ():
             self.dirty(name)
-        self.thin.punch(places)
-        self.thin.fill(self.room_left())
         self.told = "first " + self.run()
         self.thin.make_room()
 
@@ -282,7 +299,7 @@ class Attempt:
             if ended == "acknowledged" or condition:
                 break
         try:
-            self.thin.device.unmount()
+            self.thin.unmount()
             self.thin.device.mount()
         except Failure as failure:
             self.is_wrong = self.acknowledged

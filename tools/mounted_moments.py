@@ -19,7 +19,7 @@ from typing import Any, NamedTuple
 
 import random_cases
 import store_model
-from mounted_devices import KINDS, Copies, Device, Failure, Kind, Room, copy_data, formatted
+from mounted_devices import KINDS, Copies, Device, Failure, Kind, Room, copy_data, formatted, sync
 
 CASES: Any = random_cases
 MODEL: Any = store_model
@@ -115,7 +115,7 @@ class Play:
             if data is not None:
                 with open(folder / name, "xb") as file:
                     file.write(data)
-        os.sync()
+        sync(folder)
 
     def acknowledged(self, output: bytes) -> list[tuple[int, dict[str, Outcome]]]:
         """What each medium may hold at the start, and from which byte of the replies on it holds which set."""
