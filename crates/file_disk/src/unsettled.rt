@@ -100,7 +100,9 @@ impl Range {
 
 /// Writes what a read gives of the range once more, in pieces: the system may have taken for written what the device
 /// never got, and gets it to the device, or fails, at a later sync. A piece that fails goes page by page, and a page that
-/// fails is passed over.
+/// fails is passed over. It is kept out of the sync that calls it, which would else make its room each time.
+#[cold]
+#[inline(never)]
 pub(crate) fn write_again<F: FileExt>(file: &F, range: Range) {
     let mut room = [0; PIECE];
     for piece in range.from / PIECE as u64..range.to.div_ceil(PIECE as u64) {
