@@ -16,13 +16,13 @@ init_fault (fills.WrongSize size) = WrongSize size
 init_fault fills.Exists = Exists
 init_fault fills.DiskFault = DiskFault
 
--- There are more bytes than a medium has, or as many and a gate is open. Faults of the disk and want of memory are told
--- by no bytes.
+-- There are more bytes than a medium has, or as many and a gate is open. Faults of the disk are told by no bytes, and want
+-- of memory is told only of a disk that is unused.
 abbrev pub IsInitRefused : Election → List ℕ → InitFault → Type 0
 IsInitRefused e bytes (WrongSize size) = (size ≡ length bytes) × (medium_size e < size)
 IsInitRefused e bytes Exists = (length bytes ≡ medium_size e) × (IsOpen e A bytes ⊎ IsOpen e B bytes)
 IsInitRefused e bytes DiskFault = Unit {0}
-IsInitRefused e bytes Memory = Unit {0}
+IsInitRefused e bytes Memory = IsUnused e bytes
 
 -- nothing was written, unless the disk failed
 abbrev pub IsUnchangedByInit : InitFault → Option (List ℕ) → Option (List ℕ) → Type 0

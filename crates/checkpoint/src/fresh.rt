@@ -147,6 +147,7 @@ pub fn fill_unused<D: Disk>(
 
 /// Tells whether a disk is unused, and syncs it first.
 fn find_unused<D: Disk>(disk: &mut D, election: &Election) -> Result<(), FillFault>
+    ensures unused { OnOk result (IfSome (D.seen disk.old) (IsUnused election.now)) }
     ensures same_bytes { OnOk result (D.seen disk.new ≡ D.seen disk.old) }
     ensures refused { IfErr result (λ fault. IfSome (D.seen disk.old)
         (λ bytes. IsInitRefused election.now bytes (init_fault fault))) }

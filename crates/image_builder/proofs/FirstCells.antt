@@ -146,7 +146,7 @@ wrong_next e numbers reaches ballots bytes election cells long lt wrong =
 completes_more : (e : Election) (before after first last : ℕ) (fault : ImageFault) → first ≤ before → after ≤ last → Completes e before after fault → Completes e first last fault
 completes_more e before after first last (OtherElection header) low high completes = (omega (arith, completes.0), omega (arith, completes.1))
 completes_more e before after first last (Damaged cell) low high completes = (omega (arith, completes.0), omega (arith, completes.1))
-completes_more e before after first last Memory low high completes = tt
+completes_more e before after first last Memory low high completes = completes
 
 -- the bytes at whose end it is refused
 pub refused_behind : (e : Election) (told before whole after : List ℕ) (fault : ImageFault) → length before < length told → told ++ after ≡ before ++ whole → IsRefusedAt e told fault → IsRefusedPiece e before whole fault

@@ -156,7 +156,7 @@ completes_on e numbers fed bank (Damaged cell) short within completes =
       ⊎_elim (λ (less : length fed < header_size). omega (arith, less, completes.0)) (λ (most : header_size ≤ length fed). omega (arith, short most, more, fits)) (cases_lt (length fed) header_size),
       completes.1,
     )
-completes_on e numbers fed bank Memory short within completes = tt
+completes_on e numbers fed bank Memory short within completes = completes
 
 -- what is refused behind the cells that were read is refused behind the bytes so far
 pub refused_on : (e : Election) (numbers reaches fed more bank : List ℕ) (fault : ImageFault) → AreFirst e numbers reaches bank → (header_size ≤ length fed → length fed < end_of e numbers + cell_size e) → bank ≡ fed ++ more

@@ -19,12 +19,13 @@ pub record IsFront (e : Election) (fed : List ℕ) : Type 0 where
   pub header : header_size ≤ length fed → take header_size fed ≡ header_of e
   pub cells : (count : ℕ) → header_size + count * cell_size e ≤ length fed → BeginsAnImage e count fed
 
--- Between these two counts of bytes what tells the fault becomes whole: the header, or the wrong cell.
+-- Between these two counts of bytes what tells the fault becomes whole: the header, or the wrong cell. None tell want of
+-- memory.
 abbrev pub Completes : Election → ℕ → ℕ → ImageFault → Type 0
 Completes e before after (OtherElection header) = (before < header_size) × (header_size ≤ after)
 Completes e before after (Damaged cell) =
     (before < header_size + (cell + 1) * cell_size e) × (header_size + (cell + 1) * cell_size e ≤ after)
-Completes e before after Memory = Unit {0}
+Completes e before after Memory = ⊥
 
 -- A piece behind the bytes so far is refused: it completes what tells the fault, and every bank that begins with all
 -- these bytes is refused so.

@@ -1,5 +1,5 @@
 -- The laws of `merge`: the bytes of all media decide how it ends, but for faults and want of memory.
-use Rattle.std.proofs.Common.{◌≡◌, ◌⊎◌, ℕ, List, ◌∷◌, length, Some, inl, inr, refl, sym, ◌∙◌, ap, arith}
+use Rattle.std.proofs.Common.{◌≡◌, ◌⊎◌, ℕ, List, ◌∷◌, length, Some, inl, inr, ⊎_elim, refl, sym, ◌∙◌, ap, arith}
 use Rattle.store_spec.proofs.Common.{Ballot, DiskModel, Election, IsElection}
 use Rattle.medium_commands.proofs.Refusing.{refuses}
 use Rattle.medium_commands.proofs.Several.{MediaDecide, Tell, all_as, all_told, further_told, one_of_media, zip_at}
@@ -86,7 +86,8 @@ module _ {D : Type 0} (model : DiskModel D) (e : Election) (before after : D) (m
 
 merge_settled : {S K D : Type 0} (model : DiskModel D) (e : Election) (a : Status) (before after : World S K D) → NothingFailed model merge_row.touches before after
     → MergeWrites model e a before.streams.sink after.streams.sink before.disk after.disk before.more after.more → IsDecided a ⊎ (a ≡ status.Memory)
-merge_settled model e status.DiskFault before after none tells = absurd (not_risen (model.faults before.disk) (model.faults after.disk) none.disk tells.0.0)
+merge_settled model e status.DiskFault before after none tells =
+    absurd (not_risen (model.faults before.disk) (model.faults after.disk) none.disk (⊎_elim (λ target. target.0.fault.rose refl) (λ union. union.0) tells.0))
 merge_settled model e (status.OtherDiskFault index) before after none tells =
     let one = tells.0.1 in
     absurd (not_risen (model.faults one.old) (model.faults one.new)

@@ -1,16 +1,17 @@
 -- What the command `merge` makes of a target and of further media. `old` and `new` are the sink before and after, `before`
 -- and `after` the target's disk, and `more` and `now` those of the further media.
-use Rattle.std.specs.Prelude.{◌≡◌, ◌⊎◌, ℕ, ◌≤◌, List, codes, length, Some, is_some, true, false}
+use Rattle.std.specs.Prelude.{◌≡◌, ◌⊎◌, ℕ, ◌≤◌, List, ◌∷◌, codes, length, Some, is_some, true, false}
 use Rattle.std.specs.List.{AllZip}
 use Rattle.medium_commands.specs.Refused.{refused_status}
 use Rattle.medium_commands.specs.Several.{MediaHold}
-use Rattle.merge_media.specs.Merging.{HoldsOldOrUnion, MergeRefuses, Merges}
+use Rattle.merge_media.specs.Merging.{HoldsOldOrUnion, IsTargetKept, MergeRefuses, Merges, MergesThroughout}
 use Rattle.merge_media.specs.Union.{IsUnion}
 use Rattle.merge_media.specs.declared.fault.MergeFault.{MergeFault}
 use Rattle.merge_media.specs.declared.fault.MergeFault.TheVariants as faults
 use Rattle.outside_io.specs.Outside.{Output}
 use Rattle.outside_io.specs.Stream.{TakesAll, TakesSome}
-use Rattle.recovery.specs.Media.{NoneRose}
+use Rattle.outside_io.specs.Told.{AsTold}
+use Rattle.recovery.specs.Media.{EachHolds, NoneRose}
 use Rattle.recovery.specs.ReadsOnly.{WritesNothing}
 use Rattle.recovery.specs.declared.fault.RecoverFault.TheVariants as recover
 use Rattle.run_outcome.specs.Row.{Content, EndsWell, Row}
@@ -21,7 +22,7 @@ use Rattle.store_spec.specs.Ballot.{Ballot, IsWithinLimit}
 use Rattle.store_spec.specs.Disk.{DiskModel, SyncsFirst}
 use Rattle.store_spec.specs.Election.{Election}
 use Rattle.store_spec.specs.Fault.{Rose}
-use Rattle.store_spec.specs.Medium.{HoldsSet}
+use Rattle.store_spec.specs.Medium.{HoldsSet, IsMediumOf}
 use Rattle.store_spec.specs.Session.{counted}
 
 -- the line that tells how many ballots the target holds
@@ -38,7 +39,13 @@ merge_status (faults.TooMany count) = status.MergeFull count
 merge_status faults.DiskFault = status.DiskFault
 merge_status faults.Memory = status.Memory
 
--- the media were not merged, and with this status
+-- the bytes are as before, or became the medium of the set that they held, or of the union of all media
+abbrev pub IsKeptOrMerged : {D : Type 0} → DiskModel D → Election → List D → List ℕ → List ℕ → Type 0
+IsKeptOrMerged model e more x y =
+    IsTargetKept e x y
+    ⊎ ((set : List Ballot) × (sets : List (List Ballot)) × HoldsSet e x set × EachHolds model e more sets × (union : List Ballot) × IsUnion (set ∷ sets) union × IsMediumOf e y union)
+
+-- The media were not merged, and with this status. Memory may also run out behind the merge, for the line that tells it.
 abbrev pub MergesNone : {D : Type 0} → DiskModel D → Election → Status → D → D → List D → List D → Type 0
 MergesNone model e status.NoStore before after more now = MergeRefuses model model e before after more now (faults.Target recover.NoStore)
 MergesNone model e (status.OtherElection header) before after more now = MergeRefuses model model e before after more now (faults.Target (recover.OtherElection header))
@@ -47,8 +54,10 @@ MergesNone model e (status.OtherDiskFault index) before after more now = MergeRe
 MergesNone model e (status.BadMedium index why) before after more now = MergeRefuses model model e before after more now (faults.Other index why)
 MergesNone model e (status.MergeConflict number) before after more now = MergeRefuses model model e before after more now (faults.Dispute number)
 MergesNone model e (status.MergeFull count) before after more now = MergeRefuses model model e before after more now (faults.TooMany count)
-MergesNone model e status.DiskFault before after more now = Rose (model.faults before) (model.faults after) × NoneRose model more now
-MergesNone model e status.Memory before after more now = (model.faults after ≡ model.faults before) × NoneRose model more now
+MergesNone model e status.DiskFault before after more now =
+    MergeRefuses model model e before after more now (faults.Target recover.DiskFault) ⊎ MergeRefuses model model e before after more now faults.DiskFault
+MergesNone model e status.Memory before after more now =
+    (model.faults after ≡ model.faults before) × NoneRose model more now × AsTold model.seen before after (IsKeptOrMerged model e more)
 MergesNone model e other before after more now = ⊥
 
 -- the target is the medium of the union, of whose line the sink took what this says
@@ -73,11 +82,13 @@ KeepsOldOrUnion model e before after more =
     ⊎ ((bytes : List ℕ) (set : List Ballot) → model.seen before ≡ Some bytes → HoldsSet e bytes set
     → SyncsFirst model.calls model.may_leave before after (HoldsOldOrUnion model e set more))
 
--- All that a run of `merge` promises under an election. Nothing is written to the further media: of each a read gives what
+-- All that a run of `merge` promises under an election. At each moment the target holds its old set or the union, or what it
+-- might have held before. Nothing is written to the further media: of each a read gives what
 -- it gave, and a crash at each moment leaves what it might have left before.
 pub record MergeEnds {K D : Type 0} (model : DiskModel D) (e : Election) (status : Status) (old new : Output K) (before after : D) (more now : List D) : Type 0 where
   pub tells : MergeWrites model e status old new before after more now
   pub crashes : KeepsOldOrUnion model e before after more
+  pub throughout : MergesThroughout model model e before after more
   pub reads : AllZip (WritesNothing model.seen model.calls model.may_leave) more now
   pub told : is_some (model.seen after) ≡ is_some (model.seen before)
 

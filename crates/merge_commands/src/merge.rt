@@ -1,7 +1,7 @@
 //! The command `merge`: a medium becomes that of the union of its own set and those of further media.
 
 ghost use Rattle.merge_commands.specs.Merge.{KeepsOldOrUnion, MergeEnds, MergesNone, merge_status, merged_text};
-ghost use Rattle.merge_media.specs.Merging.{Merges};
+ghost use Rattle.merge_media.specs.Merging.{Merges, MergesThroughout};
 ghost use Rattle.outside_io.specs.Outside.{output};
 ghost use Rattle.recovery.specs.ReadsOnly.{WritesNothing};
 ghost use Rattle.run_outcome.specs.Status.{ended};
@@ -48,6 +48,8 @@ fn united<D: Disk>(
         election.now status disk.old disk.new more.old more.new) }
     ensures crashes { KeepsOldOrUnion (disk_model D.seen D.calls D.may_leave D.faults)
         election.now disk.old disk.new more.old }
+    ensures throughout { MergesThroughout (disk_model D.seen D.calls D.may_leave D.faults)
+        (disk_model D.seen D.calls D.may_leave D.faults) election.now disk.old disk.new more.old }
     ensures reads { AllZip (WritesNothing D.seen D.calls D.may_leave) more.old more.new }
     ensures told { is_some (D.seen disk.new) ≡ is_some (D.seen disk.old) }
 {

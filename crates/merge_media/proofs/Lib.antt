@@ -5,4 +5,5 @@ pub mod Merged
 pub mod Ranges
 pub mod Running
 pub mod Standing
+pub mod Throughout
 pub mod Unions

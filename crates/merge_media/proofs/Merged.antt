@@ -5,6 +5,7 @@ use Rattle.body_store.specs.Contents.{Contents}
 use Rattle.checkpoint.proofs.Pages.{told_back}
 use Rattle.crash_disk.proofs.Moments.{synced_then, syncs_weaker, weaker}
 use Rattle.image_builder.proofs.Held.{one_held}
+use Rattle.merge_media.proofs.Throughout.{kept_as_medium}
 use Rattle.merge_media.specs.Merging.{HoldsAll, HoldsOldOrUnion, IsRecovered, MergeRefuses, RefusesBegin, RefusesFurther, RefusesUnion}
 use Rattle.merge_media.specs.Union.{IsUnion}
 use Rattle.merge_media.specs.declared.fault.MergeFault.{MergeFault}
@@ -31,7 +32,7 @@ module _ {A B : Type 0} (target : DiskModel A) (further : DiskModel B) (e : Elec
   refuses_begun (Dispute number) refused = absurd refused
   refuses_begun (TooMany count) refused = absurd refused
   refuses_begun DiskFault refused = absurd refused
-  refuses_begun Memory refused = (refused, zip_same (λ old new. further.faults new ≡ further.faults old) (λ disk. refl) more)
+  refuses_begun Memory refused = (refused.0, zip_same (λ old new. further.faults new ≡ further.faults old) (λ disk. refl) more, refused.1)
 
   module _ (now : List B) (set : List Ballot) where
     -- why the further media are not joined
@@ -42,7 +43,7 @@ module _ {A B : Type 0} (target : DiskModel A) (further : DiskModel B) (e : Elec
     refuses_joining (Dispute number) recovered refused = absurd refused.refused
     refuses_joining (TooMany count) recovered refused = absurd refused.refused
     refuses_joining DiskFault recovered refused = absurd refused.refused
-    refuses_joining Memory recovered refused = (recovered.no_fault, refused)
+    refuses_joining Memory recovered refused = (recovered.no_fault, refused, kept_as_medium target e before after set recovered.held recovered.medium)
 
     -- and why the union is no store
     pub refuses_all : (sets : List (List Ballot)) (fault : MergeFault) → HoldsAll target further e before after more now set sets → RefusesUnion e (set ∷ sets) fault
@@ -53,7 +54,7 @@ module _ {A B : Type 0} (target : DiskModel A) (further : DiskModel B) (e : Elec
     refuses_all sets (Dispute number) all refused = (set, sets, all, refused)
     refuses_all sets (TooMany count) all refused = (set, sets, all, refused)
     refuses_all sets DiskFault all refused = absurd refused
-    refuses_all sets Memory all refused = (all.recovered.no_fault, all.none_rose)
+    refuses_all sets Memory all refused = (all.recovered.no_fault, all.none_rose, kept_as_medium target e before after set all.recovered.held all.recovered.medium)
 
 module _ {A B : Type 0} (target : DiskModel A) (further : DiskModel B) (e : Election) (more : List B) (old mid new : A) (bytes : List ℕ) (set : List Ballot)
     (sees : target.seen old ≡ Some bytes) (holds : HoldsSet e bytes set) where

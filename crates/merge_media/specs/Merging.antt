@@ -1,6 +1,6 @@
 -- What the merging of media makes of a target and of further media. `before` and `after` are the target's disk, `more`
 -- and `now` those of the further media.
-use Rattle.std.specs.Prelude.{◌≡◌, ◌≢◌, ◌⊎◌, ℕ, ◌+◌, ◌<◌, List, ◌∷◌, length, IfSome}
+use Rattle.std.specs.Prelude.{◌≡◌, ◌≢◌, ◌⊎◌, ℕ, ◌+◌, ◌<◌, List, ◌∷◌, length, Some, IfSome}
 use Rattle.merge_media.specs.Union.{IsLeastDisputed, IsUnion}
 use Rattle.merge_media.specs.declared.fault.MergeFault.{MergeFault}
 use Rattle.merge_media.specs.declared.fault.MergeFault.TheVariants.{Target, OtherFault, Other, Dispute, TooMany, DiskFault, Memory}
@@ -11,7 +11,7 @@ use Rattle.recovery.specs.declared.fault.MediumWhy.TheVariants as media
 use Rattle.recovery.specs.declared.fault.RecoverFault.{RecoverFault}
 use Rattle.recovery.specs.declared.fault.RecoverFault.TheVariants as recover
 use Rattle.store_spec.specs.Ballot.{Ballot}
-use Rattle.store_spec.specs.Disk.{DiskModel, IsSettled}
+use Rattle.store_spec.specs.Disk.{DiskModel, IsSettled, LeavesOnly, leaves_now}
 use Rattle.store_spec.specs.Election.{Election}
 use Rattle.store_spec.specs.Fault.{CountsFaultIf, Rose}
 use Rattle.store_spec.specs.Medium.{HoldsSet, IsMediumOf}
@@ -59,6 +59,10 @@ pub record RefusesTarget {D : Type 0} (model : DiskModel D) (e : Election) (why 
   pub no_memory : why ≢ recover.Memory
   pub fault : CountsFaultIf (why ≡ recover.DiskFault) (model.faults before) (model.faults after)
 
+-- the bytes are as before, or became the medium of the set that they held
+abbrev pub IsTargetKept : Election → List ℕ → List ℕ → Type 0
+IsTargetKept e x y = (y ≡ x) ⊎ ((set : List Ballot) × HoldsSet e x set × IsMediumOf e y set)
+
 -- ---- all media
 
 -- the sets that all of them hold
@@ -74,7 +78,8 @@ pub record IsTooLarge (e : Election) (sets : List (List Ballot)) (count : ℕ) :
   pub count_is : length union ≡ count
   pub above : e.limit < count
 
--- why media are not merged
+-- Why media are not merged. Where the target fails after its recovery, all media were read, and their sets have a union.
+-- Where memory runs out, the target was recovered, or its bytes are as before.
 abbrev pub MergeRefuses : {A B : Type 0} → DiskModel A → DiskModel B → Election → A → A → List B → List B → MergeFault → Type 0
 MergeRefuses target further e before after more now (Target why) = RefusesTarget target e why before after × (now ≡ more)
 MergeRefuses target further e before after more now (OtherFault index) =
@@ -85,8 +90,11 @@ MergeRefuses target further e before after more now (Dispute number) =
     (set : List Ballot) × (sets : List (List Ballot)) × HoldsAll target further e before after more now set sets × IsLeastDisputed (set ∷ sets) number
 MergeRefuses target further e before after more now (TooMany count) =
     (set : List Ballot) × (sets : List (List Ballot)) × HoldsAll target further e before after more now set sets × IsTooLarge e (set ∷ sets) count
-MergeRefuses target further e before after more now DiskFault = Rose (target.faults before) (target.faults after) × NoneRose further more now
-MergeRefuses target further e before after more now Memory = (target.faults after ≡ target.faults before) × NoneRose further more now
+MergeRefuses target further e before after more now DiskFault =
+    Rose (target.faults before) (target.faults after) × NoneRose further more now
+    × ((set : List Ballot) × (sets : List (List Ballot)) × HoldsIfTold target e before set × EachHolds further e more sets × (union : List Ballot) × IsUnion (set ∷ sets) union)
+MergeRefuses target further e before after more now Memory =
+    (target.faults after ≡ target.faults before) × NoneRose further more now × AsTold target.seen before after (IsTargetKept e)
 
 -- the target is the medium of the union of all media
 pub record Merges {A B : Type 0} (target : DiskModel A) (further : DiskModel B) (e : Election) (before after : A) (more now : List B) (count : ℕ) : Type 0 where
@@ -108,10 +116,18 @@ HoldsOldOrUnion further e set more image =
     HoldsSet e image set
     ⊎ ((sets : List (List Ballot)) × EachHolds further e more sets × (union : List Ballot) × IsUnion (set ∷ sets) union × HoldsSet e image union)
 
+-- At each moment each crash image of the target is one that a crash might have left at the start, or holds the set that
+-- the target held, or the union of all media.
+abbrev pub MergesThroughout : {A B : Type 0} → DiskModel A → DiskModel B → Election → A → A → List B → Type 0
+MergesThroughout target further e before after more =
+    (bytes : List ℕ) → target.seen before ≡ Some bytes
+    → LeavesOnly target.calls target.may_leave before after
+    (λ image. leaves_now target.calls target.may_leave before image ⊎ ((set : List Ballot) × HoldsSet e bytes set × HoldsOldOrUnion further e set more image))
+
 -- why the target gave no union to begin with
 abbrev pub RefusesBegin : {D : Type 0} → DiskModel D → Election → D → D → MergeFault → Type 0
 RefusesBegin target e before after (Target why) = RefusesTarget target e why before after
-RefusesBegin target e before after Memory = target.faults after ≡ target.faults before
+RefusesBegin target e before after Memory = (target.faults after ≡ target.faults before) × AsTold target.seen before after (IsTargetKept e)
 RefusesBegin target e before after fault = ⊥
 
 -- why the union of these sets is no store

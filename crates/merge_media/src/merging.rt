@@ -1,14 +1,15 @@
 //! Media are merged: the target becomes the medium of the union of all.
 
-ghost use Rattle.std.specs.Prelude.{◌≡◌, ◌≢◌, ◌+◌, ◌*◌, ◌^◌, ◌<◌, ◌≤◌, ◌∷◌, [], ℕ, List, None, IfErr, IfOk, OnOk, Some, is_some, length};
+ghost use Rattle.std.specs.Prelude.{◌≡◌, ◌≢◌, ◌⊎◌, ◌+◌, ◌*◌, ◌^◌, ◌<◌, ◌≤◌, ◌∷◌, [], ℕ, List, None, IfErr, IfOk, OnOk, Some, is_some, length};
 ghost use Rattle.std.specs.List.{AllZip};
-ghost use Rattle.merge_media.specs.Merging.{HoldsOldOrUnion, IsRecovered, MergeRefuses, Merges, RefusesBegin, RefusesFurther, RefusesMedium, RefusesUnion, further_fault};
+ghost use Rattle.merge_media.specs.Merging.{HoldsOldOrUnion, IsRecovered, MergeRefuses, Merges, MergesThroughout, RefusesBegin, RefusesFurther, RefusesMedium, RefusesUnion, further_fault};
 ghost use Rattle.merge_media.specs.Union.{IsUnion, Joins};
 ghost use Rattle.merge_media.specs.declared.fault.MergeFault.TheVariants as faults;
 ghost use Rattle.recovery.specs.Media.{EachHolds, HoldsIfTold, NoneRose};
 ghost use Rattle.recovery.specs.ReadsOnly.{WritesNothing};
+ghost use Rattle.recovery.specs.Refused.{HoldsSetOf};
 ghost use Rattle.store_spec.specs.Ballot.{Ballot};
-ghost use Rattle.store_spec.specs.Disk.{disk_model, LeavesOnlyOnceSynced, SyncsFirst};
+ghost use Rattle.store_spec.specs.Disk.{disk_model, leaves_now, LeavesOnly, LeavesOnlyOnceSynced, SyncsFirst};
 ghost use Rattle.store_spec.specs.Election.{most_ballots};
 ghost use Rattle.store_spec.specs.Fault.{last_count};
 ghost use Rattle.store_spec.specs.Medium.{HoldsSet, HoldsTheSame};
@@ -116,6 +117,9 @@ fn begin<A: Disk>(
     ensures once_synced { OnOk result ((bytes : List ℕ) → A.seen disk.old ≡ Some bytes
         → LeavesOnlyOnceSynced A.calls A.may_leave disk.old disk.new
         (HoldsTheSame election.now bytes)) }
+    ensures throughout { (bytes : List ℕ) → A.seen disk.old ≡ Some bytes
+        → LeavesOnly A.calls A.may_leave disk.old disk.new
+        (λ image. leaves_now A.calls A.may_leave disk.old image ⊎ HoldsSetOf election.now bytes image) }
     ensures leads { A.leads_to disk.old disk.new }
 {
     let store = match recover(alloc, disk, election, scratch) {
@@ -182,6 +186,8 @@ pub fn merge<A: Disk, B: Disk>(
         → HoldsSet election.now bytes set
         → SyncsFirst A.calls A.may_leave disk.old disk.new (HoldsOldOrUnion
         (disk_model B.seen B.calls B.may_leave B.faults) election.now set more.old) }
+    ensures throughout { MergesThroughout (disk_model A.seen A.calls A.may_leave A.faults)
+        (disk_model B.seen B.calls B.may_leave B.faults) election.now disk.old disk.new more.old }
     ensures reads { AllZip (WritesNothing B.seen B.calls B.may_leave) more.old more.new }
     ensures told { is_some (A.seen disk.new) ≡ is_some (A.seen disk.old) }
     ensures leads { A.leads_to disk.old disk.new }

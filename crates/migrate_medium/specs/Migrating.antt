@@ -36,12 +36,12 @@ pub record Migrates {A B : Type 0} (old : DiskModel A) (target : DiskModel B) (e
   pub medium : AsTold target.seen before after (λ _ bytes. IsMediumOf e bytes set)
   pub settled : IsSettled target.seen target.calls target.may_leave after
 
--- why the old medium gave no store under this election
+-- Why the old medium gave no store under this election. Want of memory is told only where a bank of it is read.
 abbrev pub OldRefuses : {D : Type 0} → DiskModel D → Election → D → D → MigrateFault → Type 0
 OldRefuses model form from since (Old why) =
     IfSome (model.seen from) (λ bytes. IsRefusedMedium form bytes why) × (why ≢ recover.Memory)
     × (why ≡ recover.DiskFault → Rose (model.faults from) (model.faults since))
-OldRefuses model form from since Memory = Unit {0}
+OldRefuses model form from since Memory = IfSome (model.seen from) (λ bytes. IsRefusedMedium form bytes recover.Memory)
 OldRefuses model form from since fault = ⊥
 
 -- the old medium holds a set, and the target is refused for this reason
@@ -58,7 +58,7 @@ TargetRefuses old target e from before after fault = ⊥
 abbrev pub MigrateRefuses : {A B : Type 0} → DiskModel A → DiskModel B → Election → A → A → B → B → MigrateFault → Type 0
 MigrateRefuses old target e from since before after NoOldForm = (¬ HasVersionOne e) × (since ≡ from)
 MigrateRefuses old target e from since before after (Old why) = HasVersionOne e × OldRefuses old (as_version_one e) from since (Old why)
-MigrateRefuses old target e from since before after Memory = HasVersionOne e
+MigrateRefuses old target e from since before after Memory = HasVersionOne e × OldRefuses old (as_version_one e) from since Memory
 MigrateRefuses old target e from since before after fault = HasVersionOne e × TargetRefuses old target e from before after fault
 
 -- Where the old medium is refused, or memory is wanting, no call is made on the target. Where the target is refused, it

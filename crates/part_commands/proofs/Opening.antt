@@ -44,7 +44,7 @@ module _ {D : Type 0} (model : DiskModel D) (e : Election) where
     is = refl;
     against = (refl, zip_same (λ old new. model.faults new ≡ model.faults old) (λ disk. refl) more);
     leaves = (kept one, zip_same (KeepsMedium model e) kept more);
-    unwritten = λ before. absurd before;
+    unwritten = inl (wrote_nothing one, zip_same (WritesNothing model.seen model.calls model.may_leave) wrote_nothing more);
     crashes = only_looked {T = Parted} {E = PartFault} model model e (Err faults.Memory) (λ fault. Unit {0}) one one more more tt (wrote_nothing one) (zip_same (WritesNothing model.seen model.calls model.may_leave) wrote_nothing more);
     script = refl;
     nothing_written = refl;
@@ -91,6 +91,8 @@ module _ {D : Type 0} (model : DiskModel D) (e : Election) (one ready after : D)
     looked = looks.looked;
     reads = looks.reads;
     others_read = looks.others_read;
+    steady = looks.steady opened.all.no_fault;
+    others_steady = looks.others_steady opened.all.none_rose;
     set = set;
     answer = handles.answer;
     is = status_so model one ready after more ready_more now opened.all.no_fault opened.all.none_rose handles.answer a handles.is;

@@ -220,7 +220,7 @@ module _ {D : Type 0} (model : DiskModel D) where
     against_settled (faults.First why) against = inl (refused_settled why)
     against_settled (faults.Other index why) against = inl tt
     against_settled (faults.Misplaced index number) against = inl tt
-    against_settled (faults.DiskFault index) against = absurd (none_at index against)
+    against_settled (faults.DiskFault index) against = absurd (none_at index against.0)
     against_settled faults.Memory against = inr refl
 
     module _ {S K : Type 0} (a : Status) (report : Reported) (old new : Input S) (sink sunk : Output K) where

@@ -8,11 +8,12 @@ use Rattle.medium_commands.specs.Several.{MediaHold}
 use Rattle.outside_io.specs.Outside.{Input, Output}
 use Rattle.parted_store.specs.Leads.{PartFails}
 use Rattle.parted_store.specs.Slots.{models_of, parted_disks}
-use Rattle.partition_store.specs.Opening.{IsAgainst, IsBeforeRecovery, LeavesOf, LooksThenRecovers}
+use Rattle.partition_store.specs.Opening.{IsAgainst, LeavesOf, LooksThenRecovers, WritesBehindLooks}
 use Rattle.partition_store.specs.Parted.{AreFurther, BelongsTo, Parted, bits_of}
 use Rattle.partition_store.specs.declared.fault.PartFault.{PartFault}
 use Rattle.partition_store.specs.declared.fault.PartFault.TheVariants as faults
 use Rattle.recovery.specs.Faults.{medium_fault}
+use Rattle.recovery.specs.Media.{NoneRose}
 use Rattle.recovery.specs.ReadsOnly.{WritesNothing}
 use Rattle.run_outcome.specs.Row.{Content, EndsWell, Row}
 use Rattle.run_outcome.specs.Status.{ended_as}
@@ -54,17 +55,15 @@ IsStatusOf model answer a one after more now = a ≡ ended_as run_status answer
 
 -- ---- no session began
 
--- The media were refused for this reason, as far as that allows nothing was written to them, and nothing was read of the
--- script or written to the sink.
+-- The media were refused for this reason. Nothing was written to them, unless all held sets of their parts and a disk
+-- failed or there was no memory. Nothing was read of the script or written to the sink.
 pub record PartsNotBegun {S K D : Type 0} (model : DiskModel D) (e : Election) (a : Status) (report : Reported)
     (old new : Input S) (sink sunk : Output K) (one after : D) (more now : List D) : Type 0 where
   pub fault : PartFault
   pub is : a ≡ open_status fault
   pub against : IsAgainst model model e one after more now fault
   pub leaves : LeavesOf model model e one after more now fault
-  pub unwritten : IsBeforeRecovery fault
-      → WritesNothing model.seen model.calls model.may_leave one after
-      × AllZip (WritesNothing model.seen model.calls model.may_leave) more now
+  pub unwritten : WritesBehindLooks model model e one after more now fault
   pub crashes : LooksThenRecovers {T = Parted} model model e (Err fault) one after more now
   pub script : new ≡ old
   pub nothing_written : sunk ≡ sink
@@ -91,13 +90,15 @@ pub record IsSeenFrom {D : Type 0} (model : DiskModel D) (e : Election) (bits : 
 abbrev pub part_model : {D : Type 0} → DiskModel D → ℕ → StoreModel (D × List D)
 part_model model more = store_model (of_parts (bits_of more)) (parted_disks model model (bits_of more) more)
 
--- The media of all parts were looked at, which wrote nothing, then each was recovered, and a session began with the set of
--- which they held the shares.
+-- The media of all parts were looked at, which wrote nothing and in which no call failed, then each was recovered, and a
+-- session began with the set of which they held the shares.
 pub record PartsHaveBegun {S K D : Type 0} (model : DiskModel D) (e : Election) (a : Status) (report : Reported)
     (old new : Input S) (sink sunk : Output K) (one after : D) (more now : List D) : Type 0 where
   pub looked : D × List D
   pub reads : WritesNothing model.seen model.calls model.may_leave one looked.0
   pub others_read : AllZip (WritesNothing model.seen model.calls model.may_leave) more looked.1
+  pub steady : model.faults looked.0 ≡ model.faults one
+  pub others_steady : NoneRose model more looked.1
   pub set : List Ballot
   pub answer : Result (Unit {0}) RunFault
   pub is : IsStatusOf model answer a one after more now

@@ -5,4 +5,5 @@ mod Playing
 mod Ready
 pub mod Shares
 mod Stages
+mod Teamed
 mod Told

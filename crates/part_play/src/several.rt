@@ -9,7 +9,9 @@ ghost use Rattle.std.specs.Prelude.{◌≡◌, ◌≤◌, ◌++◌, ◌∷◌, �
 
 use body_store::Closed;
 use outside_io::{Memory, Turns};
-use phase_kind::{Kind, PhaseOf, Spread, Worker, in_order, run_several, share_out, turned};
+use phase_kind::{
+    Kind, PhaseOf, Spread, Worker, in_order, run_several, share_out, teams_of, turned, workers_of,
+};
 use std::alloc::Global;
 use std::thread::Threads;
 
@@ -215,27 +217,29 @@ where
     Ok((stores, told))
 }
 
-/// All teams handle their orders, and then all phases are closed.
+/// The workers in each row handle the order at its place, and then all phases are closed.
 fn handled<R: Threads + Sync, T: Turns, K: Kind>(
     rt: &R,
     alloc: Global,
     phases: Vec<PhaseOf<K>>,
-    mut teams: Vec<Vec<Worker<K>>>,
+    rows: Vec<Vec<Worker<K>>>,
     orders: &[Vec<u8>],
     turns: &T,
 ) -> Result<(Vec<Closed>, Vec<Vec<Vec<K::Final>>>), Memory>
 where
     K::Final: Drop,
     requires ready { AreReady (map (λ phase. phase.base) phases.items) phases.items
-        (map (λ team. team.items) teams.items) (map (λ order. order.items) orders.now) }
+        (map (λ row. row.items) rows.items) (map (λ order. order.items) orders.now) }
     ensures { IfOk result (λ ended. (goes_to : K.Item → ℕ) (work : List (List K.Item))
-        → HaveWork goes_to work (map (λ team. team.items) teams.items)
+        → HaveWork goes_to work (map (λ row. row.items) rows.items)
         → HaveClosed K.closes goes_to (map (λ phase. phase.base) phases.items) work ended.0.items
         (map (λ finals. map (λ list. list.items) finals.items) ended.1.items)) }
 {
     let places = phases.len();
-    run_several(rt, &phases, &mut teams, orders, turns);
-    let columns = turned(alloc, places, teams)?;
+    let mut teams = teams_of(alloc, rows, orders)?;
+    run_several(rt, &phases, &mut teams, turns);
+    let after = workers_of(alloc, teams)?;
+    let columns = turned(alloc, places, after)?;
     let (stores, told) = closed(alloc, phases, columns)?;
     Ok((stores, told))
 }

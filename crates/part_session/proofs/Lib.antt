@@ -1,6 +1,9 @@
 mod Found
+mod LineWaits
+mod Lines
 mod OnePart
 mod OneRun
+mod Played
 mod Stores
 mod Together
 mod Words

@@ -1,18 +1,18 @@
 -- All media are looked at, and then recovered.
-use Rattle.std.proofs.Common.{◌≡◌, ◌⊎◌, ◌≤◌, ℕ, zero, suc, List, ◌∷◌, ⊎_elim, Option, Some, Result, Ok, Err, inl, inr, sym, ap, subst, ◌∙◌, arith}
+use Rattle.std.proofs.Common.{◌≡◌, ◌⊎◌, ◌≤◌, ℕ, zero, suc, List, ◌∷◌, take, ⊎_elim, Option, Some, Result, Ok, Err, inl, inr, refl, sym, ap, subst, ◌∙◌, arith}
 use Rattle.store_spec.proofs.Common.{AllZip, Ballot, DiskModel, Election, HoldsSet, IsErrAnd, OnOk, Rose, leaves_now}
 use Rattle.std.specs.Option.{IfSome, is_some}
 use Rattle.body_store.specs.Contents.{Contents}
 use Rattle.crash_disk.proofs.Moments.{joined, weaker}
 use Rattle.outside_io.specs.Told.{IfTold}
-use Rattle.partition_store.specs.Opening.{FailsAt, FailsMedium, HoldsThroughout, IsAgainst, IsBeforeRecovery, IsKeptMedium, IsOpened, KeepsMedium, LeavesOf, LooksThenRecovers, Recovers}
+use Rattle.partition_store.specs.Opening.{AllHoldOwn, FailsAt, FailsMedium, HoldsThroughout, IsAgainst, IsKeptMedium, IsOpened, KeepsMedium, LeavesOf, LooksThenRecovers, NoneWritten, Recovers, WritesBehindLooks}
 use Rattle.partition_store.specs.Parted.{IsParted, Parted}
 use Rattle.partition_store.specs.PartedKept.{election_of, sets_of}
 use Rattle.partition_store.specs.Recovering.{AreRecoveredAs, IsRecoveredAs, KeepsSteady, RefusesAll, RefusesRecoveries, RefusesRecovery}
 use Rattle.partition_store.specs.declared.fault.PartFault.{PartFault}
 use Rattle.partition_store.specs.declared.fault.PartFault.TheVariants.{First, Other, Misplaced, DiskFault, Memory}
 use Rattle.partition_store.proofs.SideBySide.{zip_at, zip_both, zip_from, zip_joined, zip_to, zip_weaker}
-use Rattle.recovery.proofs.OneByOne.{zip_same}
+use Rattle.recovery.proofs.OneByOne.{zip_same, zip_take}
 use Rattle.partition_store.proofs.Recoveries.{kept_still, recovers_still}
 use Rattle.recovery.specs.Media.{HoldsIfTold, NoneRose}
 use Rattle.recovery.specs.ReadsOnly.{WritesNothing}
@@ -31,7 +31,8 @@ module _ {A B : Type 0} (first : DiskModel A) (further : DiskModel B) (e : Elect
   refuses_first (First why) refused = absurd refused
   refuses_first (Other i why) refused = absurd refused
   refuses_first (Misplaced i number) refused = absurd refused
-  refuses_first (DiskFault i) refused = subst (λ i. RefusesAll first further e one after more more (DiskFault i)) (sym refused.0) (refused.1, bytes_of more still)
+  refuses_first (DiskFault i) refused = subst (λ i. RefusesAll first further e one after more more (DiskFault i)) (sym refused.0)
+      ((refused.1, bytes_of more still), zip_same (λ old new. further.faults new ≡ further.faults old) (λ disk. refl) more)
   refuses_first Memory refused = (refused, still)
 
   pub no_room : KeepsSteady first e one after → RefusesAll first further e one after more more Memory
@@ -42,7 +43,7 @@ module _ {A B : Type 0} (first : DiskModel A) (further : DiskModel B) (e : Elect
   refuses_rest now (Other i why) kept refused = absurd refused
   refuses_rest now (Misplaced i number) kept refused = absurd refused
   refuses_rest now (DiskFault zero) kept refused = absurd refused
-  refuses_rest now (DiskFault (suc place)) kept refused = (kept.bytes, refused)
+  refuses_rest now (DiskFault (suc place)) kept refused = ((kept.bytes, refused.0), (kept.no_fault, refused.1))
   refuses_rest now Memory kept refused = (kept, refused)
 
   pub opened : (now : List B) (stores : List Contents) (set : List Ballot) (sets : List (List Ballot)) (bits : ℕ) (result : Parted) → IsParted result
@@ -164,17 +165,18 @@ module _ {A B : Type 0} (first : DiskModel A) (further : DiskModel B) (e : Elect
       from (First why) against = (kept, rest)
       from (Other i why) against = (kept, rest)
       from (Misplaced i number) against = (kept, rest)
-      from (DiskFault zero) against = (fails_looked first e one after law reads against, rest)
+      from (DiskFault zero) against = (fails_looked first e one after law reads against.0, rest)
       from (DiskFault (suc place)) against =
-          let old = against.0 in
-          let new = against.1 in (
+          let rose = against.0 in
+          let old = rose.0 in
+          let new = rose.1 in (
             kept,
             record {
               old = old;
-              there = against.2;
+              there = rose.2;
               new = new;
-              there_now = against.3;
-              fails = fails_looked further e old new further_law (zip_at (WritesNothing further.seen further.calls further.may_leave) more now place old new others against.2 against.3) against.4;
+              there_now = rose.3;
+              fails = fails_looked further e old new further_law (zip_at (WritesNothing further.seen further.calls further.may_leave) more now place old new others rose.2 rose.3) rose.4;
               others = λ i x y other at now_at. zip_at (KeepsMedium further e) more now i x y rest at now_at;
             },
           )
@@ -182,15 +184,27 @@ module _ {A B : Type 0} (first : DiskModel A) (further : DiskModel B) (e : Elect
 
   module _ (one mid after : A) (more between now : List B) (reads : WritesNothing first.seen first.calls first.may_leave one mid) (steady : first.faults mid ≡ first.faults one)
       (others : AllZip (WritesNothing further.seen further.calls further.may_leave) more between) (none : NoneRose further more between) where
-    pub against_behind : (fault : PartFault) → RefusesAll first further e mid after between now fault → IsAgainst first further e one after more now fault
-    against_behind (First why) refused = absurd refused
-    against_behind (Other i why) refused = absurd refused
-    against_behind (Misplaced i number) refused = absurd refused
-    against_behind (DiskFault zero) refused = (fails_behind first e one mid after reads steady refused.0).rose
-    against_behind (DiskFault (suc place)) refused =
-        let failed = fails_at_behind further e more between now place others none refused.1 in
-        (failed.old, failed.new, failed.there, failed.there_now, failed.fails.rose)
-    against_behind Memory refused = (
+    pub against_behind : AllHoldOwn first further e one more → (fault : PartFault) → RefusesAll first further e mid after between now fault → IsAgainst first further e one after more now fault
+    against_behind own (First why) refused = absurd refused
+    against_behind own (Other i why) refused = absurd refused
+    against_behind own (Misplaced i number) refused = absurd refused
+    against_behind own (DiskFault zero) refused = (
+      (fails_behind first e one mid after reads steady refused.0.0).rose,
+      zip_joined (λ x y. further.faults y ≡ further.faults x) (λ x y. further.faults y ≡ further.faults x) (λ x y. further.faults y ≡ further.faults x) (λ x y z before then'. then' ∙ before) more between now none refused.1,
+      tt,
+    )
+    against_behind own (DiskFault (suc place)) refused =
+        let failed = fails_at_behind further e more between now place others none refused.0.1 in (
+          (failed.old, failed.new, failed.there, failed.there_now, failed.fails.rose),
+          (
+            refused.1.0 ∙ steady,
+            λ i x y other at now_at.
+                let looked = zip_to (λ x y. further.faults y ≡ further.faults x) more between i x none at in
+                refused.1.1 i looked.0 y other looked.1 now_at ∙ looked.2,
+          ),
+          ((own.set, own.held), (take place own.sets, zip_take (HoldsIfTold further e) more own.sets place own.each)),
+        )
+    against_behind own Memory refused = (
       refused.0.no_fault ∙ steady,
       zip_joined (λ x y. further.faults y ≡ further.faults x) (KeepsSteady further e) (λ x y. further.faults y ≡ further.faults x) (λ x y z before kept. kept.no_fault ∙ before) more between now none refused.1,
     )
@@ -202,8 +216,8 @@ module _ {A B : Type 0} (first : DiskModel A) (further : DiskModel B) (e : Elect
     left_behind (First why) refused = absurd refused
     left_behind (Other i why) refused = absurd refused
     left_behind (Misplaced i number) refused = absurd refused
-    left_behind (DiskFault zero) refused = (fails_behind first e one mid after reads steady refused.0, kept_all refused.1)
-    left_behind (DiskFault (suc place)) refused = (kept_behind first e one mid after reads refused.0, fails_at_behind further e more between now place others none refused.1)
+    left_behind (DiskFault zero) refused = (fails_behind first e one mid after reads steady refused.0.0, kept_all refused.0.1)
+    left_behind (DiskFault (suc place)) refused = (kept_behind first e one mid after reads refused.0.0, fails_at_behind further e more between now place others none refused.0.1)
     left_behind Memory refused = (
       kept_behind first e one mid after reads refused.0.bytes,
       kept_all (zip_weaker (KeepsSteady further e) (KeepsMedium further e) (λ x y kept. kept.bytes) between now refused.1),
@@ -226,13 +240,21 @@ module _ {A B : Type 0} (first : DiskModel A) (further : DiskModel B) (e : Elect
       media = is.media;
     }
 
-    -- in one refusal no store was there to be recovered
-    pub not_before : {P : Type 0} (fault : PartFault) → RefusesAll first further e mid after between now fault → IsBeforeRecovery fault → P
-    not_before (First why) refused before = absurd refused
-    not_before (Other i why) refused before = absurd refused
-    not_before (Misplaced i number) refused before = absurd refused
-    not_before (DiskFault i) refused before = absurd before
-    not_before Memory refused before = absurd before
+    -- all media held sets, which were being recovered
+    pub written_behind : AllHoldOwn first further e one more → (fault : PartFault) → RefusesAll first further e mid after between now fault → WritesBehindLooks first further e one after more now fault
+    written_behind own (First why) refused = absurd refused
+    written_behind own (Other i why) refused = absurd refused
+    written_behind own (Misplaced i number) refused = absurd refused
+    written_behind own (DiskFault i) refused = inr own
+    written_behind own Memory refused = inr own
+
+  -- the looks wrote nothing
+  pub written_looked : (one after : A) (more now : List B) → NoneWritten first further one after more now → (fault : PartFault) → WritesBehindLooks first further e one after more now fault
+  written_looked one after more now none (First why) = none
+  written_looked one after more now none (Other i why) = none
+  written_looked one after more now none (Misplaced i number) = none
+  written_looked one after more now none (DiskFault i) = inl none
+  written_looked one after more now none Memory = inl none
 
 -- all further disks
 pub runs_looked : {D : Type 0} (model : DiskModel D) (e : Election) (more now : List D) → AllZip (WritesNothing model.seen model.calls model.may_leave) more now → AllZip (Runs model e) more now

@@ -117,15 +117,17 @@ refuses_recoveries model e first now place old new (Other i why) there lt keeps 
 refuses_recoveries model e first now place old new (Misplaced i number) there lt keeps next refused = absurd refused
 refuses_recoveries model e first now place old new (faults.DiskFault i) there lt keeps next refused =
     let is : suc place ≡ i = omega (arith, refused.0) in
-    subst (λ i. RefusesRecoveries model e first (set now place new) (faults.DiskFault i)) is
-    (record {
-      old = old;
-      there = there;
-      new = new;
-      there_now = stands_now now place new lt;
-      fails = refused.1;
-      others = λ i x y other at now_at. (zip_at (KeepsSteady model e) first now i x y keeps at (still_there now i place y new other now_at)).bytes;
-    })
+    subst (λ i. RefusesRecoveries model e first (set now place new) (faults.DiskFault i)) is (
+      record {
+        old = old;
+        there = there;
+        new = new;
+        there_now = stands_now now place new lt;
+        fails = refused.1;
+        others = λ i x y other at now_at. (zip_at (KeepsSteady model e) first now i x y keeps at (still_there now i place y new other now_at)).bytes;
+      },
+      λ i x y other at now_at. (zip_at (KeepsSteady model e) first now i x y keeps at (still_there now i place y new other now_at)).no_fault,
+    )
 refuses_recoveries model e first now place old new faults.Memory there lt keeps next refused = next refused
 
 -- what was recovered of them, with one more

@@ -1,6 +1,6 @@
 -- More on calls on a list of disks, one after another, and on lists that are related entry by entry.
-use Rattle.std.proofs.Common.{◌≡◌, ℕ, zero, suc, ◌+◌, ◌<◌, ◌≢◌, List, [], ◌∷◌, ◌++◌, length, get_or, take, drop, set, Some, refl, sym, ap, subst, ◌∙◌, arith}
-use Rattle.store_spec.proofs.Common.{AllZip, get_or-set_same, get_or_from_slice_get, length-set, take-set, take_more}
+use Rattle.std.proofs.Common.{◌≡◌, ℕ, zero, suc, ◌+◌, ◌-◌, ◌<◌, ◌≤◌, ◌≢◌, List, [], ◌∷◌, ◌++◌, length, get_or, take, drop, set, Some, refl, sym, ap, subst, ◌∙◌, arith}
+use Rattle.store_spec.proofs.Common.{AllZip, get_or-drop, get_or-set_same, get_or_from_slice_get, length-set, take-set, take_more}
 use Rattle.std.specs.List.{slice_get}
 use Rattle.recovery.proofs.OneByOne.{stood_there, zip_more, zip_set}
 
@@ -34,6 +34,22 @@ zip_at R [] ys i x y zip is at = let never : ⊥ = cc in absurd never
 zip_at R (a ∷ xs) [] i x y zip is at = absurd zip
 zip_at R (a ∷ xs) (b ∷ ys) zero x y zip is at = let left : a ≡ x = cc in let right : b ≡ y = cc in subst (λ x. R x y) left (subst (λ y. R a y) right zip.0)
 zip_at R (a ∷ xs) (b ∷ ys) (suc i) x y zip is at = zip_at R xs ys i x y zip.1 is at
+
+-- one of the first of them
+pub zip_before : {X Y : Type 0} (R : X → Y → Type 0) (xs : List X) (ys : List Y) (n i : ℕ) (x : X) (y : Y) → i < n → AllZip R (take n xs) (take n ys)
+    → slice_get xs i ≡ Some x → slice_get ys i ≡ Some y → R x y
+zip_before R xs ys zero i x y lt zip is at = absurd (omega (arith, lt))
+zip_before R [] ys (suc n) i x y lt zip is at = let never : ⊥ = cc in absurd never
+zip_before R (a ∷ xs) [] (suc n) i x y lt zip is at = absurd zip
+zip_before R (a ∷ xs) (b ∷ ys) (suc n) zero x y lt zip is at = let left : a ≡ x = cc in let right : b ≡ y = cc in subst (λ x. R x y) left (subst (λ y. R a y) right zip.0)
+zip_before R (a ∷ xs) (b ∷ ys) (suc n) (suc i) x y lt zip is at = zip_before R xs ys n i x y (omega (arith, lt)) zip.1 is at
+
+-- those from one of them on are as they were
+pub later_same : {X : Type 0} (first now : List X) (n i : ℕ) (x y : X) → n ≤ i → drop n now ≡ drop n first → slice_get first i ≡ Some x → slice_get now i ≡ Some y → y ≡ x
+later_same first now n i x y le same at now_at =
+    let k : n + (i - n) ≡ i = omega arith in
+    sym (get_or_from_slice_get now i y y now_at) ∙ ap (λ j. get_or now j y) (sym k) ∙ sym (get_or-drop n now (i - n) y) ∙ ap (λ zs. get_or zs (i - n) y) same
+    ∙ get_or-drop n first (i - n) y ∙ ap (λ j. get_or first j y) k ∙ get_or_from_slice_get first i x y at
 
 -- ---- the first of them, with the one that was called
 

@@ -1,11 +1,11 @@
 -- The opening of a store in parts. `one` and `after` are the first disk before and after, `more` and `now` the further
 -- ones, of the parts from 1 on.
-use Rattle.std.specs.Prelude.{◌≡◌, ◌≢◌, ◌⊎◌, ℕ, zero, suc, ◌+◌, ◌<◌, ◌≤◌, ◌==◌, if◌then◌else◌, List, ◌∷◌, is_some, length, OnOk, Result, Some, slice_get}
+use Rattle.std.specs.Prelude.{◌≡◌, ◌≢◌, ◌⊎◌, ℕ, zero, suc, ◌+◌, ◌<◌, ◌≤◌, ◌==◌, if◌then◌else◌, EachIndex, List, [], ◌∷◌, get_or, is_some, length, OnOk, Result, Some, slice_get, take}
 use Rattle.std.specs.List.{AllZip}
 use Rattle.any_store.specs.Checkpointed.{IsMediumNow}
 use Rattle.outside_io.specs.Told.{AsTold}
 use Rattle.partition_store.specs.Foreign.{IsMisplaced}
-use Rattle.partition_store.specs.Parted.{IsParted, Parted, bits_of}
+use Rattle.partition_store.specs.Parted.{BelongsTo, IsParted, Parted, bits_of}
 use Rattle.partition_store.specs.declared.fault.PartFault.{PartFault}
 use Rattle.partition_store.specs.declared.fault.PartFault.TheVariants.{First, Other, Misplaced, DiskFault, Memory}
 use Rattle.recovery.specs.Media.{EachHolds, HoldsIfTold, IsRefusedFor, NoneRose, StopsAt}
@@ -112,7 +112,23 @@ RoseAt first further one after more now zero = Rose (first.faults one) (first.fa
 RoseAt {A} {B} first further one after more now (suc place) =
     (old : B) × (new : B) × (slice_get more place ≡ Some old) × (slice_get now place ≡ Some new) × Rose (further.faults old) (further.faults new)
 
--- Why a store in parts is not opened. A medium that is refused comes before a number in another part than its own.
+-- one of these disks apart, no count of faults rose
+abbrev pub NoOtherRose : {D : Type 0} → DiskModel D → ℕ → List D → List D → Type 0
+NoOtherRose {D} model place more now = (i : ℕ) (x y : D) → i ≢ place → slice_get more i ≡ Some x → slice_get now i ≡ Some y → model.faults y ≡ model.faults x
+
+-- the same of the disks of all parts
+abbrev pub NoOtherPartRose : {A B : Type 0} → DiskModel A → DiskModel B → A → A → List B → List B → ℕ → Type 0
+NoOtherPartRose first further one after more now zero = NoneRose further more now
+NoOtherPartRose first further one after more now (suc place) = (first.faults after ≡ first.faults one) × NoOtherRose further place more now
+
+-- the media of all parts before this one hold sets
+abbrev pub HoldBefore : {A B : Type 0} → DiskModel A → DiskModel B → Election → A → List B → ℕ → Type 0
+HoldBefore first further e one more zero = Unit {0}
+HoldBefore first further e one more (suc place) =
+    ((set : List Ballot) × HoldsIfTold first e one set) × ((sets : List (List Ballot)) × EachHolds further e (take place more) sets)
+
+-- Why a store in parts is not opened. A medium that is refused comes before a number in another part than its own. Where a
+-- disk failed, no other one did, and the media before it hold sets.
 abbrev pub IsAgainst : {A B : Type 0} → DiskModel A → DiskModel B → Election → A → A → List B → List B → PartFault → Type 0
 IsAgainst first further e one after more now (First why) = IsRefusedFor first e why one after × (now ≡ more)
 IsAgainst first further e one after more now (Other index why) =
@@ -120,7 +136,8 @@ IsAgainst first further e one after more now (Other index why) =
 IsAgainst first further e one after more now (Misplaced index number) =
     (set : List Ballot) × (sets : List (List Ballot)) × AllHold first further e one after more now set sets
     × IsMisplaced (bits_of (length more)) (set ∷ sets) index number
-IsAgainst first further e one after more now (DiskFault index) = RoseAt first further one after more now index
+IsAgainst first further e one after more now (DiskFault index) =
+    RoseAt first further one after more now index × NoOtherPartRose first further one after more now index × HoldBefore first further e one more index
 IsAgainst first further e one after more now Memory =
     (first.faults after ≡ first.faults one) × NoneRose further more now
 
@@ -146,11 +163,29 @@ pub record LooksThenRecovers {A B T E : Type 0} (first : DiskModel A) (further :
   pub called : OnOk answer (first.calls after < last_count → first.calls looked.0 < first.calls after)
   pub others_called : OnOk answer (AllZip (λ old new. further.calls new < last_count → further.calls old < further.calls new) looked.1 now)
 
--- it was not refused while disks were recovered
-abbrev pub IsBeforeRecovery : PartFault → Type 0
-IsBeforeRecovery (DiskFault index) = ⊥
-IsBeforeRecovery Memory = ⊥
-IsBeforeRecovery fault = Unit {0}
+-- ---- what is written where they are not opened
+
+-- nothing was written to any disk
+abbrev pub NoneWritten : {A B : Type 0} → DiskModel A → DiskModel B → A → A → List B → List B → Type 0
+NoneWritten first further one after more now =
+    WritesNothing first.seen first.calls first.may_leave one after × AllZip (WritesNothing further.seen further.calls further.may_leave) more now
+
+-- all media hold sets, whose ballots belong there
+pub record AllHoldOwn {A B : Type 0} (first : DiskModel A) (further : DiskModel B) (e : Election) (one : A) (more : List B) : Type 0 where
+  pub set : List Ballot
+  pub sets : List (List Ballot)
+  pub held : HoldsIfTold first e one set
+  pub each : EachHolds further e more sets
+  pub own : EachIndex (set ∷ sets) (λ part. BelongsTo (bits_of (length more)) part (get_or (set ∷ sets) part []))
+
+-- Nothing was written to any disk. Only where a disk failed or there was no memory it may have been, and then all media
+-- hold sets, whose ballots belong there.
+abbrev pub WritesBehindLooks : {A B : Type 0} → DiskModel A → DiskModel B → Election → A → A → List B → List B → PartFault → Type 0
+WritesBehindLooks first further e one after more now (DiskFault index) =
+    NoneWritten first further one after more now ⊎ AllHoldOwn first further e one more
+WritesBehindLooks first further e one after more now Memory =
+    NoneWritten first further one after more now ⊎ AllHoldOwn first further e one more
+WritesBehindLooks first further e one after more now fault = NoneWritten first further one after more now
 
 -- The store that was opened: the sets are those that the disks held, and each disk is the medium of its part's set.
 pub record IsOpened {A B : Type 0} (first : DiskModel A) (further : DiskModel B) (e : Election) (one after : A) (more now : List B) (store : Parted) : Type 0 where

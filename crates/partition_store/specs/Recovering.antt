@@ -2,7 +2,7 @@
 use Rattle.std.specs.Prelude.{◌≡◌, ℕ, suc, List}
 use Rattle.std.specs.List.{AllZip}
 use Rattle.any_store.specs.Checkpointed.{IsMediumNow}
-use Rattle.partition_store.specs.Opening.{FailsAt, FailsMedium, KeepsMedium, LeavesOf}
+use Rattle.partition_store.specs.Opening.{FailsAt, FailsMedium, KeepsMedium, LeavesOf, NoOtherPartRose, NoOtherRose}
 use Rattle.partition_store.specs.declared.fault.PartFault.{PartFault}
 use Rattle.partition_store.specs.declared.fault.PartFault.TheVariants.{DiskFault, Memory}
 use Rattle.recovery.specs.Media.{EachHolds, HoldsIfTold, NoneRose}
@@ -29,7 +29,7 @@ RefusesRecovery model e index old new fault = ⊥
 
 -- why that of further ones gave none
 abbrev pub RefusesRecoveries : {D : Type 0} → DiskModel D → Election → List D → List D → PartFault → Type 0
-RefusesRecoveries model e more now (DiskFault (suc place)) = FailsAt model e place more now
+RefusesRecoveries model e more now (DiskFault (suc place)) = FailsAt model e place more now × NoOtherRose model place more now
 RefusesRecoveries model e more now Memory = AllZip (KeepsSteady model e) more now
 RefusesRecoveries model e more now fault = ⊥
 
@@ -41,6 +41,7 @@ pub record AreRecoveredAs {D : Type 0} (model : DiskModel D) (e : Election) (mor
 
 -- why those of all parts gave none
 abbrev pub RefusesAll : {A B : Type 0} → DiskModel A → DiskModel B → Election → A → A → List B → List B → PartFault → Type 0
-RefusesAll first further e one after more now (DiskFault index) = LeavesOf first further e one after more now (DiskFault index)
+RefusesAll first further e one after more now (DiskFault index) =
+    LeavesOf first further e one after more now (DiskFault index) × NoOtherPartRose first further one after more now index
 RefusesAll first further e one after more now Memory = KeepsSteady first e one after × AllZip (KeepsSteady further e) more now
 RefusesAll first further e one after more now fault = ⊥

@@ -3,7 +3,7 @@
 ghost use Rattle.std.specs.Prelude.{◌≡◌, ◌++◌, ◌+◌, ◌≤◌, ℕ, ◌∷◌, [], IfErr, IfOk, List, OnOk, Some, length, option_map};
 ghost use Rattle.std.specs.List.{AllZip};
 ghost use Rattle.partition_store.specs.Foreign.{IsAmong, IsFirstForeign, IsForeignIn, IsLeastForeign, first_foreign, least_with};
-ghost use Rattle.partition_store.specs.Opening.{IsAgainst, RefusesLook, RefusesParts};
+ghost use Rattle.partition_store.specs.Opening.{AllHoldOwn, IsAgainst, RefusesLook, RefusesParts};
 ghost use Rattle.partition_store.specs.Parted.{AreBits, AreFurther, bits_of};
 ghost use Rattle.recovery.specs.Media.{EachHolds, HoldsIfTold, NoneRose};
 ghost use Rattle.recovery.specs.ReadsOnly.{WritesNothing};
@@ -138,6 +138,8 @@ pub(crate) fn look_all<A: Disk, B: Disk>(
     ensures refused { IfErr result (IsAgainst (disk_model A.seen A.calls A.may_leave A.faults)
         (disk_model B.seen B.calls B.may_leave B.faults)
         election.now disk.old disk.new more.old more.new) }
+    ensures held { OnOk result (AllHoldOwn (disk_model A.seen A.calls A.may_leave A.faults)
+        (disk_model B.seen B.calls B.may_leave B.faults) election.now disk.old more.old) }
     ensures steady { OnOk result (A.faults disk.new ≡ A.faults disk.old) }
     ensures others_steady { OnOk result
         (NoneRose (disk_model B.seen B.calls B.may_leave B.faults) more.old more.new) }

@@ -2,9 +2,8 @@
 
 ghost use Rattle.std.specs.Prelude.{◌≡◌, ◌<◌, ◌≤◌, IfErr, IfOk, OnOk, is_some, length};
 ghost use Rattle.std.specs.List.{AllZip};
-ghost use Rattle.partition_store.specs.Opening.{HoldsThroughout, IsAgainst, IsBeforeRecovery, IsOpened, LeavesOf, LooksThenRecovers};
+ghost use Rattle.partition_store.specs.Opening.{HoldsThroughout, IsAgainst, IsOpened, LeavesOf, LooksThenRecovers, WritesBehindLooks};
 ghost use Rattle.partition_store.specs.Parted.{AreFurther, bits_of};
-ghost use Rattle.recovery.specs.ReadsOnly.{WritesNothing};
 ghost use Rattle.store_spec.specs.Disk.{disk_model};
 ghost use Rattle.store_spec.specs.Fault.{last_count};
 
@@ -51,9 +50,10 @@ impl PartStore {
         ensures left { IfErr result (LeavesOf (disk_model A.seen A.calls A.may_leave A.faults)
             (disk_model B.seen B.calls B.may_leave B.faults)
             election.now disk.old disk.new more.old more.new) }
-        ensures unwritten { IfErr result (λ fault. IsBeforeRecovery fault
-            → WritesNothing A.seen A.calls A.may_leave disk.old disk.new
-            × AllZip (WritesNothing B.seen B.calls B.may_leave) more.old more.new) }
+        ensures unwritten { IfErr result
+            (WritesBehindLooks (disk_model A.seen A.calls A.may_leave A.faults)
+            (disk_model B.seen B.calls B.may_leave B.faults)
+            election.now disk.old disk.new more.old more.new) }
         ensures looked { LooksThenRecovers (disk_model A.seen A.calls A.may_leave A.faults)
             (disk_model B.seen B.calls B.may_leave B.faults)
             election.now result disk.old disk.new more.old more.new }

@@ -31,6 +31,13 @@ module _ {I : Type 0} (goes_to : I → ℕ) where
       let lt = slice_get_within list index x there in
       subst (λ (n : ℕ). n < places) (sym is) (subst (λ (y : I). goes_to y < places) (get_or_from_slice_get list index x x there) (within index x lt))
 
+  -- where an item goes that stands first
+  pub goes_first : (x : I) (place : ℕ) (rest : List I) → goes_to x ≡ place → those_of goes_to place (x ∷ rest) ≡ x ∷ those_of goes_to place rest
+  goes_first x place rest is = ap (λ b. cond b (x ∷ those_of goes_to place rest) (those_of goes_to place rest)) (same_test (goes_to x) place is)
+
+  pub goes_past : (x : I) (place : ℕ) (rest : List I) → goes_to x ≢ place → those_of goes_to place (x ∷ rest) ≡ those_of goes_to place rest
+  goes_past x place rest other = ap (λ b. cond b (x ∷ those_of goes_to place rest) (those_of goes_to place rest)) (other_test (goes_to x) place other)
+
   next_of : (list : List I) (index : ℕ) (x : I) (place : ℕ) → slice_get list index ≡ Some x → those_of goes_to place (take (index + 1) list) ≡ those_of goes_to place (take index list) ++ cond (goes_to x == place) (x ∷ []) []
   next_of list index x place there = ap (those_of goes_to place) (take_next list index x there) ∙ filter-append (λ y. goes_to y == place) (take index list) (x ∷ [])
 

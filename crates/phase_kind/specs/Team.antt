@@ -1,5 +1,5 @@
 -- A team has a worker of each of several phases, among whom its list was shared out by where each item goes.
-use Rattle.std.specs.Prelude.{◌≡◌, ◌==◌, ◌+◌, ◌<◌, ℕ, List, [], length, map, zip, filter, All, Some, slice_get}
+use Rattle.std.specs.Prelude.{◌≡◌, ◌==◌, ◌+◌, ◌<◌, ◌≤◌, ℕ, List, [], ◌∷◌, ◌++◌, drop, length, map, zip, filter, All, Some, slice_get, slice_set}
 use Rattle.phase_kind.specs.Phase.{OpenPhase}
 use Rattle.phase_kind.specs.Worker.{HasFinished, WorkerView}
 
@@ -59,3 +59,47 @@ AreByPlace {I} {R} goes_to list rows = (place : ℕ) (row : List R) → slice_ge
 pub record AreInListOrder {I R : Type 0} (goes_to : I → ℕ) (list : List I) (rows : List (List R)) (replies : List R) : Type 0 where
   pub as_many : length replies ≡ length list
   pub each : (place : ℕ) (row : List R) → slice_get rows place ≡ Some row → replies_to goes_to place list replies ≡ row
+
+-- ---- a team and its order
+
+-- a worker of each of several phases, the entries of its order that were handled, and those that are ahead
+pub record TeamView (V I R : Type 0) : Type 0 where
+  pub workers : List (WorkerView V I R)
+  pub handled : List ℕ
+  pub ahead : List ℕ
+
+abbrev pub new_team : {V I R : Type 0} → List (WorkerView V I R) → List ℕ → TeamView V I R
+new_team workers order = record { workers = workers; handled = []; ahead = order }
+
+-- The worker at a place has answered the first item that waited with it: the item stands behind what the tray held, with its
+-- reply. All others are as they were.
+pub record AnswersAt {V I R : Type 0} (rests : V → Type 0) (place : ℕ) (before after : List (WorkerView V I R)) : Type 0 where
+  pub old : WorkerView V I R
+  pub now : WorkerView V I R
+  pub item : I
+  pub reply : R
+  pub there : slice_get before place ≡ Some old
+  pub put : after ≡ slice_set before place now
+  pub phase : now.phase ≡ old.phase
+  pub at_rest : rests now.seat
+  pub room : now.room ≡ old.room
+  pub waits : old.waiting ≡ item ∷ now.waiting
+  pub tray : now.tray ≡ old.tray ++ record { item = item; reply = reply } ∷ []
+
+-- The team has come to the next entry of its order, and the worker that it names has answered.
+pub record HasAnsweredNext {V I R : Type 0} (rests : V → Type 0) (before after : TeamView V I R) : Type 0 where
+  pub place : ℕ
+  pub ahead : before.ahead ≡ place ∷ after.ahead
+  pub handled : after.handled ≡ before.handled ++ place ∷ []
+  pub answers : AnswersAt rests place before.workers after.workers
+
+-- The team has handled its whole order, entry by entry, and each worker has answered all that waited.
+pub record HasHandled {V I R : Type 0} (rests : V → Type 0) (before after : TeamView V I R) : Type 0 where
+  pub in_order : after.handled ≡ before.handled ++ before.ahead
+  pub done : after.ahead ≡ []
+  pub finished : HaveFinished rests before.workers after.workers
+
+-- how a team is kept: the entries behind those that were handled name its workers
+pub record IsKeptTeam {V I R : Type 0} (workers : List (WorkerView V I R)) (order : List ℕ) (handled : ℕ) : Type 0 where
+  pub within : handled ≤ length order
+  pub named : AreNamed (drop handled order) workers

@@ -9,6 +9,7 @@ mod phase;
 mod running;
 mod several;
 mod table;
+mod team;
 mod tray;
 mod worker;
 
@@ -17,5 +18,6 @@ pub use phase::PhaseOf;
 pub use running::{run, run_waiting};
 pub use several::{Spread, in_order, run_several, share_out};
 pub use table::turned;
+pub use team::{Team, teams_of, workers_of};
 pub use tray::Tray;
 pub use worker::Worker;

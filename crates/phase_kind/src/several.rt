@@ -1,11 +1,11 @@
 //! Several phases of one kind, whose workers work in teams: a list is shared out to the workers of a team, so that
 //! each item goes into the phase that its number names, and the team handles it in its order.
 
-ghost use Rattle.phase_kind.specs.Team.{AreByPlace, AreFilled, AreInListOrder, AreNamed, AreEmptyLists, AreShares, AreSharedOut, GoesWithin, HaveFinished, IsTeam};
+ghost use Rattle.phase_kind.specs.Team.{AreByPlace, AreFilled, AreInListOrder, AreEmptyLists, AreShares, AreSharedOut, GoesWithin, HasHandled, IsTeam};
 ghost use Rattle.std.specs.Prelude.{◌≡◌, ◌^◌, ◌<◌, [], All, IfOk, Some, length, map, slice_get, slice_index_or, zip};
 
-use crate::running::answer_next;
-use crate::{Kind, PhaseOf, Worker};
+use crate::tray::is_short;
+use crate::{Kind, PhaseOf, Team};
 use body_store::Closed;
 use outside_io::{Memory, Turns};
 use std::alloc::Global;
@@ -96,7 +96,7 @@ fn lists_for<K: Kind>(
     ensures is_of { IfOk result (λ lists. All (λ at. K.is_of at.0 at.1) (zip stores.now lists.items)) }
     ensures filled { IfOk result (λ lists. AreFilled K.items K.room (length stores.now) order.now [] lists.items) }
 {
-    if order.len() >= 1 << 32 {
+    if !is_short(order.len()) {
         return Err(Memory);
     }
     let shares = shares(alloc, stores.len(), order)?;
@@ -137,71 +137,42 @@ fn dealt_out<K: Kind>(stores: &[Closed], order: &[u8], list: &K::List, lists: &m
     }
 }
 
-/// Each team, which has a worker of each phase, handles the order at its place: each entry names the worker that
-/// answers the first item that waits with it. All teams work at once: each in a thread of its own, but for one, which
-/// works in the caller's. Before each item its team's turn is told. No memory is taken.
+/// Each team handles its order, and all of them work at once: each in a thread of its own, but for one, which works in
+/// the caller's. Before each item its team's turn is told. No memory is taken.
 pub fn run_several<R: Threads + Sync, T: Turns, K: Kind>(
     rt: &R,
     phases: &[PhaseOf<K>],
-    teams: &mut [Vec<Worker<K>>],
-    orders: &[Vec<u8>],
+    teams: &mut [Team<'_, K>],
     turns: &T,
 )
-    requires as_many { length teams.old ≡ length orders.now }
-    requires belong { All (λ team. IsTeam phases.now team.items) teams.old }
-    requires named { All (λ at. AreNamed at.1.items at.0.items) (zip teams.old orders.now) }
+    requires belong { All (λ team. IsTeam phases.now team.workers) teams.old }
     ensures as_many { length teams.new ≡ length teams.old }
-    ensures belong { All (λ team. IsTeam phases.now team.items) teams.new }
-    ensures idle { All (λ team. All (λ worker. worker.waiting ≡ []) team.items) teams.new }
-    ensures finished { All (λ at. HaveFinished K.rests at.0.items at.1.items) (zip teams.old teams.new) }
+    ensures belong { All (λ team. IsTeam phases.now team.workers) teams.new }
+    ensures idle { All (λ team. All (λ worker. worker.waiting ≡ []) team.workers) teams.new }
+    ensures handled { All (λ at. HasHandled K.rests at.0 at.1) (zip teams.old teams.new) }
 {
-    let handle_its_order = |place: usize, team: &mut Vec<Worker<K>>|
-        requires ordered { place < length orders.now }
-        requires belongs { IsTeam phases.now team.now.items }
-        requires named { (d : _) → AreNamed (slice_index_or orders.now place d).items team.now.items }
-        ensures belongs { IsTeam phases.entry.now team.exit.now.items }
-        ensures finished { HaveFinished K.rests team.entry.now.items team.exit.now.items }
-    { answer_in_order(phases, team, place, &orders[place], turns) };
+    let handle_its_order = |place: usize, team: &mut Team<'_, K>|
+        requires belongs { IsTeam phases.now team.now.workers }
+        ensures belongs { IsTeam phases.entry.now team.exit.now.workers }
+        ensures handled { HasHandled K.rests team.entry.now team.exit.now }
+    { answer_in_order(phases, team, place, turns) };
     for_each_mut(rt, teams, teams.len().max(1), &handle_its_order);
 }
 
-/// One team handles an order.
+/// One team handles its order.
 fn answer_in_order<T: Turns, K: Kind>(
     phases: &[PhaseOf<K>],
-    team: &mut [Worker<K>],
+    team: &mut Team<'_, K>,
     place: usize,
-    order: &[u8],
     turns: &T,
 )
-    requires team { IsTeam phases.now team.old }
-    requires named { AreNamed order.now team.old }
-    ensures team { IsTeam phases.now team.new }
-    ensures finished { HaveFinished K.rests team.old team.new }
+    requires { IsTeam phases.now team.old.workers }
+    ensures team { IsTeam phases.now team.new.workers }
+    ensures handled { HasHandled K.rests team.old team.new }
 {
-    all_rest(team);
-    for index in 0..order.len() {
-        let to = entry(order, team.len(), index);
-        answer_next(&phases[to], &mut team[to], place, index, turns);
-    }
-}
-
-/// An entry of an order, which names one of so many places.
-fn entry(order: &[u8], places: usize, index: usize) -> usize
-    requires within { GoesWithin (λ place. place) places order.now }
-    requires there { index < length order.now }
-    ensures there { slice_get order.now index ≡ Some result }
-    ensures within { result < places }
-{
-    order[index] as usize
-}
-
-/// Between two items each worker is at rest.
-fn all_rest<K: Kind>(team: &[Worker<K>])
-    ensures { All (λ worker. K.rests worker.seat) team.now }
-{
-    K::trays_tell();
-    for worker in team {
-        worker.room();
+    team.rests();
+    for _ in 0..team.ahead() {
+        team.answer_next(phases, place, turns);
     }
 }
 

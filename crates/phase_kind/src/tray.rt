@@ -1,6 +1,6 @@
 //! What a worker keeps of the items that it answers.
 
-ghost use Rattle.std.specs.Prelude.{◌≡◌, ◌+◌, ◌≤◌, [], IfOk, vec_capacity};
+ghost use Rattle.std.specs.Prelude.{◌≡◌, ◌↔◌, ◌+◌, ◌^◌, ◌<◌, ◌≤◌, [], IfOk, IsTrue, vec_capacity};
 
 use crate::Kind;
 use body_store::Closed;
@@ -18,6 +18,13 @@ const SPARE_REPLIES: usize = 128;
 pub struct Tray<L, R> {
     pub items: L,
     pub replies: Vec<R>,
+}
+
+/// Whether a tray has places for so many items.
+pub fn is_short(items: usize) -> bool
+    ensures { IsTrue result ↔ (items < 2 ^ 32) }
+{
+    items < 1 << 32
 }
 
 /// An empty tray of a kind, and memory for so many items.

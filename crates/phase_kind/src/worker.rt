@@ -4,7 +4,7 @@ ghost use Rattle.phase_kind.specs.AnsweredItem.{AnsweredItem, answered_items};
 ghost use Rattle.phase_kind.specs.Worker.{HasQueued, new_worker, seat_of, worker_with};
 ghost use Rattle.std.specs.Prelude.{◌≡◌, ◌+◌, ◌<◌, ◌≤◌, ◌++◌, [], ◌∷◌, IfOk, Some, length, map, slice_get};
 
-use crate::tray::{new_tray, tray_with};
+use crate::tray::{is_short, new_tray, tray_with};
 use crate::{Kind, PhaseOf, Tray};
 use body_store::Closed;
 use outside_io::Memory;
@@ -81,9 +81,11 @@ impl<K: Kind> Worker<K> {
             (record { base = closed.now; words = (K.standing seat).words }) (K.items list)) }
     {
         K::trays_tell();
-        let Ok(places) = u32::try_from(K::len(&list)) else {
+        let items = K::len(&list);
+        if !is_short(items) {
             return Err(Memory);
-        };
+        }
+        let places = items as u32;
         Ok(Worker {
             base: Snapshot::of(closed),
             seat,

@@ -11,6 +11,7 @@ use Rattle.recovery.specs.Canonical.{IsReadAs, IsReadFrom}
 use Rattle.recovery.specs.Differing.{DiffersFirstAt, IsFirstDifference}
 use Rattle.recovery.specs.Faults.{recover_fault}
 use Rattle.recovery.specs.Refused.{IsRefusedMedium}
+use Rattle.recovery.specs.declared.fault.RecoverFault.TheVariants as faults
 
 -- one page more of a bank
 pub pages_more : (bank fed page : List ℕ) (at k : ℕ) → fed ≡ take at bank → page ≡ slice_range bank at (at + k) → fed ++ page ≡ take (at + k) bank
@@ -28,7 +29,7 @@ refused_page e bank fed page at k why before here refused =
 pub refused_medium : (e : Election) (bytes : List ℕ) (bank : Bank) (why : ImageFault) → IsReadFrom e bytes bank → IsRefusedBank e (bank_of e bank bytes) why → IsRefusedMedium e bytes (recover_fault why)
 refused_medium e bytes bank (OtherElection header) from refused = record { size = from.size; bank = bank; chosen = from.chosen; refused = refused }
 refused_medium e bytes bank (Damaged cell) from refused = record { size = from.size; bank = bank; chosen = from.chosen; refused = refused }
-refused_medium e bytes bank Memory from refused = tt
+refused_medium e bytes bank Memory from refused = (bank, from)
 
 -- a bank of a medium
 pub length-bank_of : (e : Election) (bank : Bank) (bytes : List ℕ) → length bytes ≡ medium_size e → length (bank_of e bank bytes) ≡ bank_size e
@@ -66,6 +67,11 @@ refused_told e bank None now at k reader page why same before from here refused 
 refused_told e bank (Some bytes) now at k reader page why same before from here refused =
     let page_there = subst (λ (o : Option (List ℕ)). IfSome o (λ bytes. page ≡ slice_range (bank_of e bank bytes) at (at + k))) same here in
     refused_medium e bytes bank why (from bytes refl) (refused_page e (bank_of e bank bytes) reader.fed page at k why before.fed page_there refused)
+
+-- want of memory, where a bank is read
+pub memory_told : (e : Election) (bank : Bank) (first : Option (List ℕ)) → ((x : List ℕ) → first ≡ Some x → IsReadFrom e x bank) → IfSome first (λ bytes. IsRefusedMedium e bytes faults.Memory)
+memory_told e bank None from = tt
+memory_told e bank (Some bytes) from = (bank, from bytes refl)
 
 -- the whole bank
 pub all_told : (e : Election) (bank : Bank) (first : Option (List ℕ)) (at : ℕ) (made : List ℕ) → bank_size e ≤ at → length made ≡ bank_size e → IsFedFrom e bank first at (record { election = e; fed = take at made })

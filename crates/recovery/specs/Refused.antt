@@ -3,6 +3,7 @@ use Rattle.std.specs.Prelude.{◌≡◌, ◌≢◌, ◌⊎◌, ℕ, List, length
 use Rattle.image_builder.specs.Reading.{IsRefusedBank}
 use Rattle.image_builder.specs.declared.read.ImageFault.{ImageFault}
 use Rattle.image_builder.specs.declared.read.ImageFault.TheVariants as images
+use Rattle.recovery.specs.Canonical.{IsReadFrom}
 use Rattle.recovery.specs.declared.fault.RecoverFault.{RecoverFault}
 use Rattle.recovery.specs.declared.fault.RecoverFault.TheVariants.{NoStore, OtherElection, Damaged, DiskFault, Memory}
 use Rattle.store_spec.specs.Ballot.{Ballot}
@@ -18,14 +19,14 @@ pub record IsRefusedInBank (e : Election) (bytes : List ℕ) (why : ImageFault) 
   pub chosen : IsChosen e bytes bank
   pub refused : IsRefusedBank e (bank_of e bank bytes) why
 
--- No bank is read, or the one that is read is the image of no set. Faults of the disk and want of memory are told by
--- no bytes.
+-- No bank is read, or the one that is read is the image of no set. Want of memory is told only where a bank is read, and
+-- faults of the disk by no bytes.
 abbrev pub IsRefusedMedium : Election → List ℕ → RecoverFault → Type 0
 IsRefusedMedium e bytes NoStore = (length bytes ≢ medium_size e) ⊎ ((¬ IsOpen e A bytes) × (¬ IsOpen e B bytes))
 IsRefusedMedium e bytes (OtherElection header) = IsRefusedInBank e bytes (images.OtherElection header)
 IsRefusedMedium e bytes (Damaged cell) = IsRefusedInBank e bytes (images.Damaged cell)
 IsRefusedMedium e bytes DiskFault = Unit {0}
-IsRefusedMedium e bytes Memory = Unit {0}
+IsRefusedMedium e bytes Memory = (bank : Bank) × IsReadFrom e bytes bank
 
 -- what a read gives stays, unless the disk failed
 abbrev pub IsUnchangedAt : RecoverFault → Option (List ℕ) → Option (List ℕ) → Type 0

@@ -1,6 +1,6 @@
 //! What a medium is found to hold. Nothing is written here.
 
-ghost use Rattle.std.specs.Prelude.{◌≡◌, ◌↔◌, ◌+◌, ◌<◌, ◌≤◌, ◌++◌, ℕ, List, length, slice_range, IsErrOf, IsTrue, IfErr, IfOk, IfSome, OnOk, []};
+ghost use Rattle.std.specs.Prelude.{◌≡◌, ◌≢◌, ◌↔◌, ◌+◌, ◌<◌, ◌≤◌, ◌++◌, ℕ, List, length, slice_range, IsErrOf, IsTrue, IfErr, IfOk, IfSome, OnOk, []};
 ghost use Rattle.std.specs.Option.{ForSome};
 ghost use Rattle.bank_medium.specs.Banks.{bank_named, bytes_of, HasMediumSize};
 ghost use Rattle.body_store.specs.Contents.{IsStored};
@@ -46,12 +46,13 @@ pub fn look<D: Disk>(
     read_bank(alloc, disk, election, bank)
 }
 
-/// The bank that is read, and whether the gate of the other one is open.
+/// The bank that is read, and whether the gate of the other one is open. It takes no memory.
 pub fn choose<D: Disk>(disk: &mut D, election: &Election) -> Result<(Bank, bool), RecoverFault>
     ensures chosen { IfOk result (λ choice. IfSome (D.seen disk.old)
         (λ bytes. IsChoice election.now bytes (bank_named choice.0) choice.1)) }
     ensures refused { IfErr result
         (λ fault. IfSome (D.seen disk.old) (λ bytes. IsRefusedMedium election.now bytes fault)) }
+    ensures no_memory { IfErr result (λ fault. fault ≢ RecoverFault.Memory) }
     ensures reads { WritesNothing D.seen D.calls D.may_leave disk.old disk.new }
     ensures calls { MakesCalls D.seen D.calls D.faults D.leads_to (CountsFaultIf (IsErrOf result RecoverFault.DiskFault))
         disk.old disk.new }

@@ -154,16 +154,16 @@ module _ {S K : Type 0} (e : Election) (sample : List Ballot) (before after : Ou
   answer_failed one status.WriteFault reads right told =
       let so_far = reads.good.good in
       let text = compare_reply_line (count + 1) one.reply ++ line_end ∷ [] in (
-        record {
+        inl (record {
           answers = so_far.answers ++ one ∷ [];
           read = told_as (told_with reads.told few) (λ x y h. (
             subst (λ lines. ReadFirst x y lines) (reads.good.is ∙ ap (λ front. front ++ one.line ∷ []) so_far.lines_are ∙ sym (map_push (λ (one : AnsweredLine). one.line) so_far.answers one)) h.0,
             h.1,
           ));
           right = right reads.good.front so_far;
-          takes = inl (subst (λ (text : List ℕ). TakesSome before.sink.taken text after.sink.taken) (sym (text_more so_far.answers one count so_far.counted))
-              (takes_part before.sink.taken mid.taken after.sink.taken (replies_text so_far.answers) text so_far.all told.0));
-        },
+          takes = subst (λ (text : List ℕ). TakesSome before.sink.taken text after.sink.taken) (sym (text_more so_far.answers one count so_far.counted))
+              (takes_part before.sink.taken mid.taken after.sink.taken (replies_text so_far.answers) text so_far.all told.0);
+        }),
         rose_too before.sink.faults mid.faults after.sink.faults so_far.steady told.1,
         steady,
       )
@@ -191,17 +191,17 @@ module _ {S K : Type 0} (e : Election) (sample : List Ballot) (before after : Ou
         record { script = steady; sink = told.1 ∙ so_far.steady },
       )
   end_told missing (Err status.WriteFault) reads first counted told =
-      let so_far = first.good in (
-        record {
+      let so_far = reads.good in (
+        inr (record {
           answers = so_far.answers;
-          read = told_as (told_with first.told few) (λ x y h. (subst (λ lines. ReadFirst x y lines) so_far.lines_are h.0, h.1));
+          read = told_as reads.told (λ x y h. subst (λ lines. ReadLines ReadOut x y lines) so_far.lines_are h);
           right = so_far.right;
-          takes = inr (
+          takes = (
             missing,
             are_missing e sample so_far.answers rest missing so_far.leaves counted,
             takes_part before.sink.taken mid.taken after.sink.taken (replies_text so_far.answers) (lines_text (count_line (codes "missing") missing ∷ [])) so_far.all told.0,
           );
-        },
+        }),
         rose_too before.sink.faults mid.faults after.sink.faults so_far.steady told.1,
         steady,
       )

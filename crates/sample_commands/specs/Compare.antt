@@ -75,11 +75,14 @@ pub record TakesWhole {S K : Type 0} (e : Election) (sample : List Ballot) (befo
   pub are_missing : AreMissing e sample answers missing
   pub all : TakesAll before.sink.taken (compare_text answers missing) after.sink.taken
 
--- it took some first part of the replies, or of those and what is missing
-abbrev pub TakesPart : {S K : Type 0} → Election → List Ballot → Outside S K → Outside S K → List AnsweredLine → Type 0
-TakesPart e sample before after answers =
-    TakesSome before.sink.taken (replies_text answers) after.sink.taken
-    ⊎ ((missing : ℕ) × AreMissing e sample answers missing × TakesSome before.sink.taken (compare_text answers missing) after.sink.taken)
+-- it took some first part of the replies
+abbrev pub TakesPart : {S K : Type 0} → Outside S K → Outside S K → List AnsweredLine → Type 0
+TakesPart before after answers = TakesSome before.sink.taken (replies_text answers) after.sink.taken
+
+-- it took some first part of those and of how many are missing
+abbrev pub TakesWholePart : {S K : Type 0} → Election → List Ballot → Outside S K → Outside S K → List AnsweredLine → Type 0
+TakesWholePart e sample before after answers =
+    (missing : ℕ) × AreMissing e sample answers missing × TakesSome before.sink.taken (compare_text answers missing) after.sink.taken
 
 -- The sink took a text, or some first part of it, or there was no memory and it was left alone.
 abbrev pub WritesText : {K : Type 0} → List ℕ → Result (Unit {0}) Status → Output K → Output K → Type 0
@@ -92,7 +95,8 @@ WritesText text (Err other) old new = ⊥
 abbrev pub ReadSome : List ℕ → List ℕ → List (Option (List ℕ)) → Type 0
 ReadSome text left lines = ReadFirst text left lines × GivesAtMost (script_limit + 1) text left
 
--- how a run on this sample ends, and why
+-- How a run on this sample ends, and why. How many ballots are missing is told only of a script that was read to its end,
+-- also where the sink fails there.
 abbrev pub LinesEnd : {S K : Type 0} → Election → List Ballot → Status → Outside S K → Outside S K → Type 0
 LinesEnd e sample status.Ok before after =
     AnswersLines e sample before after (ReadLines ReadOut) (TakesWhole e sample before after) × NoFault before after
@@ -102,8 +106,8 @@ LinesEnd e sample (status.ReadFault which.Script) before after =
     AnswersLines e sample before after (ReadLines Faulted) (TakesReplies before after) × Rose before.script.faults after.script.faults
     × (after.sink.faults ≡ before.sink.faults)
 LinesEnd e sample status.WriteFault before after =
-    AnswersLines e sample before after ReadSome (TakesPart e sample before after) × Rose before.sink.faults after.sink.faults
-    × (after.script.faults ≡ before.script.faults)
+    (AnswersLines e sample before after ReadSome (TakesPart before after) ⊎ AnswersLines e sample before after (ReadLines ReadOut) (TakesWholePart e sample before after))
+    × Rose before.sink.faults after.sink.faults × (after.script.faults ≡ before.script.faults)
 LinesEnd e sample status.Memory before after =
     AnswersLines e sample before after ReadSome (TakesReplies before after) × NoFault before after
 LinesEnd e sample other before after = ⊥

@@ -1,5 +1,5 @@
 -- The laws of `session`: a script and the bytes of a disk decide how it ends, but for faults and want of memory.
-use Rattle.std.proofs.Common.{◌≡◌, ◌≢◌, ◌⊎◌, ℕ, ◌<◌, ◌≤◌, List, length, Option, Some, Result, Ok, Err, inl, inr, ⊎_elim, refl, arith, ap, sym, subst, ◌∙◌}
+use Rattle.std.proofs.Common.{◌≡◌, ◌≢◌, ◌⊎◌, ℕ, ◌<◌, ◌≤◌, List, length, Option, Some, IfSome, Result, Ok, Err, inl, inr, ⊎_elim, refl, arith, ap, sym, subst, ◌∙◌}
 use Rattle.store_spec.proofs.Common.{Ballot, DiskModel, Effect, Election, HoldsSet, HoldsSome, IsElection, State, script_limit}
 use Rattle.any_store.specs.Disks.{StoreModel, one_store}
 use Rattle.outside_io.proofs.Told.{told_at}
@@ -91,7 +91,9 @@ answer_decides model write e (Err fault) a old new before after text bytes told 
     (λ none.
     let same : a ≡ run_status (run_fault none.0) = is ∙ ap run_status none.1 in
     let which = decided_why none.0 (subst IsDecided same decided) in
-    inr (record { why = none.0; is = same; no_fault = which.0; memory = which.1; refused = at_told (model.seen before.disk) bytes (λ x. IsRefusedMedium e x none.0) seen none.2.refused }))
+    let refused : IfSome (model.seen before.disk) (λ x. IsRefusedMedium e x none.0) =
+    ⊎_elim (λ (short : (none.0 ≡ recover.Memory) × (after.disk ≡ before.disk)). absurd (which.1 short.0)) (λ (why : IfSome (model.seen before.disk) (λ x. IsRefusedMedium e x none.0)). why) none.2.refused in
+    inr (record { why = none.0; is = same; no_fault = which.0; memory = which.1; refused = at_told (model.seen before.disk) bytes (λ x. IsRefusedMedium e x none.0) seen refused }))
     (λ began. subst (SessionDecides e text bytes) (sym is) (began_decides model write e (Err fault) old new before after text bytes told seen (subst IsDecided is decided) began))
     ends
 

@@ -84,7 +84,7 @@ module _ {D : Type 0} (model : DiskModel D) (e : Election) where
         sink = refl;
         marks = none_marked;
         held = none_held;
-        refused = always (model.seen before.disk);
+        refused = inl (refl, refl);
         unchanged = refl;
         told = refl;
         unharmed = λ bytes sees. started model.calls model.may_leave before.disk
@@ -119,7 +119,7 @@ module _ {D : Type 0} (model : DiskModel D) (e : Election) where
         sink = refl;
         marks = none_marked;
         held = none_held;
-        refused = reason;
+        refused = inr reason;
         unchanged = same;
         told = told;
         unharmed = unharmed;

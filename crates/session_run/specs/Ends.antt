@@ -27,7 +27,8 @@ use Rattle.store_spec.specs.Session.Phase.{Closed}
 
 -- ---- no session began
 
--- Nothing was read of the script, nothing was written, and nothing is reported: the medium was refused for this reason.
+-- Nothing was read of the script, nothing was written, and nothing is reported: the medium was refused for this reason, or
+-- there was no memory before a call was made on its disk.
 -- Its bytes stay, unless the disk failed, and a crash at any moment leaves what it might have left at the start, or the
 -- set that was read. Where the bytes held a set, no call was made, or the first sync failed and nothing was written, or
 -- from its return on a crash leaves that set.
@@ -37,7 +38,7 @@ pub record NotBegun {S K D : Type 0} (model : DiskModel D) (e : Election) (why :
   pub sink : after.sink ≡ before.sink
   pub marks : after.marks ≡ []
   pub held : after.held ≡ 0
-  pub refused : IfSome (model.seen before.disk) (λ bytes. IsRefusedMedium e bytes why)
+  pub refused : ((why ≡ recover.Memory) × (after.disk ≡ before.disk)) ⊎ IfSome (model.seen before.disk) (λ bytes. IsRefusedMedium e bytes why)
   pub unchanged : IsUnchangedAt why (model.seen before.disk) (model.seen after.disk)
   pub told : is_some (model.seen after.disk) ≡ is_some (model.seen before.disk)
   pub unharmed : (bytes : List ℕ) → model.seen before.disk ≡ Some bytes

@@ -48,6 +48,8 @@ module _ {A B T : Type 0} (m : DiskModel A) (leads : A → A → Type 0) (n : Di
   pub record IsTwin : Type 0 where
     pub counted : (t : T) → AreCounted (view t).failed (m.calls (view t).first) (n.calls (view t).second) (view t).first_begun (view t).second_begun (view t).passed (view t).calls
     pub bounded : (d : B) → n.calls d ≤ last_count
+    pub alike : (t : T) → (view t).failed ≡ None → m.seen (view t).first ≡ n.seen (view t).second
+    pub itself : (t : T) → both_lead t t
 
   pub record Begins (t : T) : Type 0 where
     pub none : (view t).failed ≡ None

@@ -1,6 +1,7 @@
 -- What becomes of two disks that were made one.
-use Rattle.std.proofs.Common.{◌≡◌, ◌≢◌, ◌⊎◌, ℕ, ◌+◌, ◌≤◌, List, [], map, length, Option, Some, None, Result, Err, zero, suc, inl, inr, ⊎_elim, refl, sym, ◌∙◌, ap, subst, arith}
-use Rattle.store_spec.proofs.Common.{AddsNoCrashImage, Ballot, DiskModel, Election, ForSome, HoldsSet, IfSome, IsElection, IsMediumOf, LeavesOnly, Rose, begun, is_some}
+use Rattle.std.proofs.Common.{◌≡◌, ◌≢◌, ◌⊎◌, ℕ, ◌+◌, ◌<◌, ◌≤◌, List, [], map, length, Option, Some, None, Result, Err, zero, suc, inl, inr, ⊎_elim, refl, sym, ◌∙◌, ap, subst, arith}
+use Rattle.store_spec.proofs.Common.{AddsNoCrashImage, Ballot, DiskModel, Election, ForSome, HoldsSet, IfSome, IsElection, IsMediumOf, LeavesOnly, Rose, after_calls, begun, is_some, last_count}
+use Rattle.std.specs.Prelude.{◌↔◌}
 use Rattle.body_store.specs.Contents.{Contents, IsStored}
 use Rattle.crash_disk.proofs.Moments.{next_count-below, one_call, settled-only}
 use Rattle.image_builder.proofs.Held.{medium_holds}
@@ -16,17 +17,18 @@ use Rattle.run_outcome.specs.Status.{ended_as}
 use Rattle.run_outcome.specs.World.{Reported, nothing_reported}
 use Rattle.run_outcome.specs.declared.status.Status.{Status}
 use Rattle.session_commands.specs.Session.{run_status}
+use Rattle.session_run.proofs.Marks.{stands_first, stood_now}
 use Rattle.session_run.specs.Ends.{GoesOn, HandlingEnds, HasBegun}
 use Rattle.session_run.specs.History.{Acknowledged, Stood}
 use Rattle.session_run.specs.declared.fault.RunFault.{RunFault}
 use Rattle.session_run.specs.declared.fault.RunFault.TheVariants as run
 use Rattle.twin_commands.proofs.Beginning.{synced_begins}
-use Rattle.twin_commands.proofs.Both.{Begins, IsTwin, below, both, both_lead}
-use Rattle.twin_commands.specs.Twin.{Continues, FailsBoth, FailsSync, IsBlame, IsReady, SyncsAndGoesOn, WritesPart, TwinBlames, TwinPlays, WentOn, around_disk, paired_text}
+use Rattle.twin_commands.proofs.Both.{Begins, IsTwin, below, both, both_lead, first_counts, second_counts}
+use Rattle.twin_commands.specs.Twin.{Continues, FailsBoth, FailsSync, IsBlame, IsReady, IsSynced, SyncsAndGoesOn, WritesPart, TwinBlames, TwinPlays, WentOn, around_disk, paired_text}
 use Rattle.twin_commands.proofs.Playing.{first_apart, second_apart, twin_plays}
 use Rattle.twin_media.specs.declared.pairing.Paired.{Paired}
 use Rattle.twin_media.proofs.Apart.{first-apart, second-apart}
-use Rattle.twin_media.specs.Leads.{TwinFails}
+use Rattle.twin_media.specs.Leads.{SideLeads, TwinFails}
 use Rattle.twin_media.specs.State.{TwinState}
 
 -- of two disks, the one that is not the first
@@ -34,6 +36,14 @@ the_second : (o : Option ℕ) → o ≢ None → ForSome o (λ disk. disk ≤ 1)
 the_second None some few not = absurd (some refl)
 the_second (Some zero) some few not = absurd (not refl)
 the_second (Some (suc k)) some few not = let is : k ≡ 0 = let le = few (suc k) refl in omega (arith, le) in ap (λ k. Some (suc k)) is
+
+-- no moment up to the first of three states changed
+past_on : {D : Type 0} (model : DiskModel D) (leads_to : D → D → Type 0) (old mid new : D) → SideLeads model leads_to old mid → SideLeads model leads_to mid new
+    → model.calls new < last_count → (k : ℕ) → k ≤ after_calls (model.calls old) → (c : List ℕ) → model.may_leave new k c ↔ model.may_leave old k c
+past_on model leads_to old mid new one two below k le c =
+    let before = one.past (omega (arith, below, two.later)) k le c in
+    let after = two.past below k (omega (arith, le, one.later)) c in
+    (λ left. before.0 (after.0 left), λ left. after.1 (before.1 left))
 
 module _ {A B T : Type 0} (m : DiskModel A) (one_leads : A → A → Type 0) (n : DiskModel B) (two_leads : B → B → Type 0) (view : T → TwinState A B) (twins : IsTwin m one_leads n two_leads view) (start now : T)
     (begins : Begins m one_leads n two_leads view start) (leads : both_lead m one_leads n two_leads view start now) where
@@ -47,8 +57,10 @@ module _ {A B T : Type 0} (m : DiskModel A) (one_leads : A → A → Type 0) (n 
       (λ memory. subst P (sym memory.0) memory.1)
       (λ fault.
       ⊎_elim
-      (λ first. subst P (sym first.0) (⊎_elim (λ rose. rose) (λ end. absurd (fault.0 end)) (leads.first_failed begins.none first.1)))
-      (λ second. subst P (sym second.0) (refl, ⊎_elim (λ rose. rose) (λ end. absurd (fault.1 end)) (leads.second_failed begins.none (the_second (view now).failed failed few second.1))))
+      (λ first. subst P (sym first.0) (⊎_elim (λ rose. rose) (λ end. absurd (fault.0 end)) (leads.first_failed begins.none first.1), leads.first_alone begins.none first.1))
+      (λ second.
+      let is = the_second (view now).failed failed few second.1 in
+      subst P (sym second.0) (refl, ⊎_elim (λ rose. rose) (λ end. absurd (fault.1 end)) (leads.second_failed begins.none is), leads.second_alone begins.none is))
       fault.2)
       blame
 
@@ -94,6 +106,8 @@ module _ {A B T : Type 0} (m : DiskModel A) (one_leads : A → A → Type 0) (n 
           → FailsBoth m n store.election store.ballots a report old new sink sunk (view start).first (view now).first (view start).second (view now).second
       fails_both was nothing is f = record {
         blames = blames_of a f.rose zero_faults few (blame is);
+        told = leads.first.told;
+        other_told = leads.second.told;
         first = first_held store.election store.ballots election first_medium.medium (inr (fails is)) f.images;
         second = second_held store.election store.ballots election first_medium.medium (inr (fails is)) f.images;
         script = f.script;
@@ -108,6 +122,31 @@ module _ {A B T : Type 0} (m : DiskModel A) (one_leads : A → A → Type 0) (n 
         has : (mid : Output K) → HasBegun (one_store (both m one_leads n two_leads view)) store.election store.ballots (begun store.ballots) (around_disk mid start [] (length store.ballots)) (around_disk mid s.mid [] (length store.ballots))
         has mid = synced_begins (both m one_leads n two_leads view) store mid start s.mid election stored medium_both s.same_bytes (ap is_some s.same_bytes) s.settled s.images s.steady
 
+        mid_none : (view s.mid).failed ≡ None
+        mid_none = s.leads.none_failed s.steady ∙ begins.none
+
+        -- the sync of both succeeded
+        stood_mid : Stood (Alone (both m one_leads n two_leads view)) (both_lead m one_leads n two_leads view) s.mid s.mid []
+        stood_mid = stood_now (Alone (both m one_leads n two_leads view)) (both_lead m one_leads n two_leads view) twins.itself s.mid s.mid [] (twins.itself s.mid) (stands_first (Alone (both m one_leads n two_leads view)) s.mid [] refl)
+
+        first_synced : IsSynced m store.election store.ballots (view start).first (view s.mid).first (view now).first
+        first_synced = record {
+          called = let counts = first_counts m one_leads n two_leads view twins start s.mid begins s.leads (inl mid_none) mid_none in omega (arith, counts, next);
+          stands = first_apart m one_leads n two_leads view twins start s.mid s.mid begins s.leads s.steady next s.leads (twins.alike s.mid) [] stood_mid store.election store.ballots [] [] (begun store.ballots) a old new sink sunk report.held report.others mid_none [] (has sink).acknowledged;
+          later = let one = s.stood.before.first.later in let two = s.stood.after.first.later in omega (arith, one, two);
+          faults = let one = s.stood.before.first.faults in let two = s.stood.after.first.faults in omega (arith, one, two);
+          past = past_on m one_leads (view s.mid).first (view s.stood.mid).first (view now).first s.stood.before.first s.stood.after.first;
+        }
+
+        second_synced : IsSynced n store.election store.ballots (view start).second (view s.mid).second (view now).second
+        second_synced = record {
+          called = let counts = second_counts m one_leads n two_leads view twins start s.mid begins s.leads (inl mid_none) mid_none in omega (arith, counts, next);
+          stands = second_apart m one_leads n two_leads view twins start s.mid s.mid begins s.leads s.steady next s.leads (twins.alike s.mid) [] stood_mid store.election store.ballots [] [] (begun store.ballots) a old new sink sunk report.held report.others mid_none [] (has sink).acknowledged;
+          later = let one = s.stood.before.second.later in let two = s.stood.after.second.later in omega (arith, one, two);
+          faults = let one = s.stood.before.second.faults in let two = s.stood.after.second.faults in omega (arith, one, two);
+          past = past_on n two_leads (view s.mid).second (view s.stood.mid).second (view now).second s.stood.before.second s.stood.after.second;
+        }
+
         plays : (mid : Output K) → GoesOn (one_store (both m one_leads n two_leads view)) (λ text. text) store.election (begun store.ballots) answer old new (around_disk mid s.mid [] (length store.ballots)) (with_rows (around_disk sunk now report.marks report.held) report.others)
             → TwinPlays m n store.election store.ballots a report old new mid sunk (view start).first (view now).first (view start).second (view now).second
         plays mid goes =
@@ -120,14 +159,14 @@ module _ {A B T : Type 0} (m : DiskModel A) (one_leads : A → A → Type 0) (n 
         cut : new ≡ old → now ≡ s.mid → report.marks ≡ [] → report.held ≡ length store.ballots → answer ≡ Err run.WriteFault → TakesSome sink.taken (paired_text paired) sunk.taken → Rose sink.faults sunk.faults
             → WritesPart m n store.election store.ballots paired a report old new sink sunk (view start).first (view now).first (view start).second (view now).second
         cut script there none count is part rose =
-            let mid_none : (view s.mid).failed ≡ None = s.leads.none_failed s.steady ∙ begins.none in
             let now_none : (view now).failed ≡ None = subst (λ t. (view t).failed ≡ None) (sym there) mid_none in
             let stood = subst (Stood (Alone (both m one_leads n two_leads view)) (both_lead m one_leads n two_leads view) s.mid now) none s.stood in
             let was = subst (λ t. Acknowledged (both m one_leads n two_leads view) store.election store.ballots [] start t []) (sym there) (has sink).acknowledged in
             record {
               script = script;
               part = part;
-              why = inl (told (λ other. let clash = sym is ∙ other in cc) ∙ ap (ended_as run_status) is, rose);
+              failed = told (λ other. let clash = sym is ∙ other in cc) ∙ ap (ended_as run_status) is;
+              rose = rose;
               marks = none;
               others = s.others ∙ ap (map (calls_beside (Some (m.calls (view start).first, n.calls (view start).second)))) none;
               held = count;
@@ -140,6 +179,10 @@ module _ {A B T : Type 0} (m : DiskModel A) (one_leads : A → A → Type 0) (n 
           begun = s.begun_is;
           first = first_ready;
           second = second_ready;
+          synced = (view s.mid).first;
+          other_synced = (view s.mid).second;
+          first_synced = first_synced;
+          second_synced = second_synced;
           goes_on = ⊎_elim
               (λ part. inl (cut part.0 part.1 part.2 part.3 part.4 part.5 part.6))
               (λ whole. inr (record { mid = whole.0; taken = whole.1; no_fault = whole.2; plays = plays whole.0 whole.3 }))

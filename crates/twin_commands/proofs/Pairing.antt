@@ -15,8 +15,8 @@ module _ {D : Type 0} (model : DiskModel D) where
   -- counts of faults that did not rise in the pairing
   blames_since : (a : Status) (one ready one_after two other_ready two_after : D) → model.faults ready ≡ model.faults one → model.faults other_ready ≡ model.faults two
       → TwinBlames model model ready one_after other_ready two_after a → TwinBlames model model one one_after two two_after a
-  blames_since status.DiskFault one ready one_after two other_ready two_after same other rose = subst (λ k. Rose k (model.faults one_after)) same rose
-  blames_since (status.OtherDiskFault index) one ready one_after two other_ready two_after same other rose = (rose.0, subst (λ k. Rose k (model.faults two_after)) other rose.1)
+  blames_since status.DiskFault one ready one_after two other_ready two_after same other rose = (subst (λ k. Rose k (model.faults one_after)) same rose.0, rose.1 ∙ other)
+  blames_since (status.OtherDiskFault index) one ready one_after two other_ready two_after same other rose = (rose.0, subst (λ k. Rose k (model.faults two_after)) other rose.1, rose.2 ∙ same)
   blames_since status.Memory one ready one_after two other_ready two_after same other end = end
   blames_since rest one ready one_after two other_ready two_after same other none = absurd none
 
@@ -42,7 +42,9 @@ module _ {D : Type 0} (model : DiskModel D) where
   twin_ends e set paired a report old new sink sunk one ready one_after two other_ready two_after legal within found told other_told steady other_steady called other_called kept either =
       ⊎_elim
       (λ failed. inl (record {
-        refuses = inr (blames_since a one ready one_after two other_ready two_after steady other_steady failed.blames);
+        refuses = inr (inr (blames_since a one ready one_after two other_ready two_after steady other_steady failed.blames));
+        told = failed.told ∙ told;
+        other_told = failed.other_told ∙ other_told;
         leaves = λ x y sees sees_two.
             let both = kept x y sees sees_two in
             let is : IsPairSet e x y set = (paired, found x y sees sees_two) in
@@ -70,6 +72,10 @@ module _ {D : Type 0} (model : DiskModel D) where
           leaves = λ x y sees sees_two. inr (inr (inr (kept x y sees sees_two)));
         };
         begun = went.begun;
+        synced = went.synced;
+        other_synced = went.other_synced;
+        first_synced = went.first_synced;
+        second_synced = went.second_synced;
         goes_on = went.goes_on;
       }))
       either

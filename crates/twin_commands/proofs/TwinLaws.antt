@@ -15,7 +15,7 @@ use Rattle.session_commands.specs.Session.{run_status}
 use Rattle.session_run.specs.declared.fault.RunFault.{RunFault}
 use Rattle.session_run.specs.declared.fault.RunFault.TheVariants as run
 use Rattle.twin_commands.proofs.Refused.{HoldsPair, PairRefused, one_pair_refused, pair_not_refused}
-use Rattle.twin_commands.specs.Twin.{TwinBlames, around_disk, TwinHasBegun, TwinNotBegun, NotPaired, WritesPart, TwinEnds, TwinHandles, pair_status, twin_row}
+use Rattle.twin_commands.specs.Twin.{IsWithoutMemory, TwinBlames, around_disk, TwinHasBegun, TwinNotBegun, NotPaired, WritesPart, TwinEnds, TwinHandles, pair_status, twin_row}
 use Rattle.twin_media.specs.Pairing.{IsLostOrHolds, IsRefusedDisk}
 use Rattle.twin_media.specs.declared.fault.DiskWhy.TheVariants.{TooLarge, OtherElection, Damaged}
 use Rattle.twin_media.specs.declared.fault.PairFault.{PairFault}
@@ -55,7 +55,7 @@ blames_undecided m n one one_after two two_after other decided blames = blames
 
 blames_settled : {A B : Type 0} (m : DiskModel A) (n : DiskModel B) (one one_after : A) (two two_after : B) (a : Status) → IsSteady (m.faults one) (m.faults one_after) → IsSteady (n.faults two) (n.faults two_after)
     → TwinBlames m n one one_after two two_after a → a ≡ status.Memory
-blames_settled m n one one_after two two_after status.DiskFault still other blames = absurd (not_risen (m.faults one) (m.faults one_after) still blames)
+blames_settled m n one one_after two two_after status.DiskFault still other blames = absurd (not_risen (m.faults one) (m.faults one_after) still blames.0)
 blames_settled m n one one_after two two_after (status.OtherDiskFault index) still other blames = absurd (not_risen (n.faults two) (n.faults two_after) other blames.1)
 blames_settled m n one one_after two two_after status.Memory still other blames = refl
 blames_settled m n one one_after two two_after any still other blames = absurd blames
@@ -77,7 +77,10 @@ module _ {D : Type 0} (model : DiskModel D) (e : Election) (one one_after two tw
   not_begun a report old new sink sunk decided not = ⊎_elim
       (λ (no : (fault : PairFault) × (a ≡ pair_status fault) × NotPaired model e fault one one_after two two_after).
       subst (PairRefused e first second) (sym no.1) (refused_decides no.0 (subst IsDecided no.1 decided) no.2))
-      (λ blames. absurd (blames_undecided model model one one_after two two_after a decided blames))
+      (λ rest. ⊎_elim
+      (λ (memory : IsWithoutMemory one one_after two two_after a). absurd (subst IsDecided memory.0 decided))
+      (λ (blames : TwinBlames model model one one_after two two_after a). absurd (blames_undecided model model one one_after two two_after a decided blames))
+      rest)
       not.refuses
 
 -- ---- a session on both
@@ -94,7 +97,7 @@ module _ {S K A B : Type 0} (m : DiskModel A) (n : DiskModel B) (e : Election) (
 
   part_undecided : {D : Type 0} (model : DiskModel D) (paired : _) (a : Status) (sink sunk : Output K) (ready one_after other_ready two_after : D) → IsDecided a → WritesPart model model e set paired a report old new sink sunk ready one_after other_ready two_after → ⊥
   part_undecided model paired a sink sunk ready one_after other_ready two_after decided tells =
-      ⊎_elim (λ write. subst IsDecided write.0 decided) (λ memory. subst IsDecided memory.0 decided) tells.why
+      subst IsDecided tells.failed decided
 
 module _ {S K D : Type 0} (model : DiskModel D) (e : Election) (a : Status) (report : Reported) (old new : Input S) (sink sunk : Output K) (one one_after two two_after : D) where
   -- the script and the bytes of both disks tell how a session on both ended
@@ -125,13 +128,13 @@ module _ {S K D : Type 0} (model : DiskModel D) (e : Election) (a : Status) (rep
     pair_settled (faults.Second (Damaged cell)) not = inl tt
     pair_settled faults.BothLost not = inl tt
     pair_settled faults.FirstFault not = absurd (not_risen (model.faults one) (model.faults one_after) first not.refuses)
-    pair_settled faults.SecondFault not = absurd (not_risen (model.faults two) (model.faults two_after) second not.refuses)
+    pair_settled faults.SecondFault not = absurd (not_risen (model.faults two) (model.faults two_after) second not.refuses.1)
     pair_settled faults.Memory not = inr refl
 
     not_settled : TwinNotBegun model e a report old new sink sunk one one_after two two_after → IsDecided a ⊎ (a ≡ status.Memory)
     not_settled not = ⊎_elim
         (λ (no : (fault : PairFault) × (a ≡ pair_status fault) × NotPaired model e fault one one_after two two_after). settled_as a (pair_status no.0) no.1 (pair_settled no.0 no.2))
-        (λ blames. inr (blames_settled model model one one_after two two_after a first second blames))
+        (λ rest. inr (⊎_elim (λ (memory : IsWithoutMemory one one_after two two_after a). memory.0) (λ blames. blames_settled model model one one_after two two_after a first second blames) rest))
         not.refuses
 
     module _ (begun : TwinHasBegun model e a report old new sink sunk one one_after two two_after) where
@@ -154,7 +157,7 @@ module _ {S K D : Type 0} (model : DiskModel D) (e : Election) (a : Status) (rep
 
       begun_settled : IsDecided a ⊎ (a ≡ status.Memory)
       begun_settled = ⊎_elim
-          (λ part. ⊎_elim (λ write. absurd (not_risen sink.faults sunk.faults sunk_steady write.1)) (λ memory. inr memory.0) part.why)
+          (λ part. absurd (not_risen sink.faults sunk.faults sunk_steady part.rose))
           (λ whole. handles_settled whole.mid whole.no_fault whole.plays.lines whole.plays.effects whole.plays.state whole.plays.answer report.marks whole.plays.marks (length begun.set) report.held whole.plays.handles)
           begun.goes_on
 
@@ -184,9 +187,10 @@ module _ {S K D : Type 0} (model : DiskModel D) (e : Election) (report : Reporte
 
   twin_no_usage : TwinEnds model e status.Usage report old new sink sunk one one_after two two_after → ⊥
   twin_no_usage ends = ⊎_elim
-      (λ not. ⊎_elim (λ (no : (fault : PairFault) × (status.Usage ≡ pair_status fault) × NotPaired model e fault one one_after two two_after). is_status no.0 no.1) (λ blames. blames) not.refuses)
+      (λ not. ⊎_elim (λ (no : (fault : PairFault) × (status.Usage ≡ pair_status fault) × NotPaired model e fault one one_after two two_after). is_status no.0 no.1)
+      (λ rest. ⊎_elim (λ (memory : IsWithoutMemory one one_after two two_after status.Usage). let is = memory.0 in cc) (λ blames. blames) rest) not.refuses)
       (λ begun. ⊎_elim
-      (λ part. ⊎_elim (λ write. let is = write.0 in cc) (λ memory. let is = memory.0 in cc) part.why)
+      (λ part. let is = part.failed in cc)
       (λ whole. handles_no_usage model begun.set whole.plays.lines whole.plays.effects whole.plays.state whole.plays.answer _ _ _ _ whole.plays.handles)
       begun.goes_on)
       ends

@@ -62,11 +62,12 @@ pair_status faults.FirstFault = status.DiskFault
 pair_status faults.SecondFault = status.OtherDiskFault 1
 pair_status faults.Memory = status.Memory
 
--- Why a call on both disks failed, as a status: one of them failed, the first or the second. Where the
--- count of calls of one is at its end, that is told as want of memory.
+-- Why a call on both disks failed, as a status: one of them failed, the first or the second, and the other's count of
+-- faults is as before. Where the count of calls of one is at its end, that is told as want of memory.
 abbrev pub TwinBlames : {A B : Type 0} → DiskModel A → DiskModel B → A → A → B → B → Status → Type 0
-TwinBlames m n one one_after two two_after status.DiskFault = Rose (m.faults one) (m.faults one_after)
-TwinBlames m n one one_after two two_after (status.OtherDiskFault index) = (index ≡ 1) × Rose (n.faults two) (n.faults two_after)
+TwinBlames m n one one_after two two_after status.DiskFault = Rose (m.faults one) (m.faults one_after) × (n.faults two_after ≡ n.faults two)
+TwinBlames m n one one_after two two_after (status.OtherDiskFault index) =
+    (index ≡ 1) × Rose (n.faults two) (n.faults two_after) × (m.faults one_after ≡ m.faults one)
 TwinBlames m n one one_after two two_after status.Memory = (last_count ≤ m.calls one_after + 2) ⊎ (last_count ≤ n.calls two_after + 2)
 TwinBlames m n one one_after two two_after other = ⊥
 
@@ -82,26 +83,32 @@ IsBlame one two failed a =
 -- the two disks are no pair for this reason, and as far as that allows neither was written
 pub record NotPaired {D : Type 0} (model : DiskModel D) (e : Election) (fault : PairFault) (one one_after two two_after : D) : Type 0 where
   pub refuses : PairRefuses model model e one one_after two two_after fault
-  pub unwritten : IsUnwrittenPair model model one one_after two two_after fault
+  pub unwritten : IsUnwrittenPair model model e one one_after two two_after fault
   pub first_steady : fault ≢ faults.FirstFault → model.faults one_after ≡ model.faults one
   pub second_steady : fault ≢ faults.SecondFault → model.faults two_after ≡ model.faults two
+
+-- there was no memory before a call was made on either disk
+abbrev pub IsWithoutMemory : {D : Type 0} → D → D → D → D → Status → Type 0
+IsWithoutMemory one one_after two two_after a = (a ≡ status.Memory) × (one_after ≡ one) × (two_after ≡ two)
 
 -- Why they are none, as a status. They may have been made one already when a disk failed, so that it is not known to last.
 abbrev pub TwinRefuses : {D : Type 0} → DiskModel D → Election → D → D → D → D → Status → Type 0
 TwinRefuses model e one one_after two two_after a =
     ((fault : PairFault) × (a ≡ pair_status fault) × NotPaired model e fault one one_after two two_after)
-    ⊎ TwinBlames model model one one_after two two_after a
+    ⊎ (IsWithoutMemory one one_after two two_after a ⊎ TwinBlames model model one one_after two two_after a)
 
 -- what a crash leaves of both disks, where they tell their bytes; or no call was made
 abbrev pub LeavesPair : {D : Type 0} → DiskModel D → Election → D → D → D → D → Type 0
 LeavesPair model e one one_after two two_after = (a b : List ℕ) → model.seen one ≡ Some a → model.seen two ≡ Some b
     → ((one_after ≡ one) × (two_after ≡ two)) ⊎ PairLeaves model model e a b one one_after two two_after
 
--- nothing was read of the script or written to the sink, and nothing is reported
+-- nothing was read of the script or written to the sink, and nothing is reported; each disk tells its bytes as before
 pub record TwinNotBegun {S K D : Type 0} (model : DiskModel D) (e : Election) (a : Status) (report : Reported)
     (old new : Input S) (sink sunk : Output K) (one one_after two two_after : D) : Type 0 where
   pub refuses : TwinRefuses model e one one_after two two_after a
   pub leaves : LeavesPair model e one one_after two two_after
+  pub told : is_some (model.seen one_after) ≡ is_some (model.seen one)
+  pub other_told : is_some (model.seen two_after) ≡ is_some (model.seen two)
   pub script : new ≡ old
   pub nothing_written : sunk ≡ sink
   pub reported : report ≡ nothing_reported
@@ -116,6 +123,16 @@ pub record IsReady {D : Type 0} (model : DiskModel D) (e : Election) (set : List
   pub no_fault : model.faults ready ≡ model.faults before
   pub past : model.calls after < last_count → (m : ℕ) → m ≤ after_calls (model.calls ready) → (c : List ℕ)
       → model.may_leave after m c ↔ model.may_leave ready m c
+
+-- One more call was made on a disk that was ready, and it did not fail: the disk is the medium of that set still, settled,
+-- its count of faults is as it was, and no moment up to then changed since.
+pub record IsSynced {D : Type 0} (model : DiskModel D) (e : Election) (set : List Ballot) (ready synced after : D) : Type 0 where
+  pub called : model.calls synced ≡ model.calls ready + 1
+  pub stands : Acknowledged model e set [] ready synced []
+  pub later : model.calls synced ≤ model.calls after
+  pub faults : model.faults synced ≤ model.faults after
+  pub past : model.calls after < last_count → (m : ℕ) → m ≤ after_calls (model.calls synced) → (c : List ℕ)
+      → model.may_leave after m c ↔ model.may_leave synced m c
 
 -- how two disks were found, and that both are the medium of one set
 pub record ArePaired {D : Type 0} (model : DiskModel D) (e : Election) (paired : Paired) (set : List Ballot)
@@ -163,12 +180,13 @@ pub record TwinPlays {S K A B : Type 0} (m : DiskModel A) (n : DiskModel B) (e :
       (around_disk mid ready [] (length set)) (around_disk sunk one_after report.marks report.held)
       (around_disk mid other_ready [] (length set)) (around_disk sunk two_after marks report.held)
 
--- the sink took a part of that line alone, and no line was handled
+-- the sink failed and took a part of that line alone, and no line was handled
 pub record WritesPart {S K A B : Type 0} (m : DiskModel A) (n : DiskModel B) (e : Election) (set : List Ballot) (paired : Paired) (a : Status)
     (report : Reported) (old new : Input S) (sink sunk : Output K) (ready one_after : A) (other_ready two_after : B) : Type 0 where
   pub script : new ≡ old
   pub part : TakesSome sink.taken (paired_text paired) sunk.taken
-  pub why : ((a ≡ status.WriteFault) × Rose sink.faults sunk.faults) ⊎ ((a ≡ status.Memory) × (sunk.faults ≡ sink.faults))
+  pub failed : a ≡ status.WriteFault
+  pub rose : Rose sink.faults sunk.faults
   pub marks : report.marks ≡ []
   pub others : report.others ≡ []
   pub held : report.held ≡ length set
@@ -184,7 +202,8 @@ pub record WritesPaired {S K A B : Type 0} (m : DiskModel A) (n : DiskModel B) (
   pub no_fault : mid.faults ≡ sink.faults
   pub plays : TwinPlays m n e set a report old new mid sunk ready one_after other_ready two_after
 
--- Two disks became a pair, whose counts of calls then are reported, and a session began on both.
+-- Two disks became a pair, whose counts of calls then are reported. Both were synced, and only then something was told, and
+-- a session began on both.
 pub record TwinHasBegun {S K D : Type 0} (model : DiskModel D) (e : Election) (a : Status) (report : Reported)
     (old new : Input S) (sink sunk : Output K) (one one_after two two_after : D) : Type 0 where
   pub paired : Paired
@@ -193,6 +212,10 @@ pub record TwinHasBegun {S K D : Type 0} (model : DiskModel D) (e : Election) (a
   pub other_ready : D
   pub are : ArePaired model e paired set one ready one_after two other_ready two_after
   pub begun : report.begun ≡ Some (model.calls ready, model.calls other_ready)
+  pub synced : D
+  pub other_synced : D
+  pub first_synced : IsSynced model e set ready synced one_after
+  pub second_synced : IsSynced model e set other_ready other_synced two_after
   pub goes_on : WritesPart model model e set paired a report old new sink sunk ready one_after other_ready two_after
       ⊎ WritesPaired model model e set paired a report old new sink sunk ready one_after other_ready two_after
 
@@ -211,18 +234,24 @@ GoesOnBehind {S} {K} model e set paired answer old new sink after disk =
 pub record FailsBoth {S K A B : Type 0} (m : DiskModel A) (n : DiskModel B) (e : Election) (set : List Ballot) (a : Status)
     (report : Reported) (old new : Input S) (sink sunk : Output K) (ready one_after : A) (other_ready two_after : B) : Type 0 where
   pub blames : TwinBlames m n ready one_after other_ready two_after a
+  pub told : is_some (m.seen one_after) ≡ is_some (m.seen ready)
+  pub other_told : is_some (n.seen two_after) ≡ is_some (n.seen other_ready)
   pub first : (bytes : List ℕ) → m.seen ready ≡ Some bytes → LeavesOnly m.calls m.may_leave ready one_after (λ image. HoldsSet e image set)
   pub second : (bytes : List ℕ) → n.seen other_ready ≡ Some bytes → LeavesOnly n.calls n.may_leave other_ready two_after (λ image. HoldsSet e image set)
   pub script : new ≡ old
   pub nothing_written : sunk ≡ sink
   pub reported : report ≡ nothing_reported
 
--- or a session went on
+-- or both were synced, and a session went on
 pub record WentOn {S K A B : Type 0} (m : DiskModel A) (n : DiskModel B) (e : Election) (set : List Ballot) (paired : Paired) (a : Status)
     (report : Reported) (old new : Input S) (sink sunk : Output K) (ready one_after : A) (other_ready two_after : B) : Type 0 where
   pub begun : report.begun ≡ Some (m.calls ready, n.calls other_ready)
   pub first : IsReady m e set ready ready one_after
   pub second : IsReady n e set other_ready other_ready two_after
+  pub synced : A
+  pub other_synced : B
+  pub first_synced : IsSynced m e set ready synced one_after
+  pub second_synced : IsSynced n e set other_ready other_synced two_after
   pub goes_on : WritesPart m n e set paired a report old new sink sunk ready one_after other_ready two_after
       ⊎ WritesPaired m n e set paired a report old new sink sunk ready one_after other_ready two_after
 

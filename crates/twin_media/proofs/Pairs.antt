@@ -1,11 +1,14 @@
 -- Two disks that were found to hold this or that become a pair.
-use Rattle.std.proofs.Common.{◌≡◌, ℕ, ◌<◌, ⊎_elim, List, Option, Some, None, sym, subst}
-use Rattle.store_spec.proofs.Common.{Ballot, DiskModel, Election, HoldsSet, IfSome, LeavesOnly, LeavesOnlyOnceSynced, last_count}
+use Rattle.std.proofs.Common.{◌≡◌, ℕ, ◌<◌, inr, ⊎_elim, List, Option, Some, None, sym, subst}
+use Rattle.store_spec.proofs.Common.{Ballot, DiskModel, Election, HoldsSet, IfSome, IsMediumOf, LeavesOnly, LeavesOnlyOnceSynced, last_count}
 use Rattle.std.specs.Prelude.{◌≢◌}
 use Rattle.outside_io.proofs.Told.{told_holds}
 use Rattle.twin_media.proofs.Kept.{held_holds, kept_once}
 use Rattle.twin_media.specs.Finding.{HasFound}
-use Rattle.twin_media.specs.Pairing.{AreCompared, BothKept, IsKeptOr, IsPaired, IsPairSet}
+use Rattle.outside_io.specs.Told.{IfTold}
+use Rattle.twin_media.specs.Pairing.{AreCompared, BothKept, IsKeptOr, IsPaired, IsPairSet, IsUnwritten, IsUnwrittenPair, MakeRefuses}
+use Rattle.twin_media.specs.declared.fault.PairFault.{PairFault}
+use Rattle.twin_media.specs.declared.fault.PairFault.TheVariants.{First, Second, BothLost, FirstFault, SecondFault, Memory}
 use Rattle.twin_media.specs.declared.finding.Held.{Held}
 use Rattle.twin_media.specs.declared.pairing.Paired.{Paired}
 use Rattle.twin_media.specs.declared.pairing.Paired.TheVariants.{Equal, Differed, FirstRestored, SecondRestored}
@@ -56,3 +59,17 @@ module _ {A B : Type 0} (first : DiskModel A) (second : DiskModel B) (e : Electi
         kept_once first.calls first.may_leave e one found (λ other. other ≡ set) (IsPairSet e one two) old mid new here is called synced made,
         kept_once second.calls second.may_leave e two other_found (λ other. other ≡ set) (IsPairSet e one two) before looked after there is called_two synced_two made_two,
       )
+
+-- ---- both were looked at, and then one failed as it was made the medium of the set
+
+module _ {A B : Type 0} (first : DiskModel A) (second : DiskModel B) (e : Election) (one looked_one one_after : A) (two looked two_after : B) (set : List Ballot) where
+  pub make_unwritten : (fault : PairFault) → first.seen looked_one ≡ first.seen one → IsUnwritten second two looked
+      → ((x y : List ℕ) → first.seen one ≡ Some x → second.seen two ≡ Some y → IsPairSet e x y set)
+      → MakeRefuses first second e set looked_one one_after looked two_after fault → IsUnwrittenPair first second e one one_after two two_after fault
+  make_unwritten (First why) same unwritten pair refused = absurd refused
+  make_unwritten (Second why) same unwritten pair refused = absurd refused
+  make_unwritten BothLost same unwritten pair refused = absurd refused
+  make_unwritten FirstFault same unwritten pair refused = subst (IsUnwritten second two) (sym refused.1) unwritten
+  make_unwritten SecondFault same unwritten pair refused =
+      inr (set, pair, record { medium = subst (λ o. IfTold o (first.seen one_after) (λ _ bytes. IsMediumOf e bytes set)) same refused.1.medium; settled = refused.1.settled })
+  make_unwritten Memory same unwritten pair refused = absurd refused

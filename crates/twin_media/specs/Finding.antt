@@ -4,6 +4,8 @@ use Rattle.std.specs.Borrow.{Bor}
 use Rattle.bank_medium.specs.Banks.{bank_named}
 use Rattle.body_store.specs.Contents.{IsStored}
 use Rattle.recovery.specs.Canonical.{IsChoice, IsReadAs}
+use Rattle.recovery.specs.Refused.{IsRefusedMedium}
+use Rattle.recovery.specs.declared.fault.RecoverFault.TheVariants as recover
 use Rattle.store_spec.specs.Election.{Election}
 use Rattle.store_spec.specs.Medium.{IsUnused}
 use Rattle.twin_media.specs.Pairing.{IsRefusedDisk}
@@ -28,11 +30,11 @@ HasFound e (Some held) bytes = IsHeld e held bytes
 abbrev pub IsFound : Election → Option (Bor Held) → List ℕ → Type 0
 IsFound e found bytes = HasFound e (option_map (λ held. held.now) found) bytes
 
--- why nothing was found
+-- why nothing was found: want of memory is told only where a bank is read
 abbrev pub FindRefuses : Election → FindFault → List ℕ → Type 0
 FindRefuses e (Refused why) bytes = IsRefusedDisk e why bytes
 FindRefuses e DiskFault bytes = Unit {0}
-FindRefuses e Memory bytes = Unit {0}
+FindRefuses e Memory bytes = IsRefusedMedium e bytes recover.Memory
 
 -- nothing was written, unless the disk failed
 abbrev pub IsUnchangedByFind : FindFault → Option (List ℕ) → Option (List ℕ) → Type 0

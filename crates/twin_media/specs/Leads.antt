@@ -18,7 +18,7 @@ abbrev pub IsBlamed : {D : Type 0} → DiskModel D → D → D → Type 0
 IsBlamed disk old new = Rose (disk.faults old) (disk.faults new) ⊎ (last_count ≤ disk.calls new + 2)
 
 -- From one state to a later one: each disk by itself, and which of them failed. A disk failed since where the twin
--- counted a fault. After a call that failed both disks stay as they are.
+-- counted a fault; the other one's count of faults is as before. After a call that failed both disks stay as they are.
 pub record TwinLeads {A B : Type 0} (one : DiskModel A) (one_leads : A → A → Type 0) (two : DiskModel B) (two_leads : B → B → Type 0) (old new : TwinState A B) : Type 0 where
   pub same_first : new.first_name ≡ old.first_name
   pub same_second : new.second_name ≡ old.second_name
@@ -35,6 +35,8 @@ pub record TwinLeads {A B : Type 0} (one : DiskModel A) (one_leads : A → A →
   pub counts : old.passed + 1 < last_count → new.passed + 1 < last_count
   pub first_failed : old.failed ≡ None → new.failed ≡ Some 0 → IsBlamed one old.first new.first
   pub second_failed : old.failed ≡ None → new.failed ≡ Some 1 → IsBlamed two old.second new.second
+  pub first_alone : old.failed ≡ None → new.failed ≡ Some 0 → two.faults new.second ≡ two.faults old.second
+  pub second_alone : old.failed ≡ None → new.failed ≡ Some 1 → one.faults new.first ≡ one.faults old.first
 
 -- The same where the last call failed, and none before it: the twin counted that one alone beyond those that passed.
 abbrev pub TwinFails : {A B : Type 0} → TwinState A B → TwinState A B → Type 0

@@ -1,12 +1,13 @@
 -- Two disks become a pair. `one` and `two` are the bytes of the first disk and of the second at the start.
 use Rattle.std.specs.Prelude.{◌≡◌, ◌≢◌, ◌⊎◌, ◌<◌, ℕ, List, length, Some, IfSome}
+use Rattle.outside_io.specs.Told.{AsTold}
 use Rattle.recovery.specs.Refused.{HoldsSetOf, IsRefusedMedium}
 use Rattle.recovery.specs.declared.fault.RecoverFault.TheVariants as recover
 use Rattle.store_spec.specs.Ballot.{Ballot}
-use Rattle.store_spec.specs.Disk.{DiskModel, KeepsCrashImages, LeavesOnly, LeavesOnlyOnceSynced, SyncsFirst, leaves_now}
+use Rattle.store_spec.specs.Disk.{DiskModel, IsSettled, KeepsCrashImages, LeavesOnly, LeavesOnlyOnceSynced, SyncsFirst, leaves_now}
 use Rattle.store_spec.specs.Election.{Election, medium_size}
 use Rattle.store_spec.specs.Fault.{Rose}
-use Rattle.store_spec.specs.Medium.{HoldsSet, IsUnused}
+use Rattle.store_spec.specs.Medium.{HoldsSet, IsMediumOf, IsUnused}
 use Rattle.twin_media.specs.declared.fault.DiskWhy.{DiskWhy}
 use Rattle.twin_media.specs.declared.fault.DiskWhy.TheVariants.{TooLarge, OtherElection, Damaged}
 use Rattle.twin_media.specs.declared.fault.FindFault.{FindFault}
@@ -45,7 +46,8 @@ IsRefusedDisk e (Damaged cell) bytes = IsRefusedMedium e bytes (recover.Damaged 
 abbrev pub IsLostOrHolds : Election → List ℕ → Type 0
 IsLostOrHolds e bytes = IsUnused e bytes ⊎ ((set : List Ballot) × HoldsSet e bytes set)
 
--- Why there is no pair. Of several refusals the first comes.
+-- Why there is no pair. Of several refusals the first comes. Want of memory is told only where a bank of a disk is read: of
+-- the first one, and then no call was made on the second; or of the second, once the first was looked at.
 abbrev pub PairRefuses : {A B : Type 0} → DiskModel A → DiskModel B → Election → A → A → B → B → PairFault → Type 0
 PairRefuses first second e one one_after two two_after (pairs.First why) =
     IfSome (first.seen one) (IsRefusedDisk e why) × (two_after ≡ two)
@@ -54,8 +56,11 @@ PairRefuses first second e one one_after two two_after (pairs.Second why) =
 PairRefuses first second e one one_after two two_after pairs.BothLost =
     IfSome (first.seen one) (IsUnused e) × IfSome (second.seen two) (IsUnused e)
 PairRefuses first second e one one_after two two_after pairs.FirstFault = Rose (first.faults one) (first.faults one_after)
-PairRefuses first second e one one_after two two_after pairs.SecondFault = Rose (second.faults two) (second.faults two_after)
-PairRefuses first second e one one_after two two_after pairs.Memory = Unit {0}
+PairRefuses first second e one one_after two two_after pairs.SecondFault =
+    IfSome (first.seen one) (IsLostOrHolds e) × Rose (second.faults two) (second.faults two_after)
+PairRefuses first second e one one_after two two_after pairs.Memory =
+    (IfSome (first.seen one) (λ bytes. IsRefusedMedium e bytes recover.Memory) × (two_after ≡ two))
+    ⊎ (IfSome (first.seen one) (IsLostOrHolds e) × IfSome (second.seen two) (λ bytes. IsRefusedMedium e bytes recover.Memory))
 
 -- the fault of a disk that was not found to be lost or to hold a store
 abbrev pub first_fault : FindFault → PairFault
@@ -68,11 +73,17 @@ second_fault (finds.Refused why) = pairs.Second why
 second_fault finds.DiskFault = pairs.SecondFault
 second_fault finds.Memory = pairs.Memory
 
--- of two disks that are written one failed
-abbrev pub MakeRefuses : {A B : Type 0} → DiskModel A → DiskModel B → A → A → B → B → PairFault → Type 0
-MakeRefuses first second one one_after two two_after pairs.FirstFault = Rose (first.faults one) (first.faults one_after)
-MakeRefuses first second one one_after two two_after pairs.SecondFault = Rose (second.faults two) (second.faults two_after)
-MakeRefuses first second one one_after two two_after fault = ⊥
+-- a disk became the medium of this set, settled
+pub record IsMade {D : Type 0} (model : DiskModel D) (e : Election) (set : List Ballot) (old new : D) : Type 0 where
+  pub medium : AsTold model.seen old new (λ _ bytes. IsMediumOf e bytes set)
+  pub settled : IsSettled model.seen model.calls model.may_leave new
+
+-- Of two disks that are to be made the medium of this set one failed: the first, and then no call was made on the second;
+-- or the second, once the first was made that.
+abbrev pub MakeRefuses : {A B : Type 0} → DiskModel A → DiskModel B → Election → List Ballot → A → A → B → B → PairFault → Type 0
+MakeRefuses first second e set one one_after two two_after pairs.FirstFault = Rose (first.faults one) (first.faults one_after) × (two_after ≡ two)
+MakeRefuses first second e set one one_after two two_after pairs.SecondFault = Rose (second.faults two) (second.faults two_after) × IsMade first e set one one_after
+MakeRefuses first second e set one one_after two two_after fault = ⊥
 
 -- nothing was written to the disk, and a crash at any moment leaves what it might have left before
 abbrev pub IsUnwritten : {D : Type 0} → DiskModel D → D → D → Type 0
@@ -80,11 +91,17 @@ IsUnwritten disk old new =
     (disk.seen new ≡ disk.seen old)
     × ((bytes : List ℕ) → disk.seen old ≡ Some bytes → LeavesOnly disk.calls disk.may_leave old new (leaves_now disk.calls disk.may_leave old))
 
--- unless a disk failed, neither was written
-abbrev pub IsUnwrittenPair : {A B : Type 0} → DiskModel A → DiskModel B → A → A → B → B → PairFault → Type 0
-IsUnwrittenPair first second one one_after two two_after pairs.FirstFault = Unit {0}
-IsUnwrittenPair first second one one_after two two_after pairs.SecondFault = Unit {0}
-IsUnwrittenPair first second one one_after two two_after fault = IsUnwritten first one one_after × IsUnwritten second two two_after
+-- the first disk was made the medium of the set of the pair
+abbrev pub IsFirstMade : {A B : Type 0} → DiskModel A → DiskModel B → Election → A → A → B → Type 0
+IsFirstMade first second e one one_after two =
+    (set : List Ballot) × ((x y : List ℕ) → first.seen one ≡ Some x → second.seen two ≡ Some y → IsPairSet e x y set) × IsMade first e set one one_after
+
+-- Unless a disk failed, neither was written. Where the first failed, the second was not; where the second failed, the first
+-- was not, or was made what both were to be.
+abbrev pub IsUnwrittenPair : {A B : Type 0} → DiskModel A → DiskModel B → Election → A → A → B → B → PairFault → Type 0
+IsUnwrittenPair first second e one one_after two two_after pairs.FirstFault = IsUnwritten second two two_after
+IsUnwrittenPair first second e one one_after two two_after pairs.SecondFault = IsUnwritten first one one_after ⊎ IsFirstMade first second e one one_after two
+IsUnwrittenPair first second e one one_after two two_after fault = IsUnwritten first one one_after × IsUnwritten second two two_after
 
 -- ---- what a crash leaves
 

@@ -1,6 +1,6 @@
 -- The laws of a disk over two disks. A type's members may cite no proofs of their own crate, so what proves these laws
 -- stands here, and nothing else.
-use Rattle.std.proofs.Common.{◌≡◌, ℕ, ◌+◌, ◌≤◌, min, List, Option, Some, None, refl, sym, ◌∙◌, subst, inl, inr, arith, ⊎_elim}
+use Rattle.std.proofs.Common.{◌≡◌, ℕ, ◌+◌, ◌≤◌, min, List, Option, Some, None, refl, sym, ◌∙◌, ap, subst, inl, inr, arith, ⊎_elim}
 use Rattle.std.specs.Prelude.{◌⊎◌, is_some, IsSome}
 use Rattle.store_spec.specs.Fault.{last_count, Rose}
 use Rattle.store_spec.specs.Disk.{DiskModel, after_calls, leaves_now}
@@ -58,6 +58,8 @@ module _ {A B : Type 0} (first : DiskModel A) (first_leads : A → A → Type 0)
     counts = λ below. below;
     first_failed = λ none some. absurd (cc);
     second_failed = λ none some. absurd (cc);
+    first_alone = λ none some. absurd (cc);
+    second_alone = λ none some. absurd (cc);
   }
 
   -- a state in which none failed came from one in which none failed
@@ -99,6 +101,16 @@ module _ {A B : Type 0} (first : DiskModel A) (first_leads : A → A → Type 0)
             ⊎_elim
             (λ (passed : mid.failed ≡ None). subst (λ n. Rose n (second.faults new.second) ⊎ (last_count ≤ second.calls new.second + 2)) (one.steady passed).1 (two.second_failed passed some))
             (λ (failed : IsSome mid.failed). subst (λ d. IsBlamed second old.second d) (sym (two.stays failed).1) (one.second_failed none (sym (two.stays failed).2 ∙ some)))
+            (none-or-some mid.failed);
+        first_alone = λ none some.
+            ⊎_elim
+            (λ (passed : mid.failed ≡ None). two.first_alone passed some ∙ (one.steady passed).1)
+            (λ (failed : IsSome mid.failed). ap second.faults (two.stays failed).1 ∙ one.first_alone none (sym (two.stays failed).2 ∙ some))
+            (none-or-some mid.failed);
+        second_alone = λ none some.
+            ⊎_elim
+            (λ (passed : mid.failed ≡ None). two.second_alone passed some ∙ (one.steady passed).0)
+            (λ (failed : IsSome mid.failed). ap first.faults (two.stays failed).0 ∙ one.second_alone none (sym (two.stays failed).2 ∙ some))
             (none-or-some mid.failed);
       }
 

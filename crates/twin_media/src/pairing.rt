@@ -77,7 +77,8 @@ fn make_both<A: Disk, B: Disk>(
         (IsKeptOr election.now (λ set. set ≡ store.now.ballots) bytes) }
     ensures refused { IfErr result (MakeRefuses
         (disk_model A.seen A.calls A.may_leave A.faults)
-        (disk_model B.seen B.calls B.may_leave B.faults) first.old first.new second.old second.new) }
+        (disk_model B.seen B.calls B.may_leave B.faults)
+        election.now store.now.ballots first.old first.new second.old second.new) }
     ensures first_later { A.calls first.old ≤ A.calls first.new }
     ensures second_later { B.calls second.old ≤ B.calls second.new }
     ensures first_fault { CountsFaultIf (IsErrOf result PairFault.FirstFault)
@@ -87,13 +88,14 @@ fn make_both<A: Disk, B: Disk>(
     ensures first_leads { A.leads_to first.old first.new }
     ensures second_leads { B.leads_to second.old second.new }
 {
-    if make(first, election, one, store, scratch).is_err() {
-        return Err(PairFault::FirstFault);
+    match make(first, election, one, store, scratch) {
+        Ok(()) => {}
+        Err(_) => return Err(PairFault::FirstFault),
     }
-    if make(second, election, two, store, scratch).is_err() {
-        return Err(PairFault::SecondFault);
+    match make(second, election, two, store, scratch) {
+        Ok(()) => Ok(()),
+        Err(_) => Err(PairFault::SecondFault),
     }
-    Ok(())
 }
 
 /// Makes two disks, of which at most one is lost, the medium of one set: the first's, or, where the first is lost, the
@@ -124,7 +126,8 @@ pub fn pair<A: Disk, B: Disk>(
         election.now first.old first.new second.old second.new) }
     ensures unwritten { IfErr result (IsUnwrittenPair
         (disk_model A.seen A.calls A.may_leave A.faults)
-        (disk_model B.seen B.calls B.may_leave B.faults) first.old first.new second.old second.new) }
+        (disk_model B.seen B.calls B.may_leave B.faults)
+        election.now first.old first.new second.old second.new) }
     ensures first_told { is_some (A.seen first.new) ≡ is_some (A.seen first.old) }
     ensures second_told { is_some (B.seen second.new) ≡ is_some (B.seen second.old) }
     ensures any_moment { (one two : List ℕ)

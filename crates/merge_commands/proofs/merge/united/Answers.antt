@@ -1,7 +1,8 @@
-use Rattle.std.proofs.Common.{◌≡◌, refl}
 use Rattle.store_spec.proofs.Common.{disk_model}
+use Rattle.merge_commands.proofs.Merged.{none_begun}
 use Rattle.merge_commands.proofs.merge.united.Goals as goal
 use Rattle.merge_commands.specs.Merge.{MergesNone}
+use Rattle.merge_media.proofs.Throughout.{nothing_merged}
 use Rattle.recovery.proofs.OneByOne.{handed_on, zip_same}
 use Rattle.recovery.proofs.OnlyReading.{nothing_called}
 use Rattle.recovery.specs.ReadsOnly.{WritesNothing}
@@ -13,9 +14,13 @@ returns-in_err-scratch-clause-reads g c =
 
 pub returns-in_err-scratch-clause-refused : goal.returns-in_err-scratch-clause-refused
 returns-in_err-scratch-clause-refused g c =
+    let model = disk_model g.D.Disk.seen g.D.Disk.calls g.D.Disk.may_leave g.D.Disk.faults in
+    let e = c.args.election.now in
     let disk = c.args.disk.now in
     let more = c.args.more.now in
-    handed_on c.from_residual.result
-    (λ ended. MergesNone (disk_model g.D.Disk.seen g.D.Disk.calls g.D.Disk.may_leave g.D.Disk.faults) c.args.election.now ended disk disk more more)
-    status.Memory c.from_residual.ensures.1
-    (refl, zip_same (λ old new. g.D.Disk.faults new ≡ g.D.Disk.faults old) (λ disk. refl) more)
+    handed_on c.from_residual.result (λ ended. MergesNone model e ended disk disk more more) status.Memory c.from_residual.ensures.1 (none_begun model e disk more)
+
+pub returns-in_err-scratch-clause-throughout : goal.returns-in_err-scratch-clause-throughout
+returns-in_err-scratch-clause-throughout g c =
+    let model = disk_model g.D.Disk.seen g.D.Disk.calls g.D.Disk.may_leave g.D.Disk.faults in
+    nothing_merged model model c.args.election.now c.args.disk.now c.args.more.now

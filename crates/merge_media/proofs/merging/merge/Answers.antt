@@ -2,6 +2,7 @@ use Rattle.std.proofs.Common.{◌∷◌, length, sym, ap, subst, ◌∙◌, arit
 use Rattle.store_spec.proofs.Common.{IsElection, disk_model}
 use Rattle.body_store.specs.Contents.{Contents}
 use Rattle.merge_media.proofs.Merged.{begun_run, merged_run, refuses_all, refuses_begun, refuses_joining}
+use Rattle.merge_media.proofs.Throughout.{begun_throughout, merged_throughout}
 use Rattle.merge_media.proofs.merging.merge.Goals as goal
 use Rattle.merge_media.specs.Merging.{MergeRefuses}
 use Rattle.recovery.proofs.OneByOne.{handed_on, zip_same}
@@ -105,4 +106,41 @@ returns-clause-any_moment g c bytes set sees holds =
     (c.in_ok-store.ensures.union (begun.0 ∷ joined.0) (joined.2 begun.0 begun.2)) c.begin.ensures.called (c.in_ok-union.ensures.once_synced bytes sees) c.checkpoint.ensures.any_moment
 
 pub returns-clause-refused : goal.returns-clause-refused
-returns-clause-refused g c = (λ lt. let more = c.in-Err.ensures.calls.fault.rose lt in omega (arith, c.begin.ensures.never_falls), c.in_ok-join_each.ensures.steady)
+returns-clause-refused g c =
+    let begun = c.in_ok-union.ensures.begun in
+    let joined = c.in_ok-join_each.ensures.joined in (
+      λ lt. let more = c.in-Err.ensures.calls.fault.rose lt in omega (arith, c.begin.ensures.never_falls),
+      c.in_ok-join_each.ensures.steady,
+      (begun.0, joined.0, begun.1.held, joined.1, c.in_ok-store.store.ballots, c.in_ok-store.ensures.union (begun.0 ∷ joined.0) (joined.2 begun.0 begun.2)),
+    )
+
+pub returns-in_err-union-clause-throughout : goal.returns-in_err-union-clause-throughout
+returns-in_err-union-clause-throughout g c =
+    begun_throughout (disk_model g.A.Disk.seen g.A.Disk.calls g.A.Disk.may_leave g.A.Disk.faults) (disk_model g.B.Disk.seen g.B.Disk.calls g.B.Disk.may_leave g.B.Disk.faults)
+    c.args.election.now c.args.disk.now c.begin.new.disk c.args.more.now c.begin.ensures.throughout
+
+pub returns-in_err-join_each-clause-throughout : goal.returns-in_err-join_each-clause-throughout
+returns-in_err-join_each-clause-throughout g c =
+    begun_throughout (disk_model g.A.Disk.seen g.A.Disk.calls g.A.Disk.may_leave g.A.Disk.faults) (disk_model g.B.Disk.seen g.B.Disk.calls g.B.Disk.may_leave g.B.Disk.faults)
+    c.args.election.now c.args.disk.now c.begin.new.disk c.args.more.now c.begin.ensures.throughout
+
+pub returns-in_err-store-clause-throughout : goal.returns-in_err-store-clause-throughout
+returns-in_err-store-clause-throughout g c =
+    begun_throughout (disk_model g.A.Disk.seen g.A.Disk.calls g.A.Disk.may_leave g.A.Disk.faults) (disk_model g.B.Disk.seen g.B.Disk.calls g.B.Disk.may_leave g.B.Disk.faults)
+    c.args.election.now c.args.disk.now c.begin.new.disk c.args.more.now c.begin.ensures.throughout
+
+pub returns-in-Ok-clause-throughout : goal.returns-in-Ok-clause-throughout
+returns-in-Ok-clause-throughout g c =
+    let begun = c.in_ok-union.ensures.begun in
+    let joined = c.in_ok-join_each.ensures.joined in
+    merged_throughout (disk_model g.A.Disk.seen g.A.Disk.calls g.A.Disk.may_leave g.A.Disk.faults) (disk_model g.B.Disk.seen g.B.Disk.calls g.B.Disk.may_leave g.B.Disk.faults)
+    c.args.election.now c.args.disk.now c.begin.new.disk c.args.more.now c.checkpoint.new.disk begun.0 joined.0 c.in_ok-store.store c.in_ok-store.ensures.election begun.1 joined.1
+    (c.in_ok-store.ensures.union (begun.0 ∷ joined.0) (joined.2 begun.0 begun.2)) c.begin.ensures.throughout c.checkpoint.ensures.any_moment
+
+pub returns-clause-throughout : goal.returns-clause-throughout
+returns-clause-throughout g c =
+    let begun = c.in_ok-union.ensures.begun in
+    let joined = c.in_ok-join_each.ensures.joined in
+    merged_throughout (disk_model g.A.Disk.seen g.A.Disk.calls g.A.Disk.may_leave g.A.Disk.faults) (disk_model g.B.Disk.seen g.B.Disk.calls g.B.Disk.may_leave g.B.Disk.faults)
+    c.args.election.now c.args.disk.now c.begin.new.disk c.args.more.now c.checkpoint.new.disk begun.0 joined.0 c.in_ok-store.store c.in_ok-store.ensures.election begun.1 joined.1
+    (c.in_ok-store.ensures.union (begun.0 ∷ joined.0) (joined.2 begun.0 begun.2)) c.begin.ensures.throughout c.checkpoint.ensures.any_moment

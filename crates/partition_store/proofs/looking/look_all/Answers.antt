@@ -1,4 +1,4 @@
-use Rattle.std.proofs.Common.{◌≤◌, ◌∷◌, [], sym, subst, arith}
+use Rattle.std.proofs.Common.{◌≤◌, ◌∷◌, [], None, sym, subst, arith}
 use Rattle.store_spec.proofs.Common.{disk_model}
 use Rattle.partition_store.proofs.Looks.{first_found, refuses_first, refuses_rest}
 use Rattle.partition_store.proofs.looking.look_all.Goals as goal
@@ -48,3 +48,17 @@ returns-in-Some-clause-refused g c =
       record { held = one.1; each = rest.1; no_fault = c.in_ok-number.ensures.steady; none_rose = c.in_ok-index.ensures.steady },
       subst (λ bits. IsMisplaced bits (one.0 ∷ rest.0) c.in-Some.field-0.index c.in-Some.field-0.number) c.requires.bits found,
     )
+
+pub returns-in-None-clause-held : goal.returns-in-None-clause-held
+returns-in-None-clause-held g c =
+    let one = c.in_ok-number.ensures.found in
+    let rest = c.in_ok-index.ensures.found in
+    let bits = c.args.bits in
+    let before : IsFirstForeign bits (one.0 ∷ []) c.first_of-first.result = subst (IsFirstForeign bits (one.0 ∷ [])) (sym c.first_of-first.ensures) (first_found bits one.0 c.in_ok-number.number one.2) in
+    record {
+      set = one.0;
+      sets = rest.0;
+      held = one.1;
+      each = rest.1;
+      own = subst (λ bits. IsFirstForeign bits (one.0 ∷ rest.0) None) c.requires.bits (subst (IsFirstForeign bits (one.0 ∷ rest.0)) c.in-None.is (rest.2 one.0 before));
+    }

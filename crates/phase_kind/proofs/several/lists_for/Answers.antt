@@ -1,4 +1,4 @@
-use Rattle.std.proofs.Common.{◌∙◌, ◌<◌, List, ℕ, ap, arith, get_or, length, slice_get, sym, zip}
+use Rattle.std.proofs.Common.{◌∙◌, ◌<◌, ◌^◌, List, ℕ, ap, arith, get_or, length, refl, slice_get, sym, zip}
 use Rattle.store_spec.proofs.Common.{slice_get-get_or, slice_get_within}
 use Rattle.phase_kind.proofs.Counts.{short, something_there}
 use Rattle.phase_kind.proofs.Planned.{zipped_at}
@@ -13,7 +13,8 @@ new_lists-requires-clause-few g c κs within k d below =
     let shares = c.deref.result.now in
     let share = get_or shares k d in
     let is = c.in_ok-shares.ensures.each k share (ap (λ (l : List ℕ). slice_get l k) (sym c.deref.ensures.value) ∙ slice_get-get_or shares k d below) in
-    omega (arith, is, short (λ p. p) k c.args.order.now, c.if-order.false)
+    let few : length c.args.order.now < 2 ^ 32 = c.if-not-is_short.ensures.0 refl in
+    omega (arith, is, short (λ p. p) k c.args.order.now, few)
 
 pub returns-clause-is_of : goal.returns-clause-is_of
 returns-clause-is_of g c k d within =

@@ -10,6 +10,7 @@ use Rattle.twin_commands.proofs.Continuing.{continues}
 use Rattle.session_run.specs.declared.fault.RunFault.TheVariants as run
 use Rattle.twin_commands.proofs.Both.{both, both_lead}
 use Rattle.twin_commands.specs.Twin.{Continues, FailsSync, SyncsAndGoesOn, around_disk}
+use Rattle.twin_media.specs.TwinLaws.{twin-itself}
 use Rattle.twin_media.specs.Views.{state_of}
 
 pub returns : goal.returns
@@ -40,7 +41,12 @@ returns g c =
     let either : Either (g.A.Disk.calls start.first.now, g.B.Disk.calls start.second.now) =
     subst (λ k. Either (k, g.B.Disk.calls start.second.now)) one (subst (λ k. Either (c.calls.result, k)) two c.on_twin.ensures.ends.1) in
     let goes : Continues m n e set c.args.paired a report old new sink sunk start.first.now now.first.now start.second.now now.second.now =
-    continues m g.A.Disk.leads_to n g.B.Disk.leads_to state_of (record { counted = λ t. t.counted; bounded = g.met.B.Disk.counted_calls }) start now
+    continues m g.A.Disk.leads_to n g.B.Disk.leads_to state_of (record {
+      counted = λ t. t.counted;
+      bounded = g.met.B.Disk.counted_calls;
+      alike = λ t. t.alike;
+      itself = λ t. twin-itself m g.A.Disk.leads_to n g.B.Disk.leads_to g.met.A.Disk.leads_to_itself g.met.B.Disk.leads_to_itself (state_of t);
+    }) start now
     (record {
       none = c.new-twin.ensures.failed;
       calls = c.new-twin.ensures.calls ∙ sym (ap g.A.Disk.calls first_was);

@@ -21,6 +21,8 @@ returns-in-Err g c = inl (record {
     },
   );
   leaves = λ a b sees sees_two. inr (c.in-Err.ensures.any_moment a b sees sees_two);
+  told = c.pair.ensures.first_told;
+  other_told = c.pair.ensures.second_told;
   script = refl;
   nothing_written = refl;
   reported = c.requires.report;
@@ -28,8 +30,10 @@ returns-in-Err g c = inl (record {
 
 pub returns-then-counts-ge-LAST_MADE : goal.returns-then-counts-ge-LAST_MADE
 returns-then-counts-ge-LAST_MADE g c = inl (record {
-  refuses = inr (⊎_elim (λ one. inl (omega (arith, one, c.calls.ensures))) (λ two. inr (omega (arith, two, c.calls-2.ensures))) c.then-counts-ge-LAST_MADE.either);
+  refuses = inr (inr (⊎_elim (λ one. inl (omega (arith, one, c.calls.ensures))) (λ two. inr (omega (arith, two, c.calls-2.ensures))) c.then-counts-ge-LAST_MADE.either));
   leaves = λ a b sees sees_two. inr (c.pair.ensures.any_moment a b sees sees_two);
+  told = c.pair.ensures.first_told;
+  other_told = c.pair.ensures.second_told;
   script = refl;
   nothing_written = refl;
   reported = c.requires.report;

@@ -5,8 +5,8 @@ use Rattle.twin_media.proofs.Kept.{found_kept}
 use Rattle.twin_media.proofs.pairing.make_both.Goals as goal
 use Rattle.twin_media.specs.Pairing.{IsKeptOr}
 
-pub returns-then-is_err-clause-second_moments : goal.returns-then-is_err-clause-second_moments
-returns-then-is_err-clause-second_moments g c bytes sees =
+pub returns-in-Err-clause-second_moments : goal.returns-in-Err-clause-second_moments
+returns-in-Err-clause-second_moments g c bytes sees =
     let e = c.args.election.now in
     let set = c.args.store.now.ballots in
     started g.B.Disk.calls g.B.Disk.may_leave c.args.second.now (IsKeptOr e (λ other. other ≡ set) bytes)

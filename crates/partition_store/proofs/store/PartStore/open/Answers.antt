@@ -1,9 +1,9 @@
 use Rattle.std.proofs.Common.{◌≡◌, ◌<◌, ◌≤◌, ap, arith}
-use Rattle.store_spec.proofs.Common.{AllZip, IfErr-weaker, IfOk-weaker, disk_model, last_count, on_ok_weaker}
+use Rattle.store_spec.proofs.Common.{IfErr-weaker, IfOk-weaker, disk_model, last_count, on_ok_weaker}
 use Rattle.std.specs.Option.{is_some}
-use Rattle.partition_store.proofs.Opened.{Runs, against_behind, all_run_behind, left_behind, left_looked, not_before, only_looked, opened_behind, runs_behind, runs_looked}
+use Rattle.partition_store.proofs.Opened.{Runs, against_behind, all_run_behind, left_behind, left_looked, only_looked, opened_behind, runs_behind, runs_looked, written_behind, written_looked}
 use Rattle.partition_store.proofs.store.PartStore.open.Goals as goal
-use Rattle.partition_store.specs.Opening.{HoldsThroughout, IsAgainst, IsBeforeRecovery, IsOpened, LeavesOf}
+use Rattle.partition_store.specs.Opening.{HoldsThroughout, IsAgainst, IsOpened, LeavesOf, WritesBehindLooks}
 use Rattle.partition_store.specs.Recovering.{RefusesAll}
 use Rattle.partition_store.proofs.SideBySide.{zip_joined, zip_weaker}
 use Rattle.recovery.proofs.OneByOne.{handed_on}
@@ -20,6 +20,17 @@ returns-in_err-look_all-clause-left g c =
     handed_on c.from_residual.result (LeavesOf first further e one c.look_all.new.disk more c.look_all.new.more) fault c.from_residual.ensures.1
     (left_looked first further e one c.look_all.new.disk more c.look_all.new.more fault g.met.A.Disk.seen_is_crash_image g.met.B.Disk.seen_is_crash_image
     c.look_all.ensures.reads c.look_all.ensures.others_read c.in_err-look_all.ensures.refused)
+
+pub returns-in_err-look_all-clause-unwritten : goal.returns-in_err-look_all-clause-unwritten
+returns-in_err-look_all-clause-unwritten g c =
+    let first = disk_model g.A.Disk.seen g.A.Disk.calls g.A.Disk.may_leave g.A.Disk.faults in
+    let further = disk_model g.B.Disk.seen g.B.Disk.calls g.B.Disk.may_leave g.B.Disk.faults in
+    let e = c.args.election.now in
+    let one = c.args.disk.now in
+    let more = c.args.more.now in
+    let fault = c.in_err-look_all.field-0.0 in
+    handed_on c.from_residual.result (WritesBehindLooks first further e one c.look_all.new.disk more c.look_all.new.more) fault c.from_residual.ensures.1
+    (written_looked first further e one c.look_all.new.disk more c.look_all.new.more (c.look_all.ensures.reads, c.look_all.ensures.others_read) fault)
 
 pub returns-in_err-look_all-clause-others_at_any_moment : goal.returns-in_err-look_all-clause-others_at_any_moment
 returns-in_err-look_all-clause-others_at_any_moment g c =
@@ -73,7 +84,8 @@ returns-clause-refused g c =
     let more = c.args.more.now in
     IfErr-weaker c.recover_all.result (RefusesAll first further e c.look_all.new.disk c.recover_all.new.disk c.look_all.new.more c.recover_all.new.more)
     (IsAgainst first further e one c.recover_all.new.disk more c.recover_all.new.more)
-    (against_behind first further e one c.look_all.new.disk c.recover_all.new.disk more c.look_all.new.more c.recover_all.new.more c.look_all.ensures.reads c.in_ok-look_all.ensures.steady c.look_all.ensures.others_read c.in_ok-look_all.ensures.others_steady)
+    (against_behind first further e one c.look_all.new.disk c.recover_all.new.disk more c.look_all.new.more c.recover_all.new.more c.look_all.ensures.reads c.in_ok-look_all.ensures.steady c.look_all.ensures.others_read c.in_ok-look_all.ensures.others_steady
+    c.in_ok-look_all.ensures.held)
     c.recover_all.ensures.refused
 
 pub returns-clause-left : goal.returns-clause-left
@@ -96,9 +108,9 @@ returns-clause-unwritten g c =
     let one = c.args.disk.now in
     let more = c.args.more.now in
     IfErr-weaker c.recover_all.result (RefusesAll first further e c.look_all.new.disk c.recover_all.new.disk c.look_all.new.more c.recover_all.new.more)
-    (λ fault. IsBeforeRecovery fault → WritesNothing g.A.Disk.seen g.A.Disk.calls g.A.Disk.may_leave one c.recover_all.new.disk
-    × AllZip (WritesNothing g.B.Disk.seen g.B.Disk.calls g.B.Disk.may_leave) more c.recover_all.new.more)
-    (not_before first further e one c.look_all.new.disk c.recover_all.new.disk more c.look_all.new.more c.recover_all.new.more c.look_all.ensures.reads c.in_ok-look_all.ensures.steady c.look_all.ensures.others_read c.in_ok-look_all.ensures.others_steady)
+    (WritesBehindLooks first further e one c.recover_all.new.disk more c.recover_all.new.more)
+    (written_behind first further e one c.look_all.new.disk c.recover_all.new.disk more c.look_all.new.more c.recover_all.new.more c.look_all.ensures.reads c.in_ok-look_all.ensures.steady c.look_all.ensures.others_read c.in_ok-look_all.ensures.others_steady
+    c.in_ok-look_all.ensures.held)
     c.recover_all.ensures.refused
 
 pub returns-clause-any_moment : goal.returns-clause-any_moment

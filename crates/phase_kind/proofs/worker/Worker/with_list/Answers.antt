@@ -19,9 +19,9 @@ invariant_of-result g c =
           (subst (λ (view : g.row.K-Sight.Denot). k.tells phase view []) (sym c.requires.new) (c.trays_tell.ensures.none phase));
       is_of = subst (λ (list : g.row.K-List.Denot). k.is_of c.of.result.value list) (sym made.items.0) (subst (λ (base : Contents). k.is_of base c.args.list) (sym c.of.ensures) c.requires.is_of);
       paired = omega (arith, ap length made.items.1);
-      within = omega (arith, ap (λ list. length (k.items list)) made.items.0, c.len.ensures, c.in-Ok.ensures);
+      within = omega (arith, ap (λ list. length (k.items list)) made.items.0, c.len-items.ensures);
       reserved = made.room;
-      listed = omega (arith, ap (λ list. length (k.items list)) made.items.0, c.len.ensures, c.in-Ok.ensures);
+      listed = omega (arith, ap (λ list. length (k.items list)) made.items.0, c.len-items.ensures);
     }
 
 pub returns : goal.returns
@@ -30,5 +30,5 @@ returns g c =
     let tray = c.in_ok-tray_with.field-0 in
     let made = c.in_ok-tray_with.ensures in
     let seat = k.standing c.args.seat in
-    begun_with k.fresh seat.view (record { base = c.args.closed.now; words = seat.words }) (record { base = c.of.result.value; words = seat.words }) (k.items tray.items) (k.items c.args.list) tray.replies.items c.in-Ok.places
-    (ap (λ (base : Contents). record { base = base; words = seat.words }) c.of.ensures) c.requires.new (ap k.items made.items.0) made.items.1 (omega (arith, c.len.ensures, c.in-Ok.ensures))
+    begun_with k.fresh seat.view (record { base = c.args.closed.now; words = seat.words }) (record { base = c.of.result.value; words = seat.words }) (k.items tray.items) (k.items c.args.list) tray.replies.items c.len-items.result
+    (ap (λ (base : Contents). record { base = base; words = seat.words }) c.of.ensures) c.requires.new (ap k.items made.items.0) made.items.1 (omega (arith, c.len-items.ensures))

@@ -1,5 +1,5 @@
 use Rattle.std.proofs.Common.{All, take}
-use Rattle.phase_kind.proofs.several.all_rest.Given as goal
+use Rattle.phase_kind.proofs.team.all_rest.Given as goal
 
 -- the workers so far
 abbrev pub invariant-loop-worker : goal.invariant-loop-worker

@@ -1,6 +1,6 @@
 use Rattle.std.proofs.Common.{All, get_or, subst, sym, take}
 use Rattle.store_spec.proofs.Common.{All-nil, All-push, take_all, take_more}
-use Rattle.phase_kind.proofs.several.all_rest.Goals as goal
+use Rattle.phase_kind.proofs.team.all_rest.Goals as goal
 use Rattle.phase_kind.specs.Worker.{WorkerView}
 
 pub loop-worker-init : goal.loop-worker-init
