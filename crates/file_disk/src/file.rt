@@ -120,6 +120,11 @@ impl<'a, F: LooksAtFiles> FileDisk<'a, F>
 where
     F::File: FileExt + FileLock,
 {
+    /// Whether the lock is held in that way, or in a stronger one.
+    fn is_held(&self, wanted: Hold) -> bool {
+        self.hold == Hold::Alone || self.hold == wanted
+    }
+
     /// Locks the file, where one is open and it is not locked so already. An answer that another holds the lock leaves it
     /// with none. To be held alone it has to be one that may be written.
     fn lock(&mut self, wanted: Hold) -> io::Result<()>
@@ -134,7 +139,7 @@ where
         if wanted == Hold::Alone && !opened.is_writable {
             return Err(ErrorKind::PermissionDenied.into());
         }
-        if self.hold == Hold::Alone || self.hold == wanted {
+        if self.is_held(wanted) {
             return Ok(());
         }
         let answer = match wanted {
@@ -180,8 +185,23 @@ where
         Ok(size)
     }
 
-    /// Locks the file, and tells how many bytes it has, which is asked for where it is not known.
+    /// Locks the file, and tells how many bytes it has. Nearly all reads and writes come where both are known, and that
+    /// is told at once.
+    #[inline]
     fn reach(&mut self, wanted: Hold) -> io::Result<u64>
+        ensures calls { self.new.calls ≡ self.old.calls }
+        ensures faults { self.new.faults ≡ self.old.faults }
+    {
+        match self.size {
+            Some(size) if self.is_held(wanted) => Ok(size),
+            _ => self.lock_and_measure(wanted),
+        }
+    }
+
+    /// The same where the lock is not held yet, or the size is not known.
+    #[cold]
+    #[inline(never)]
+    fn lock_and_measure(&mut self, wanted: Hold) -> io::Result<u64>
         ensures calls { self.new.calls ≡ self.old.calls }
         ensures faults { self.new.faults ≡ self.old.faults }
     {
