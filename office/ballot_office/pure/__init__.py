@@ -1,0 +1,1 @@
+"""Elections, books, tables, record lines and numbers as values: no file, no clock, no chance."""
