@@ -9,6 +9,8 @@ from typing import NamedTuple
 ROOT = Path(__file__).resolve().parent.parent
 CRATES = ROOT / "crates"
 FIGURES = ROOT / "tools/build_figures.txt"
+# For processors of which level tools/build_program compiles the program.
+LEVEL = os.environ.get("BALLOT_STORE_CPU") or "x86-64-v3"
 HEAD = """\
 # What the first proof of each crate took: seconds, with how many jobs of rt, and the most memory of a process in MiB.
 # Written by `tools/build_program --measure` on {}, on a machine of {} processors.
